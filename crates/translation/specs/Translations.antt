@@ -6,10 +6,10 @@ use Rattle.tclchars.specs.Bytes.{newline}
 use Rattle.tclchars.specs.Runs.{Text}
 use Rattle.translation.specs.declared.notes.Outcome.TheVariants.{Translated, Left}
 use Rattle.translation.specs.Places.{line_of, behind_words}
-use Rattle.translation.specs.Words.{constants}
-use Rattle.translation.specs.Forms.{Form, form_of}
+use Rattle.portforms.specs.Words.{constants}
+use Rattle.portforms.specs.Forms.{Form, form_of}
 use Rattle.translation.specs.Writing.{written, needs}
-use Rattle.translation.specs.Guards.{Guard, guard_of}
+use Rattle.guards.specs.Guards.{Guard, guard_of}
 use Rattle.translation.specs.Pieces.{Piece}
 use Rattle.translation.specs.Notes.{Note, left_in}
 

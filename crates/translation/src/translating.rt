@@ -2,20 +2,19 @@
 ghost use Rattle.std.specs.Prelude.{◌≡◌, ◌==◌, [], ◌∷◌, ◌++◌, ◌≤◌, map, take, count_by, length, IfOk, IfErr, OnOk};
 ghost use Rattle.tclscript.specs.Faults.{IsTextFault};
 ghost use Rattle.tclscript.specs.View.{script_view};
-ghost use Rattle.translation.specs.Words.{texts, commands_in};
-ghost use Rattle.translation.specs.FormViews.{form_view};
-ghost use Rattle.translation.specs.ConditionViews.{guard_view};
+ghost use Rattle.portforms.specs.Words.{texts, commands_in};
+ghost use Rattle.portforms.specs.FormViews.{form_view};
+ghost use Rattle.guards.specs.GuardViews.{guard_view};
 ghost use Rattle.translation.specs.PieceViews.{piece_view};
 ghost use Rattle.translation.specs.Translations as spec;
 ghost use Rattle.translation.specs.TranslationViews.{notes_view, note, AddsChange, HasTranslation, IsTranslation};
 
-use crate::forms::{Form, form_of};
-use crate::guards::{Guard, guard_of};
 use crate::notes::{Note, Outcome, left_in};
 use crate::pieces::{Piece, pieces_of};
 use crate::places::{behind_words, line_of};
-use crate::words::constants;
 use crate::writing::{push_form, push_needs};
+use guards::{Guard, guard_of};
+use portforms::{Form, constants, form_of};
 use std::alloc::{AllocError, Global};
 use tclchars::TextFault;
 use tclscript::{Script, parse_script};
