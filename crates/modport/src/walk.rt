@@ -1,8 +1,8 @@
 //! The files below a directory, translated below another.
 
 use crate::fault::PortFault;
-use crate::left_out::LEFT_OUT;
-use crate::reporting::{fault_line, file_line, note_lines};
+use crate::porting::ported;
+use crate::reporting::{fault_line, file_line};
 use crate::status::Status;
 use crate::texts::{joined, kind_of, modulefile, read, write_new};
 use filetree::{DiskTree, Tree};
@@ -11,7 +11,6 @@ use std::fs;
 use std::fs::{Metadata, Permissions};
 use std::io::Write;
 use std::os::unix::fs::symlink;
-use translation::translate;
 
 /// The most directories that are walked.
 const MOST_DIRECTORIES: usize = 1_000_000;
@@ -104,16 +103,15 @@ impl<'r> Walk<'r> {
     /// Translates a file.
     fn file(&mut self, from: &str, to: Option<&str>, found: &Metadata) -> Result<(), PortFault> {
         let alloc = self.rt.alloc();
-        let Some(text) = modulefile(read(self.rt, from)?)? else {
+        let Some(file) = modulefile(alloc, read(self.rt, from)?.as_slice())? else {
             return self.say(file_line(alloc, self.json, from, "no modulefile")?.as_slice());
         };
-        let translation = translate(alloc, text.as_str(), &LEFT_OUT)?;
+        let ported = ported(alloc, self.json, from, file)?;
         if let Some(to) = to {
-            write_new(self.rt, to, translation.text.as_bytes(), found)?;
+            write_new(self.rt, to, ported.text.as_bytes(), found)?;
         }
-        let notes = translation.notes.as_slice();
-        self.status = self.status.and(Status::of(notes));
-        self.say(note_lines(alloc, self.json, from, notes)?.as_slice())
+        self.status = self.status.and(ported.status);
+        self.say(ported.report.as_slice())
     }
 
     /// Makes a link again, where it still leads to the same place.

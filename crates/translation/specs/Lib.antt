@@ -1,4 +1,6 @@
 pub mod Notes
+pub mod OptionViews
+pub mod Options
 pub mod PieceViews
 pub mod Pieces
 pub mod Places

@@ -4,6 +4,7 @@
 
 mod laws;
 mod notes;
+mod options;
 mod pieces;
 mod places;
 mod report_lines;

@@ -10,6 +10,7 @@ ghost use Rattle.translation.specs.Translations as spec;
 ghost use Rattle.translation.specs.TranslationViews.{notes_view, note, AddsChange, HasTranslation, IsTranslation};
 
 use crate::notes::{Note, Outcome, left_in};
+use crate::options::{idle_front, push_without_option};
 use crate::pieces::{Piece, pieces_of};
 use crate::places::{behind_words, line_of};
 use crate::writing::{push_form, push_needs};
@@ -89,6 +90,27 @@ fn push_guard_of(alloc: Global, written: &mut Vec<u8>, piece: &Piece) -> Result<
     }
 }
 
+/// Adds the command of a piece without its option, and what stands behind it; false where it has none without effect.
+fn push_option(written: &mut Vec<u8>, piece: &Piece) -> Result<bool, AllocError>
+    ensures { AddsChange result written.old.items written.new.items (spec.of_option (piece_view piece.now)) }
+{
+    match idle_front(piece.words) {
+        Some(front) => push_without_option(written, piece.text, front),
+        None => Ok(false),
+    }
+}
+
+/// Adds what is written for a piece that is a guard, or has such an option; else false.
+#[tactic(auto, using(crate::proofs::Adding::added_first, crate::proofs::Adding::added_second))]
+fn push_other(alloc: Global, written: &mut Vec<u8>, piece: &Piece) -> Result<bool, AllocError>
+    ensures { AddsChange result written.old.items written.new.items (spec.of_other (piece_view piece.now)) }
+{
+    if push_guard_of(alloc, written, piece)? {
+        return Ok(true);
+    }
+    push_option(written, piece)
+}
+
 /// Adds what is written for the command of a piece, where it is another one; else false.
 #[tactic(auto, using(crate::proofs::Adding::added_first, crate::proofs::Adding::added_second))]
 fn push_change(alloc: Global, written: &mut Vec<u8>, piece: &Piece) -> Result<bool, AllocError>
@@ -97,7 +119,7 @@ fn push_change(alloc: Global, written: &mut Vec<u8>, piece: &Piece) -> Result<bo
     if push_command(alloc, written, piece)? {
         return Ok(true);
     }
-    push_guard_of(alloc, written, piece)
+    push_other(alloc, written, piece)
 }
 
 /// The bytes before an offset.
