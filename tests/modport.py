@@ -79,13 +79,12 @@ def test_translated_twice(folder, row):
 def test_refused(folder):
     """Nothing is written where the modulefile isn't there, isn't a script or isn't named."""
     usage = "Usage: modport [--json] FILE | --stdin | --check FROM | FROM TO"
-    folder.file("latin", b"#%Module\nsetenv X caf\xe9\n")
     os.mkfifo(folder.at("fifo"))
     for words, given, said in (
         (["nothing"], b"", "No such file"),
         ([folder.at("fifo")], b"", "No such file"),
         ([folder.modules], b"", "No such file"),
-        ([folder.at("latin")], b"", "Not UTF-8"),
+        (["--stdin"], b"#%Module\nsetenv X caf\xe9\n", "Not UTF-8"),
         (["--stdin"], b"#%Module\nset x {\n", "Missing close-brace at byte 15"),
         ([], b"", usage),
         (["--all", "a"], b"", usage),
@@ -95,6 +94,31 @@ def test_refused(folder):
     ):
         done = folder.run(*words, given=given)
         same((done.stdout, done.stderr.decode(), done.returncode), (b"", f"ERROR: {said}\n", 2), f"of {words}")
+
+
+# How files come: Unicode and ISO 8859-1 have the bytes of each character.
+COMING = (
+    ("as it is", "#%Module\nsetenv X café\n".encode(), []),
+    ("Latin-1", b"#%Module\nsetenv X caf\xe9\n", ["Latin-1"]),
+    ("CR LF", "#%Module\r\nsetenv X café\r\n".encode(), ["CR LF"]),
+    ("a byte order mark", "\ufeff#%Module\nsetenv X café\n".encode(), ["byte order mark"]),
+    ("all three", b"\xef\xbb\xbf#%Module\r\nsetenv X caf\xe9\n", ["byte order mark", "Latin-1", "CR LF"]),
+)
+
+
+@pytest.mark.parametrize("given, said", [it[1:] for it in COMING], ids=[it[0] for it in COMING])
+def test_files_as_they_come(folder, given, said):
+    path = os.fsdecode(folder.file("m", given))
+    done = folder.run(path)
+    same(done.stdout.decode(), "#%Module\nsetenv X café\n", "what is written")
+    same(done.stderr.decode(), "".join(f"{path}:1: translated: {it}\n" for it in said), "what is said")
+    same(done.returncode, 0, "status")
+
+
+def test_a_lone_carriage_return_stays(folder):
+    given = b"#%Module\nputs stderr {a\rb\r}\r"
+    done = folder.run("--stdin", given=given)
+    same((done.stdout, done.stderr, done.returncode), (given, b"", 0), "what is written")
 
 
 # Trees.
@@ -213,7 +237,7 @@ def test_goes_on_behind_what_cant_be_done(folder):
         folder,
         {
             "a/1": COOKIE + "set x {\n",
-            "a/2": b"#%Module\nsetenv X caf\xe9\n",
+            "a/2": b"#%Module\r\nsetenv X caf\xe9\r\n",
             "a/3": COOKIE + "module load b\n",
         },
     )
@@ -224,12 +248,14 @@ def test_goes_on_behind_what_cant_be_done(folder):
     ends(
         folder,
         [old, new],
+        f"{at}/2:1: translated: Latin-1\n{at}/2:1: translated: CR LF\n"
         f"{at}/3:2: translated: module load b\n{at}/out: left out: link to /etc/passwd\n"
         f"{at}/pipe: left out: neither a file nor a directory\n{at}/up: left out: link to ../../x\n",
-        f"ERROR: {at}/1: Missing close-brace at byte 15\nERROR: {at}/2: Not UTF-8\n",
+        f"ERROR: {at}/1: Missing close-brace at byte 15\n",
         2,
     )
-    same(contents(new), {"a/3": b"#%Module\nprereq b\n"}, "what is written")
+    written = {"a/2": "#%Module\nsetenv X café\n".encode(), "a/3": b"#%Module\nprereq b\n"}
+    same(contents(new), written, "what is written")
 
 
 def test_unreadable_files_and_permissions(folder):

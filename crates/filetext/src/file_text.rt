@@ -1,6 +1,8 @@
 //! The text of a file, and how it was written.
-ghost use Rattle.std.specs.Prelude.{◌≡◌, ◌++◌, not, bytes_eq, flat_map, encode_utf8, IfOk, string_bytes};
+ghost use Rattle.std.specs.Prelude.{◌≡◌, ◌==◌, not, IfOk, string_bytes};
 ghost use Rattle.std.specs.Str.{is_utf8};
+ghost use Rattle.tclchars.specs.Bytes.{newline};
+ghost use Rattle.tclchars.specs.Classes.{begins_in};
 ghost use Rattle.filetext.specs.FileTexts as spec;
 
 use std::alloc::{AllocError, Global};
@@ -41,10 +43,14 @@ fn unmarked(bytes: &[u8]) -> &[u8]
 }
 
 /// Whether the bytes are UTF-8.
+#[tactic(auto, using(crate::proofs::Utf8::is_text, crate::proofs::Utf8::is_no_text))]
 fn is_text(bytes: &[u8]) -> bool
     ensures { result ≡ is_utf8 bytes.now }
 {
-    str::from_utf8(bytes).is_ok()
+    match str::from_utf8(bytes) {
+        Ok(_) => true,
+        Err(_) => false,
+    }
 }
 
 /// The characters whose numbers these bytes are, in UTF-8.
@@ -70,14 +76,21 @@ fn in_utf8(alloc: Global, bytes: &[u8], latin: bool) -> Result<Vec<u8>, AllocErr
     }
 }
 
+/// Whether the first byte is a newline.
+fn begins_line_end(text: &[u8]) -> bool
+    ensures { result ≡ begins_in (λ b. b == newline) text.now }
+{
+    match text {
+        [] => false,
+        [first, ..] => *first == b'\n',
+    }
+}
+
 /// Whether the byte is a carriage return, and a newline is behind it.
 fn ends_line(byte: u8, others: &[u8]) -> bool
     ensures { result ≡ spec.ends_line byte others.now }
 {
-    match others {
-        [] => false,
-        [next, ..] => byte == b'\r' && *next == b'\n',
-    }
+    byte == b'\r' && begins_line_end(others)
 }
 
 /// The text without each carriage return that a newline is behind.
