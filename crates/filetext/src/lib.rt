@@ -1,4 +1,4 @@
-//! The text of a file that was written elsewhere: UTF-8, in lines that end in newlines, and how it was written.
+//! The text of a file: UTF-8, in lines that end in newlines, however it was written.
 //! Takes memory and touches nothing else.
 #![tactic(auto)]
 

@@ -1,4 +1,4 @@
-//! Guards: an `if` of a modulefile that does nothing but ask for modules, and what it asks for.
+//! Guards to be translated: an `if` that does nothing but ask for modules, and what it asks for.
 //! Takes memory and touches nothing else.
 #![tactic(auto)]
 

@@ -1,4 +1,4 @@
-//! Forms: commands and conditions of modulefiles that the profile says in another way.
+//! Commands to be translated: forms and conditions that the profile says in another way.
 //! Takes memory and touches nothing else.
 #![tactic(auto)]
 
