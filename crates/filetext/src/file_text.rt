@@ -35,11 +35,7 @@ fn is_marked(bytes: &[u8]) -> bool
 fn unmarked(bytes: &[u8]) -> &[u8]
     ensures { result.now ≡ spec.unmarked bytes.now }
 {
-    if is_marked(bytes) {
-        &bytes[3..]
-    } else {
-        bytes
-    }
+    if is_marked(bytes) { &bytes[3..] } else { bytes }
 }
 
 /// Whether the bytes are UTF-8.

@@ -9,8 +9,10 @@ ghost use Rattle.portforms.specs.ConditionViews.{condition_view, written_view};
 ghost use Rattle.guards.specs.GuardViews.{guard_view};
 ghost use Rattle.portforms.specs.WordViews.{words_view};
 
-use portforms::{Condition, Form, WrittenCondition};
-use portforms::{condition_of, constant, form_of, is_text, judged, looks_in, words_of_command};
+use portforms::{
+    Condition, Form, WrittenCondition, condition_of, constant, form_of, is_text, judged, looks_in,
+    words_of_command,
+};
 use std::alloc::{AllocError, Global};
 use tclscript::{Command, Script, Word, parse_script};
 
@@ -374,10 +376,7 @@ fn guard_of_both_words<'a>(
 }
 
 /// The guard that a command of these words is.
-pub fn guard_of<'a>(
-    alloc: Global,
-    words: &[Word<&'a str>],
-) -> Result<Option<Guard<'a>>, AllocError>
+pub fn guard_of<'a>(alloc: Global, words: &[Word<&'a str>]) -> Result<Option<Guard<'a>>, AllocError>
     ensures { IfOk result (λ g. option_map guard_view g ≡ spec.guard_of (words_view words.now)) }
 {
     match words {

@@ -30,7 +30,7 @@ fn print(rt: &HostRuntime, json: bool, path: &str, bytes: &[u8]) -> Result<Statu
         text,
         report,
         status,
-    } = ported(rt.alloc(), json, path, file)?;
+    } = ported(rt.alloc(), json, path, file, None)?;
     if rt.stdout().write_all(text.as_bytes()).is_err()
         || rt.stderr().write_all(report.as_slice()).is_err()
     {
@@ -60,8 +60,7 @@ fn port(rt: &HostRuntime) -> Result<Status, PortFault> {
             let bytes = read(rt, path.as_str())?;
             print(rt, json, path.as_str(), bytes.as_slice())
         }
-        Job::Check(from) => walk_tree(rt, json, from, None),
-        Job::Tree(from, to) => walk_tree(rt, json, from, Some(to)),
+        Job::Tree(walked) => walk_tree(rt, json, walked),
     }
 }
 
