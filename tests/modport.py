@@ -78,7 +78,7 @@ def test_translated_twice(folder, row):
 
 def test_refused(folder):
     """Nothing is written where the modulefile isn't there, isn't a script or isn't named."""
-    usage = "Usage: modport [--json] FILE | --stdin | --check FROM | FROM TO"
+    usage = "Usage: modport [--json] FILE | --stdin | [--one-version] --check FROM | [--one-version] FROM TO"
     os.mkfifo(folder.at("fifo"))
     for words, given, said in (
         (["nothing"], b"", "No such file"),
@@ -91,6 +91,8 @@ def test_refused(folder):
         (["--stdin", "a"], b"", usage),
         (["a", "b", "c"], b"", usage),
         (["--check"], b"", usage),
+        (["--one-version", "--stdin"], b"", usage),
+        (["--one-version", "a"], b"", usage),
     ):
         done = folder.run(*words, given=given)
         same((done.stdout, done.stderr.decode(), done.returncode), (b"", f"ERROR: {said}\n", 2), f"of {words}")
@@ -192,6 +194,46 @@ def test_check_writes_nothing(folder):
     ends(folder, ["--check", old], lines, "", 1)
     ends(folder, ["--check", old, new], lines, "", 1)
     true(not os.path.lexists(new), "nothing is written")
+
+
+def test_one_version(folder):
+    """A modulefile of a folder is in conflict with its name; one that is already, and a default file, stay."""
+    old, new = tree(
+        folder,
+        {
+            "gcc/12": COOKIE + "# of GNU\n\nprereq zlib\n",
+            "gcc/13": COOKIE + "setenv G 1\nconflict icc gcc\n",
+            "gcc/14": COOKIE + "conflict gcc/12 {g cc}\n",
+            "gcc/.version": "#%Module\nset ModulesVersion 12\n",
+            "lib/mpi/4": COOKIE + "module load gcc\n",
+            "mpi/4": COOKIE + "if {1} { conflict mpi }\n",
+            "my tool/1": COOKIE + "setenv M 1\n",
+            "none/1": COOKIE,
+            "tool": COOKIE + "setenv T 1\n",
+        },
+    )
+    at = old.decode()
+    said = (
+        "lib/mpi/4:2: translated: module load gcc", "lib/mpi/4: added: conflict lib/mpi", "mpi/4: added: conflict mpi",
+        "gcc/12: added: conflict gcc", "gcc/14: added: conflict gcc",
+    )  # fmt: skip
+    done = folder.run("--one-version", old, new)
+    same(sorted(done.stdout.decode().splitlines()), sorted(f"{at}/{it}" for it in said), "what is said")
+    same((done.stderr, done.returncode), (b"", 0), "standard error and status")
+    written = {
+        "gcc/12": "# of GNU\n\nconflict gcc\nprereq zlib\n",
+        "gcc/13": "setenv G 1\nconflict icc gcc\n",
+        "gcc/14": "conflict gcc\nconflict gcc/12 {g cc}\n",
+        "gcc/.version": "set ModulesVersion 12\n",
+        "lib/mpi/4": "conflict lib/mpi\nprereq gcc\n",
+        "mpi/4": "conflict mpi\nif {1} { conflict mpi }\n",
+        "my tool/1": "setenv M 1\n",
+        "none/1": "",
+        "tool": "setenv T 1\n",
+    }
+    same(contents(new), {name: (COOKIE + it).encode() for name, it in written.items()}, "what is written")
+    again = folder.run("--one-version", "--check", "--json", new)
+    same((again.stdout, again.returncode), (b"", 0), "what is written has nothing more to add")
 
 
 def test_json(folder):

@@ -123,7 +123,13 @@ impl<'r> Walk<'r> {
     ) -> Result<(), PortFault> {
         let alloc = self.rt.alloc();
         let Some(file) = modulefile(alloc, read(self.rt, from)?.as_slice())? else {
-            return self.say(file_line(alloc, self.json, from, "left out", "no modulefile")?.as_slice());
+            return self.say(file_line(
+                alloc,
+                self.json,
+                from,
+                "left out",
+                "no modulefile",
+            )?.as_slice());
         };
         let ported = ported(alloc, self.json, from, file, name)?;
         if let Some(to) = to {
@@ -256,11 +262,7 @@ impl<'r> Walk<'r> {
 ///
 /// The errors: the directories can't be taken; memory ran out, or the report couldn't be written, in its midst. A fault
 /// at one path is said on standard error.
-pub(crate) fn walk_tree(
-    rt: &HostRuntime,
-    json: bool,
-    walked: Walked,
-) -> Result<Status, PortFault> {
+pub(crate) fn walk_tree(rt: &HostRuntime, json: bool, walked: Walked) -> Result<Status, PortFault> {
     let Walked {
         from,
         to,
