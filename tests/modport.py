@@ -78,23 +78,49 @@ def test_translated_twice(folder, row):
 
 def test_refused(folder):
     """Nothing is written where the modulefile isn't there, isn't a script or isn't named."""
-    usage = "Usage: modport [--json] FILE | --stdin | --check FROM | FROM TO"
-    folder.file("latin", b"#%Module\nsetenv X caf\xe9\n")
+    usage = "Usage: modport [--json] FILE | --stdin | [--one-version] --check FROM | [--one-version] FROM TO"
     os.mkfifo(folder.at("fifo"))
     for words, given, said in (
         (["nothing"], b"", "No such file"),
         ([folder.at("fifo")], b"", "No such file"),
         ([folder.modules], b"", "No such file"),
-        ([folder.at("latin")], b"", "Not UTF-8"),
+        (["--stdin"], b"#%Module\nsetenv X caf\xe9\n", "Not UTF-8"),
         (["--stdin"], b"#%Module\nset x {\n", "Missing close-brace at byte 15"),
         ([], b"", usage),
         (["--all", "a"], b"", usage),
         (["--stdin", "a"], b"", usage),
         (["a", "b", "c"], b"", usage),
         (["--check"], b"", usage),
+        (["--one-version", "--stdin"], b"", usage),
+        (["--one-version", "a"], b"", usage),
     ):
         done = folder.run(*words, given=given)
         same((done.stdout, done.stderr.decode(), done.returncode), (b"", f"ERROR: {said}\n", 2), f"of {words}")
+
+
+# How files come: Unicode and ISO 8859-1 have the bytes of each character.
+COMING = (
+    ("as it is", "#%Module\nsetenv X café\n".encode(), []),
+    ("Latin-1", b"#%Module\nsetenv X caf\xe9\n", ["Latin-1"]),
+    ("CR LF", "#%Module\r\nsetenv X café\r\n".encode(), ["CR LF"]),
+    ("a byte order mark", "\ufeff#%Module\nsetenv X café\n".encode(), ["byte order mark"]),
+    ("all three", b"\xef\xbb\xbf#%Module\r\nsetenv X caf\xe9\n", ["byte order mark", "Latin-1", "CR LF"]),
+)
+
+
+@pytest.mark.parametrize("given, said", [it[1:] for it in COMING], ids=[it[0] for it in COMING])
+def test_files_as_they_come(folder, given, said):
+    path = os.fsdecode(folder.file("m", given))
+    done = folder.run(path)
+    same(done.stdout.decode(), "#%Module\nsetenv X café\n", "what is written")
+    same(done.stderr.decode(), "".join(f"{path}:1: translated: {it}\n" for it in said), "what is said")
+    same(done.returncode, 0, "status")
+
+
+def test_a_lone_carriage_return_stays(folder):
+    given = b"#%Module\nputs stderr {a\rb\r}\r"
+    done = folder.run("--stdin", given=given)
+    same((done.stdout, done.stderr, done.returncode), (given, b"", 0), "what is written")
 
 
 # Trees.
@@ -170,6 +196,46 @@ def test_check_writes_nothing(folder):
     true(not os.path.lexists(new), "nothing is written")
 
 
+def test_one_version(folder):
+    """A modulefile of a folder is in conflict with its name; one that is already, and a default file, stay."""
+    old, new = tree(
+        folder,
+        {
+            "gcc/12": COOKIE + "# of GNU\n\nprereq zlib\n",
+            "gcc/13": COOKIE + "setenv G 1\nconflict icc gcc\n",
+            "gcc/14": COOKIE + "conflict gcc/12 {g cc}\n",
+            "gcc/.version": "#%Module\nset ModulesVersion 12\n",
+            "lib/mpi/4": COOKIE + "module load gcc\n",
+            "mpi/4": COOKIE + "if {1} { conflict mpi }\n",
+            "my tool/1": COOKIE + "setenv M 1\n",
+            "none/1": COOKIE,
+            "tool": COOKIE + "setenv T 1\n",
+        },
+    )
+    at = old.decode()
+    said = (
+        "lib/mpi/4:2: translated: module load gcc", "lib/mpi/4: added: conflict lib/mpi", "mpi/4: added: conflict mpi",
+        "gcc/12: added: conflict gcc", "gcc/14: added: conflict gcc",
+    )  # fmt: skip
+    done = folder.run("--one-version", old, new)
+    same(sorted(done.stdout.decode().splitlines()), sorted(f"{at}/{it}" for it in said), "what is said")
+    same((done.stderr, done.returncode), (b"", 0), "standard error and status")
+    written = {
+        "gcc/12": "# of GNU\n\nconflict gcc\nprereq zlib\n",
+        "gcc/13": "setenv G 1\nconflict icc gcc\n",
+        "gcc/14": "conflict gcc\nconflict gcc/12 {g cc}\n",
+        "gcc/.version": "set ModulesVersion 12\n",
+        "lib/mpi/4": "conflict lib/mpi\nprereq gcc\n",
+        "mpi/4": "conflict mpi\nif {1} { conflict mpi }\n",
+        "my tool/1": "setenv M 1\n",
+        "none/1": "",
+        "tool": "setenv T 1\n",
+    }
+    same(contents(new), {name: (COOKIE + it).encode() for name, it in written.items()}, "what is written")
+    again = folder.run("--one-version", "--check", "--json", new)
+    same((again.stdout, again.returncode), (b"", 0), "what is written has nothing more to add")
+
+
 def test_json(folder):
     """A line is an object, whatever bytes the names have."""
     old, _ = tree(folder, {'a/"1\\': COOKIE + "if {![is-loaded b]} {\n\tmodule load b\n}\nexec true\n", "a/x": "x"})
@@ -213,7 +279,7 @@ def test_goes_on_behind_what_cant_be_done(folder):
         folder,
         {
             "a/1": COOKIE + "set x {\n",
-            "a/2": b"#%Module\nsetenv X caf\xe9\n",
+            "a/2": b"#%Module\r\nsetenv X caf\xe9\r\n",
             "a/3": COOKIE + "module load b\n",
         },
     )
@@ -224,12 +290,14 @@ def test_goes_on_behind_what_cant_be_done(folder):
     ends(
         folder,
         [old, new],
+        f"{at}/2:1: translated: Latin-1\n{at}/2:1: translated: CR LF\n"
         f"{at}/3:2: translated: module load b\n{at}/out: left out: link to /etc/passwd\n"
         f"{at}/pipe: left out: neither a file nor a directory\n{at}/up: left out: link to ../../x\n",
-        f"ERROR: {at}/1: Missing close-brace at byte 15\nERROR: {at}/2: Not UTF-8\n",
+        f"ERROR: {at}/1: Missing close-brace at byte 15\n",
         2,
     )
-    same(contents(new), {"a/3": b"#%Module\nprereq b\n"}, "what is written")
+    written = {"a/2": "#%Module\nsetenv X café\n".encode(), "a/3": b"#%Module\nprereq b\n"}
+    same(contents(new), written, "what is written")
 
 
 def test_unreadable_files_and_permissions(folder):

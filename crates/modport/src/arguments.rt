@@ -12,10 +12,19 @@ pub(crate) enum Job {
     Stdin,
     /// The file at this path, to standard output.
     File(String),
-    /// The files below this path; nothing is written but the report.
-    Check(String),
-    /// The files below the first path, below the second.
-    Tree(String, String),
+    /// The files below a path.
+    Tree(Walked),
+}
+
+/// Files below a path.
+#[derive(Debug, Drop)]
+pub(crate) struct Walked {
+    /// The path.
+    pub from: String,
+    /// The path that they are written below; none where nothing is written but the report.
+    pub to: Option<String>,
+    /// Whether each modulefile is to be in conflict with its own name.
+    pub one_version: bool,
 }
 
 /// What is asked for.
@@ -34,6 +43,7 @@ struct Options {
     stdin: bool,
     check: bool,
     json: bool,
+    one_version: bool,
     /// Whether a word was `--`, behind which no word is an option.
     ended: bool,
 }
@@ -51,6 +61,7 @@ impl Options {
             "--stdin" => self.stdin = true,
             "--check" => self.check = true,
             "--json" => self.json = true,
+            "--one-version" => self.one_version = true,
             "--" => self.ended = true,
             _ => return Err(PortFault::Usage),
         }
@@ -68,13 +79,22 @@ impl Options {
             return Err(PortFault::Usage);
         }
         match (self.stdin, self.check, first, last) {
-            (true, false, None, None) => Ok(Job::Stdin),
-            (false, false, None, Some(file)) => Ok(Job::File(file)),
-            (false, true, None, Some(from)) => Ok(Job::Check(from)),
-            (false, true, Some(from), Some(_to)) => Ok(Job::Check(from)),
-            (false, false, Some(from), Some(to)) => Ok(Job::Tree(from, to)),
+            (true, false, None, None) if !self.one_version => Ok(Job::Stdin),
+            (false, false, None, Some(file)) if !self.one_version => Ok(Job::File(file)),
+            (false, true, None, Some(from)) => Ok(self.tree(from, None)),
+            (false, true, Some(from), Some(_to)) => Ok(self.tree(from, None)),
+            (false, false, Some(from), Some(to)) => Ok(self.tree(from, Some(to))),
             _ => Err(PortFault::Usage),
         }
+    }
+
+    /// The files below a path.
+    fn tree(self, from: String, to: Option<String>) -> Job {
+        Job::Tree(Walked {
+            from,
+            to,
+            one_version: self.one_version,
+        })
     }
 }
 
@@ -87,6 +107,7 @@ pub(crate) fn asked_for(alloc: Global, words: Vec<String>) -> Result<Wanted, Por
         stdin: false,
         check: false,
         json: false,
+        one_version: false,
         ended: false,
     };
     let mut paths = Vec::new(alloc);

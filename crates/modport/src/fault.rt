@@ -4,10 +4,12 @@ use processinput::InputFault;
 use std::alloc::{AllocError, AllocFailed};
 use std::error::Error;
 use std::fmt;
+use tclchars::TextFault;
 use translation::TranslationFault;
 
 /// How the program is called.
-pub(crate) const USAGE: &str = "Usage: modport [--json] FILE | --stdin | --check FROM | FROM TO";
+pub(crate) const USAGE: &str =
+    "Usage: modport [--json] FILE | --stdin | [--one-version] --check FROM | [--one-version] FROM TO";
 
 /// Why nothing was translated, or not all.
 #[derive(Debug, Drop)]
@@ -83,6 +85,12 @@ impl From<TreeFault> for PortFault {
             TreeFault::OutOfMemory => PortFault::OutOfMemory,
             TreeFault::Device => PortFault::Unreadable,
         }
+    }
+}
+
+impl From<TextFault> for PortFault {
+    fn from(fault: TextFault) -> PortFault {
+        PortFault::Translation(TranslationFault::Written(fault))
     }
 }
 

@@ -6,6 +6,7 @@
 mod arguments;
 mod fault;
 mod left_out;
+mod porting;
 mod reporting;
 mod status;
 mod texts;
@@ -13,35 +14,29 @@ mod walk;
 
 use arguments::{Job, Wanted, asked_for};
 use fault::{PortFault, USAGE};
-use left_out::LEFT_OUT;
+use filetext::file_text;
+use porting::{Ported, ported};
 use processinput::{arguments as words_of, read_input};
-use reporting::note_lines;
 use status::Status;
 use std::io::Write;
 use std::process::ExitCode;
 use texts::read;
-use translation::translate;
 use walk::walk_tree;
 
 /// Writes the translation of a text to standard output, and the report to standard error, where the text has this path.
-fn print(rt: &HostRuntime, json: bool, path: &str, text: &str) -> Result<Status, PortFault> {
-    let translation = translate(rt.alloc(), text, &LEFT_OUT)?;
-    let notes = translation.notes.as_slice();
-    let report = note_lines(rt.alloc(), json, path, notes)?;
-    if rt.stdout().write_all(translation.text.as_bytes()).is_err()
+fn print(rt: &HostRuntime, json: bool, path: &str, bytes: &[u8]) -> Result<Status, PortFault> {
+    let file = file_text(rt.alloc(), bytes)?;
+    let Ported {
+        text,
+        report,
+        status,
+    } = ported(rt.alloc(), json, path, file, None)?;
+    if rt.stdout().write_all(text.as_bytes()).is_err()
         || rt.stderr().write_all(report.as_slice()).is_err()
     {
         return Err(PortFault::WriteFailed);
     }
-    Ok(Status::of(notes))
-}
-
-/// Writes the translation of a file.
-fn print_file(rt: &HostRuntime, json: bool, path: &str) -> Result<Status, PortFault> {
-    match String::from_utf8(read(rt, path)?) {
-        Ok(text) => print(rt, json, path, text.as_str()),
-        Err(_) => Err(PortFault::NotUtf8),
-    }
+    Ok(status)
 }
 
 /// Says how the program is called.
@@ -59,11 +54,13 @@ fn port(rt: &HostRuntime) -> Result<Status, PortFault> {
         Job::Help => help(rt),
         Job::Stdin => {
             let text = read_input(rt.alloc(), &mut rt.stdin())?;
-            print(rt, json, "--stdin", text.as_str())
+            print(rt, json, "--stdin", text.as_bytes())
         }
-        Job::File(path) => print_file(rt, json, path.as_str()),
-        Job::Check(from) => walk_tree(rt, json, from, None),
-        Job::Tree(from, to) => walk_tree(rt, json, from, Some(to)),
+        Job::File(path) => {
+            let bytes = read(rt, path.as_str())?;
+            print(rt, json, path.as_str(), bytes.as_slice())
+        }
+        Job::Tree(walked) => walk_tree(rt, json, walked),
     }
 }
 

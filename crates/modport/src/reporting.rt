@@ -54,15 +54,16 @@ pub(crate) fn note_lines(
     Ok(lines)
 }
 
-/// The line that says of the file of this path what is left out.
+/// The line that says of the file of this path what is left out, or why else it is named.
 pub(crate) fn file_line(
     alloc: Global,
     json: bool,
     path: &str,
+    why: &str,
     what: &str,
 ) -> Result<Vec<u8>, AllocError> {
     if !json {
-        let line = format!(in alloc; "{path}: left out: {what}\n")?;
+        let line = format!(in alloc; "{path}: {why}: {what}\n")?;
         return Ok(line.into_bytes());
     }
     let mut writer = Writer::new(Vec::new(alloc));
@@ -72,7 +73,7 @@ pub(crate) fn file_line(
     writer.key("what")?;
     writer.string(what)?;
     writer.key("why")?;
-    writer.string("left out")?;
+    writer.string(why)?;
     writer.end_object()?;
     let mut line = writer.into_inner();
     line.push(b'\n')?;

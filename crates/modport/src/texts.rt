@@ -1,6 +1,7 @@
 //! The texts of files and paths.
 
 use crate::fault::PortFault;
+use filetext::{FileText, file_text};
 use std::alloc::{AllocError, Global};
 use std::fs;
 use std::fs::Metadata;
@@ -17,16 +18,13 @@ pub(crate) fn joined(alloc: Global, dir: &str, name: &str) -> Result<String, All
     Ok(format!(in alloc; "{dir}/{name}")?)
 }
 
-/// The modulefile of these bytes; none where they don't begin as one.
-///
-/// The error: it isn't UTF-8.
-pub(crate) fn modulefile(bytes: Vec<u8>) -> Result<Option<String>, PortFault> {
-    if !bytes.as_slice().starts_with(COOKIE) {
-        return Ok(None);
-    }
-    match String::from_utf8(bytes) {
-        Ok(text) => Ok(Some(text)),
-        Err(_) => Err(PortFault::NotUtf8),
+/// The modulefile of these bytes, and how it was written; none where they don't begin as one.
+pub(crate) fn modulefile(alloc: Global, bytes: &[u8]) -> Result<Option<FileText>, PortFault> {
+    let file = file_text(alloc, bytes)?;
+    if file.text.as_slice().starts_with(COOKIE) {
+        Ok(Some(file))
+    } else {
+        Ok(None)
     }
 }
 

@@ -1,17 +1,17 @@
 //! The files below a directory, translated below another.
 
+use crate::arguments::Walked;
 use crate::fault::PortFault;
-use crate::left_out::LEFT_OUT;
-use crate::reporting::{fault_line, file_line, note_lines};
+use crate::porting::ported;
+use crate::reporting::{fault_line, file_line};
 use crate::status::Status;
 use crate::texts::{joined, kind_of, modulefile, read, write_new};
 use filetree::{DiskTree, Tree};
-use std::alloc::AllocError;
+use std::alloc::{AllocError, Global};
 use std::fs;
 use std::fs::{Metadata, Permissions};
 use std::io::Write;
 use std::os::unix::fs::symlink;
-use translation::translate;
 
 /// The most directories that are walked.
 const MOST_DIRECTORIES: usize = 1_000_000;
@@ -23,6 +23,8 @@ struct Folder {
     from: String,
     /// The path that it is written to.
     to: Option<String>,
+    /// The name of its modules, which is empty at the top.
+    name: String,
 }
 
 /// A walk over the files below a directory.
@@ -31,6 +33,8 @@ pub(crate) struct Walk<'r> {
     rt: &'r HostRuntime,
     /// Whether each line of the report is JSON.
     json: bool,
+    /// Whether each modulefile is to be in conflict with its own name.
+    one_version: bool,
     /// How far what was read so far is within the profile.
     status: Status,
     /// The directories that are still to be walked.
@@ -55,6 +59,14 @@ fn names_in(rt: &HostRuntime, path: &str) -> Result<Vec<String>, PortFault> {
 /// to nothing above its directory.
 fn stays(target: &str) -> bool {
     !target.starts_with('/') && target.split('/').all(|part| part != "..")
+}
+
+/// The name of the modules of a directory of this name, in one with modules of that name.
+fn name_below(alloc: Global, above: &str, name: &str) -> Result<String, AllocError> {
+    if above.is_empty() {
+        return String::from_str(alloc, name);
+    }
+    joined(alloc, above, name)
 }
 
 /// Makes the directory that is written, or takes an empty one.
@@ -83,7 +95,7 @@ impl<'r> Walk<'r> {
     /// Says what is left out of a path.
     fn leave(&mut self, path: &str, what: &str) -> Result<(), PortFault> {
         self.status = self.status.and(Status::Left);
-        self.say(file_line(self.rt.alloc(), self.json, path, what)?.as_slice())
+        self.say(file_line(self.rt.alloc(), self.json, path, "left out", what)?.as_slice())
     }
 
     /// Goes on behind a fault at a path, which is said, unless memory ran out or the report can't be written.
@@ -101,19 +113,30 @@ impl<'r> Walk<'r> {
         }
     }
 
-    /// Translates a file.
-    fn file(&mut self, from: &str, to: Option<&str>, found: &Metadata) -> Result<(), PortFault> {
+    /// Translates a file of a module of this name, where it has one.
+    fn file(
+        &mut self,
+        from: &str,
+        to: Option<&str>,
+        found: &Metadata,
+        name: Option<&str>,
+    ) -> Result<(), PortFault> {
         let alloc = self.rt.alloc();
-        let Some(text) = modulefile(read(self.rt, from)?)? else {
-            return self.say(file_line(alloc, self.json, from, "no modulefile")?.as_slice());
+        let Some(file) = modulefile(alloc, read(self.rt, from)?.as_slice())? else {
+            return self.say(file_line(
+                alloc,
+                self.json,
+                from,
+                "left out",
+                "no modulefile",
+            )?.as_slice());
         };
-        let translation = translate(alloc, text.as_str(), &LEFT_OUT)?;
+        let ported = ported(alloc, self.json, from, file, name)?;
         if let Some(to) = to {
-            write_new(self.rt, to, translation.text.as_bytes(), found)?;
+            write_new(self.rt, to, ported.text.as_bytes(), found)?;
         }
-        let notes = translation.notes.as_slice();
-        self.status = self.status.and(Status::of(notes));
-        self.say(note_lines(alloc, self.json, from, notes)?.as_slice())
+        self.status = self.status.and(ported.status);
+        self.say(ported.report.as_slice())
     }
 
     /// Makes a link again, where it still leads to the same place.
@@ -140,6 +163,7 @@ impl<'r> Walk<'r> {
         from: String,
         to: Option<String>,
         found: &Metadata,
+        name: String,
     ) -> Result<(), PortFault> {
         if let Some(to) = &to {
             if fs::create_dir(self.rt, to.as_str()).is_err() {
@@ -147,21 +171,38 @@ impl<'r> Walk<'r> {
             }
             self.made.push((to.clone()?, found.permissions()))?;
         }
-        self.folders.push(Folder { from, to })?;
+        self.folders.push(Folder { from, to, name })?;
         Ok(())
     }
 
-    /// Does what is to be done for a path, by what is there.
-    fn entry(&mut self, from: String, to: Option<String>) -> Result<(), PortFault> {
+    /// The name of the modules of a directory that are to be in conflict with it; default files are none.
+    fn conflicting<'n>(&self, folder: &'n Folder, name: &str) -> Option<&'n str> {
+        if self.one_version && !folder.name.is_empty() && !name.starts_with('.') {
+            Some(folder.name.as_str())
+        } else {
+            None
+        }
+    }
+
+    /// Does what is to be done for a path of this name in a directory, by what is there.
+    fn entry(
+        &mut self,
+        from: String,
+        to: Option<String>,
+        folder: &Folder,
+        name: &str,
+    ) -> Result<(), PortFault> {
         let found = kind_of(self.rt, from.as_str())?;
         let target = match &to {
             Some(to) => Some(to.as_str()),
             None => None,
         };
         if found.is_dir() {
-            self.folder(from, to, &found)
+            let name = name_below(self.rt.alloc(), folder.name.as_str(), name)?;
+            self.folder(from, to, &found, name)
         } else if found.is_file() {
-            self.file(from.as_str(), target, &found)
+            let name = self.conflicting(folder, name);
+            self.file(from.as_str(), target, &found, name)
         } else if found.is_symlink() {
             self.link(from.as_str(), target)
         } else {
@@ -178,7 +219,7 @@ impl<'r> Walk<'r> {
             Some(to) => Some(joined(alloc, to.as_str(), name)?),
             None => None,
         };
-        let done = self.entry(from, to);
+        let done = self.entry(from, to, folder, name);
         self.go_on(path.as_str(), done)
     }
 
@@ -221,12 +262,12 @@ impl<'r> Walk<'r> {
 ///
 /// The errors: the directories can't be taken; memory ran out, or the report couldn't be written, in its midst. A fault
 /// at one path is said on standard error.
-pub(crate) fn walk_tree(
-    rt: &HostRuntime,
-    json: bool,
-    from: String,
-    to: Option<String>,
-) -> Result<Status, PortFault> {
+pub(crate) fn walk_tree(rt: &HostRuntime, json: bool, walked: Walked) -> Result<Status, PortFault> {
+    let Walked {
+        from,
+        to,
+        one_version,
+    } = walked;
     names_in(rt, from.as_str())?;
     if let Some(to) = &to {
         begin(rt, from.as_str(), to.as_str())?;
@@ -234,11 +275,16 @@ pub(crate) fn walk_tree(
     let mut walk = Walk {
         rt,
         json,
+        one_version,
         status: Status::Within,
         folders: Vec::new(rt.alloc()),
         made: Vec::new(rt.alloc()),
     };
-    walk.folders.push(Folder { from, to })?;
+    walk.folders.push(Folder {
+        from,
+        to,
+        name: String::new(rt.alloc()),
+    })?;
     walk.go()?;
     walk.finish()?;
     Ok(walk.status)

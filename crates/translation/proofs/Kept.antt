@@ -5,7 +5,7 @@ use Rattle.std.specs.Prelude.{flat_map}
 use Rattle.tclchars.specs.Runs.{Text}
 use Rattle.translation.specs.Places.{line_of}
 use Rattle.tclscript.specs.Tree.{Command, Word}
-use Rattle.translation.specs.Words.{words_in}
+use Rattle.portforms.specs.Words.{words_in}
 use Rattle.translation.specs.Pieces.{Piece, pieces, pieces_of}
 use Rattle.translation.specs.Translations.{AreKept, change_of, line_at, note_of, notes_on, or_kept, written_for, written_for_all}
 use Rattle.translation.specs.TranslationViews.{note}

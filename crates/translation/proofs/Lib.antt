@@ -2,7 +2,4 @@ pub mod Adding
 pub mod Checked
 pub mod Kept
 pub mod Mapped
-pub mod Refused
-pub mod Several
-pub mod Trees
 pub mod Turns

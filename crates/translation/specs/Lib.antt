@@ -1,15 +1,10 @@
-pub mod Conditions
-pub mod ConditionViews
-pub mod FormViews
-pub mod Forms
-pub mod Guards
 pub mod Notes
+pub mod OptionViews
+pub mod Options
 pub mod PieceViews
 pub mod Pieces
 pub mod Places
-pub mod ReadingFaults
 pub mod Reports
 pub mod TranslationViews
 pub mod Translations
-pub mod Words
 pub mod Writing

@@ -3,7 +3,7 @@
 use Rattle.std.specs.Prelude.{ℕ, ◌-◌, List, [], ◌∷◌, take, drop}
 use Rattle.tclchars.specs.Runs.{Text}
 use Rattle.tclscript.specs.Tree.{Command, Word}
-use Rattle.translation.specs.Words.{words_in}
+use Rattle.portforms.specs.Words.{words_in}
 
 -- a text with its offset in the script, and the words of the command that it begins with, of which there are none
 -- before the first command

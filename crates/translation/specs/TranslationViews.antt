@@ -7,7 +7,7 @@ use Rattle.translation.specs.Notes as notes
 use Rattle.tclscript.specs.Faults.{IsTextFault}
 use Rattle.tclscript.specs.Text.{IsWithin}
 use Rattle.tclscript.specs.Tree.{Commands, Command}
-use Rattle.translation.specs.Words.{commands_in}
+use Rattle.portforms.specs.Words.{commands_in}
 use Rattle.translation.specs.Pieces.{pieces_of}
 use Rattle.translation.specs.Translations.{written_for_all, notes_on_all}
 use Rattle.translation.specs.declared.notes.Note.{Note}

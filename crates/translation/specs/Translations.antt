@@ -6,10 +6,11 @@ use Rattle.tclchars.specs.Bytes.{newline}
 use Rattle.tclchars.specs.Runs.{Text}
 use Rattle.translation.specs.declared.notes.Outcome.TheVariants.{Translated, Left}
 use Rattle.translation.specs.Places.{line_of, behind_words}
-use Rattle.translation.specs.Words.{constants}
-use Rattle.translation.specs.Forms.{Form, form_of}
+use Rattle.portforms.specs.Words.{constants}
+use Rattle.portforms.specs.Forms.{Form, form_of}
 use Rattle.translation.specs.Writing.{written, needs}
-use Rattle.translation.specs.Guards.{Guard, guard_of}
+use Rattle.guards.specs.Guards.{Guard, guard_of}
+use Rattle.translation.specs.Options.{idle_front, without_option}
 use Rattle.translation.specs.Pieces.{Piece}
 use Rattle.translation.specs.Notes.{Note, left_in}
 
@@ -35,9 +36,16 @@ abbrev pub first_of : Option Text → Option Text → Option Text
 first_of (Some text) other = Some text
 first_of None other = other
 
+-- what is written for a command that has an option without effect, with what stands behind it
+abbrev pub of_option : Piece → Option Text
+of_option p = option_and_then (without_option p.text) (idle_front p.words)
+
+abbrev pub of_other : Piece → Option Text
+of_other p = first_of (of_guard p) (of_option p)
+
 -- what is written for the command that the piece begins with, where it is another one
 abbrev pub change_of : Piece → Option Text
-change_of p = first_of (of_command p) (of_guard p)
+change_of p = first_of (of_command p) (of_other p)
 
 abbrev pub or_kept : Text → Option Text → Text
 or_kept text (Some change) = change

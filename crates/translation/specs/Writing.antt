@@ -3,7 +3,7 @@
 use Rattle.std.specs.Prelude.{List, [], ◌∷◌, ◌++◌, codes, flat_map}
 use Rattle.tclchars.specs.Bytes.{space, newline}
 use Rattle.tclchars.specs.Runs.{Text}
-use Rattle.translation.specs.Forms.{Form, each, one, front, back}
+use Rattle.portforms.specs.Forms.{Form, each, one, front, back}
 
 -- what stands between the words of one command
 abbrev pub behind_space : List Text → Text

@@ -2,19 +2,15 @@
 //! Takes memory and touches nothing else.
 #![tactic(auto)]
 
-mod conditions;
-mod forms;
-mod guards;
 mod laws;
 mod notes;
+mod options;
 mod pieces;
 mod places;
-mod reading_faults;
 mod report_lines;
 mod translating;
 mod translation_fault;
 mod translation_text;
-mod words;
 mod writing;
 
 pub use laws::{accounted, pieces_of_text};

@@ -2,7 +2,7 @@
 ghost use Rattle.std.specs.Prelude.{◌≡◌, IfOk};
 ghost use Rattle.std.specs.Option.{option_map};
 ghost use Rattle.translation.specs.Notes as spec;
-ghost use Rattle.translation.specs.Words.{texts};
+ghost use Rattle.portforms.specs.Words.{texts};
 
 use crate::places::{Mark, behind, is_end, place, unblanked};
 use std::alloc::{AllocError, Global};

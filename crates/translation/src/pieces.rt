@@ -2,7 +2,7 @@
 ghost use Rattle.std.specs.Prelude.{◌≡◌, map, take, drop, IfOk};
 ghost use Rattle.tclscript.specs.View.{script_view, command_view};
 ghost use Rattle.translation.specs.Pieces as spec;
-ghost use Rattle.translation.specs.Words.{commands_in};
+ghost use Rattle.portforms.specs.Words.{commands_in};
 ghost use Rattle.translation.specs.PieceViews.{piece_view};
 
 use std::alloc::{AllocError, Global};

@@ -4,7 +4,7 @@ ghost use Rattle.std.specs.List.{position_or_len};
 ghost use Rattle.std.specs.Option.{option_map};
 ghost use Rattle.tclchars.specs.Bytes.{is_end};
 ghost use Rattle.translation.specs.Places as spec;
-ghost use Rattle.translation.specs.Words.{texts};
+ghost use Rattle.portforms.specs.Words.{texts};
 
 use tclchars::{is_blank, is_gap, is_special};
 

@@ -2,20 +2,20 @@
 ghost use Rattle.std.specs.Prelude.{◌≡◌, ◌==◌, [], ◌∷◌, ◌++◌, ◌≤◌, map, take, count_by, length, IfOk, IfErr, OnOk};
 ghost use Rattle.tclscript.specs.Faults.{IsTextFault};
 ghost use Rattle.tclscript.specs.View.{script_view};
-ghost use Rattle.translation.specs.Words.{texts, commands_in};
-ghost use Rattle.translation.specs.FormViews.{form_view};
-ghost use Rattle.translation.specs.ConditionViews.{guard_view};
+ghost use Rattle.portforms.specs.Words.{texts, commands_in};
+ghost use Rattle.portforms.specs.FormViews.{form_view};
+ghost use Rattle.guards.specs.GuardViews.{guard_view};
 ghost use Rattle.translation.specs.PieceViews.{piece_view};
 ghost use Rattle.translation.specs.Translations as spec;
 ghost use Rattle.translation.specs.TranslationViews.{notes_view, note, AddsChange, HasTranslation, IsTranslation};
 
-use crate::forms::{Form, form_of};
-use crate::guards::{Guard, guard_of};
 use crate::notes::{Note, Outcome, left_in};
+use crate::options::{idle_front, push_without_option};
 use crate::pieces::{Piece, pieces_of};
 use crate::places::{behind_words, line_of};
-use crate::words::constants;
 use crate::writing::{push_form, push_needs};
+use guards::{Guard, guard_of};
+use portforms::{Form, constants, form_of};
 use std::alloc::{AllocError, Global};
 use tclchars::TextFault;
 use tclscript::{Script, parse_script};
@@ -90,6 +90,27 @@ fn push_guard_of(alloc: Global, written: &mut Vec<u8>, piece: &Piece) -> Result<
     }
 }
 
+/// Adds the command of a piece without its option, and what stands behind it; false where it has none without effect.
+fn push_option(written: &mut Vec<u8>, piece: &Piece) -> Result<bool, AllocError>
+    ensures { AddsChange result written.old.items written.new.items (spec.of_option (piece_view piece.now)) }
+{
+    match idle_front(piece.words) {
+        Some(front) => push_without_option(written, piece.text, front),
+        None => Ok(false),
+    }
+}
+
+/// Adds what is written for a piece that is a guard, or has such an option; else false.
+#[tactic(auto, using(crate::proofs::Adding::added_first, crate::proofs::Adding::added_second))]
+fn push_other(alloc: Global, written: &mut Vec<u8>, piece: &Piece) -> Result<bool, AllocError>
+    ensures { AddsChange result written.old.items written.new.items (spec.of_other (piece_view piece.now)) }
+{
+    if push_guard_of(alloc, written, piece)? {
+        return Ok(true);
+    }
+    push_option(written, piece)
+}
+
 /// Adds what is written for the command of a piece, where it is another one; else false.
 #[tactic(auto, using(crate::proofs::Adding::added_first, crate::proofs::Adding::added_second))]
 fn push_change(alloc: Global, written: &mut Vec<u8>, piece: &Piece) -> Result<bool, AllocError>
@@ -98,7 +119,7 @@ fn push_change(alloc: Global, written: &mut Vec<u8>, piece: &Piece) -> Result<bo
     if push_command(alloc, written, piece)? {
         return Ok(true);
     }
-    push_guard_of(alloc, written, piece)
+    push_other(alloc, written, piece)
 }
 
 /// The bytes before an offset.

@@ -4,7 +4,7 @@ ghost use Rattle.std.specs.Str.{is_utf8};
 ghost use Rattle.tclscript.specs.Faults.{IsTextFault};
 ghost use Rattle.tclscript.specs.Text.{IsWithin};
 ghost use Rattle.tclscript.specs.Tree.{Commands};
-ghost use Rattle.translation.specs.Words.{texts};
+ghost use Rattle.portforms.specs.Words.{texts};
 ghost use Rattle.translation.specs.TranslationViews.{notes_view, HasTranslation, IsTranslationFault, IsWrittenFault};
 
 use crate::notes::Note;

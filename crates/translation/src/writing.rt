@@ -1,11 +1,11 @@
 //! What is written for a form.
 ghost use Rattle.std.specs.Prelude.{◌≡◌, ◌++◌, ◌∷◌, flat_map, codes, OnOk};
 ghost use Rattle.tclchars.specs.Bytes.{newline};
-ghost use Rattle.translation.specs.Words.{texts};
+ghost use Rattle.portforms.specs.Words.{texts};
 ghost use Rattle.translation.specs.Writing as spec;
-ghost use Rattle.translation.specs.FormViews.{form_view};
+ghost use Rattle.portforms.specs.FormViews.{form_view};
 
-use crate::forms::Form;
+use portforms::Form;
 use std::alloc::AllocError;
 
 /// Adds words, each behind a space.

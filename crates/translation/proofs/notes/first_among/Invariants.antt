@@ -1,5 +1,5 @@
 use Rattle.std.proofs.Common.{◌≡◌, drop}
-use Rattle.translation.specs.Words.{texts}
+use Rattle.portforms.specs.Words.{texts}
 use Rattle.translation.specs.Notes.{first_among}
 use Rattle.translation.proofs.notes.first_among.Given as goal
 

@@ -4,7 +4,7 @@ use Rattle.tclscript.specs.Tree.{Command}
 use Rattle.tclscript.specs.View.{command_view}
 use Rattle.translation.specs.Pieces.{pieces_of}
 use Rattle.translation.specs.PieceViews.{piece_view}
-use Rattle.translation.proofs.Trees.{commands_of_script}
+use Rattle.portforms.proofs.Trees.{commands_of_script}
 use Rattle.translation.proofs.pieces.pieces_of.Goals as goal
 
 pub returns : goal.returns

@@ -1,7 +1,8 @@
 use Rattle.std.proofs.Common.{◌≡◌, ◌++◌, map, drop}
 use Rattle.tclscript.specs.View.{command_view}
 use Rattle.translation.specs.Pieces.{pieces, pieces_of}
-use Rattle.translation.specs.PieceViews.{piece_view, words_view}
+use Rattle.portforms.specs.WordViews.{words_view}
+use Rattle.translation.specs.PieceViews.{piece_view}
 use Rattle.translation.proofs.pieces.pieces_of_commands.Given as goal
 
 abbrev pub invariant-loop-command : goal.invariant-loop-command

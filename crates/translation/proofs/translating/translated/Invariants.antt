@@ -1,5 +1,5 @@
 use Rattle.std.proofs.Common.{◌≡◌, map, take}
-use Rattle.translation.specs.Words.{texts}
+use Rattle.portforms.specs.Words.{texts}
 use Rattle.translation.specs.PieceViews.{piece_view}
 use Rattle.translation.specs.Translations.{written_for_all, notes_on_all}
 use Rattle.translation.specs.TranslationViews.{notes_view}

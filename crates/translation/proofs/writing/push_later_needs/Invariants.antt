@@ -1,7 +1,7 @@
 use Rattle.std.proofs.Common.{◌≡◌, ◌++◌, ◌∷◌, take}
 use Rattle.std.specs.Prelude.{flat_map, codes}
 use Rattle.tclchars.specs.Bytes.{newline}
-use Rattle.translation.specs.Words.{texts}
+use Rattle.portforms.specs.Words.{texts}
 use Rattle.translation.proofs.writing.push_later_needs.Given as goal
 
 abbrev pub invariant-loop-name : goal.invariant-loop-name

@@ -1,5 +1,5 @@
 use Rattle.std.proofs.Common.{◌≡◌, ◌++◌, take}
-use Rattle.translation.specs.Words.{texts}
+use Rattle.portforms.specs.Words.{texts}
 use Rattle.translation.specs.Writing.{behind_space}
 use Rattle.translation.proofs.writing.push_words.Given as goal
 

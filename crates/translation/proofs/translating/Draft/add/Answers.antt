@@ -2,7 +2,7 @@ use Rattle.std.proofs.Common.{◌≡◌, List, [], ◌∷◌, ◌++◌, ap, sym,
 use Rattle.std.specs.Prelude.{OnOk}
 use Rattle.tclchars.specs.Runs.{Text}
 use Rattle.translation.specs.Notes as notes
-use Rattle.translation.specs.Words.{texts}
+use Rattle.portforms.specs.Words.{texts}
 use Rattle.translation.specs.Translations.{line_at}
 use Rattle.translation.specs.TranslationViews.{note, notes_view}
 use Rattle.translation.specs.declared.notes.Outcome.TheVariants.{Translated}

@@ -1,0 +1,2 @@
+pub mod GuardViews
+pub mod Guards

@@ -1,0 +1,8 @@
+//! One version of a module at a time: a modulefile that is in conflict with its own name.
+//! Takes memory and touches nothing else.
+#![tactic(auto)]
+
+mod conflicts;
+mod one_version;
+
+pub use one_version::with_one_version;

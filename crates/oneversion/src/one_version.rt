@@ -1,0 +1,151 @@
+//! A modulefile with a conflict with its own name.
+ghost use Rattle.std.specs.Prelude.{◌≡◌, map, take, drop, IfOk, IfErr};
+ghost use Rattle.std.specs.List.{list_all};
+ghost use Rattle.std.specs.Option.{option_map};
+ghost use Rattle.tclchars.specs.Bytes.{is_literal};
+ghost use Rattle.tclchars.specs.Classes as classes;
+ghost use Rattle.tclchars.specs.Classes.{begins_in};
+ghost use Rattle.tclscript.specs.Faults.{IsTextFault};
+ghost use Rattle.tclscript.specs.Text.{IsWithin};
+ghost use Rattle.tclscript.specs.Tree.{Commands};
+ghost use Rattle.tclscript.specs.View.{command_view, script_view};
+ghost use Rattle.portforms.specs.Words.{commands_in};
+ghost use Rattle.oneversion.specs.OneVersion as spec;
+
+use crate::conflicts::has_conflict;
+use std::alloc::{AllocError, Global};
+use tclchars::{TextFault, is_gap, is_name, is_special};
+use tclscript::{Command, Script, parse_script};
+
+/// Whether the byte stands for itself.
+fn is_literal_byte(byte: u8) -> bool
+    ensures { result ≡ is_literal byte }
+{
+    !(is_gap(byte) || is_special(byte))
+}
+
+/// Whether the first byte is a letter, a digit or `_`.
+fn begins_name(name: &[u8]) -> bool
+    ensures { result ≡ begins_in classes.is_name name.now }
+{
+    match name {
+        [] => false,
+        [first, ..] => is_name(*first),
+    }
+}
+
+/// Whether each byte stands for itself.
+fn has_literal_bytes(name: &[u8]) -> bool
+    ensures { result ≡ list_all is_literal name.now }
+{
+    name.iter().all(|byte| is_literal_byte(*byte))
+}
+
+/// Whether the name can be written as it is.
+fn is_plain(name: &[u8]) -> bool
+    ensures { result ≡ spec.is_plain name.now }
+{
+    begins_name(name) && has_literal_bytes(name)
+}
+
+/// The first bytes, as many as that or all, and the others.
+fn split_within(text: &[u8], length: usize) -> (&[u8], &[u8])
+    ensures first { result.0.now ≡ take length text.now }
+    ensures others { result.1.now ≡ drop length text.now }
+{
+    if length < text.len() {
+        text.split_at(length)
+    } else {
+        (text, &[])
+    }
+}
+
+/// The text with a conflict with the name before what is at this offset.
+fn inserted(alloc: Global, text: &[u8], offset: usize, name: &[u8]) -> Result<Vec<u8>, AllocError>
+    ensures { IfOk result (λ t. t.items ≡ spec.inserted (spec.line_of name.now) text.now offset) }
+{
+    let (before, behind) = split_within(text, offset);
+    let mut whole = Vec::new(alloc);
+    whole.extend_from_slice(before)?;
+    whole.extend_from_slice(b"conflict ")?;
+    whole.extend_from_slice(name)?;
+    whole.push(b'\n')?;
+    whole.extend_from_slice(behind)?;
+    Ok(whole)
+}
+
+/// The text of these commands with a conflict with the name; none where it stays as it is.
+#[tactic(auto, using(portforms::proofs::Trees::command_place))]
+fn with_conflict(
+    alloc: Global,
+    text: &[u8],
+    commands: &[Command<&str>],
+    name: &[u8],
+) -> Result<Option<Vec<u8>>, AllocError>
+    ensures { IfOk result (λ t. option_map (λ v. v.items) t
+        ≡ spec.with_conflict name.now text.now (map (command_view (λ piece. piece.now)) commands.now)) }
+{
+    match commands {
+        [] => Ok(None),
+        [first, ..] => {
+            if has_conflict(commands, name) || !is_plain(name) {
+                Ok(None)
+            } else {
+                Ok(Some(inserted(alloc, text, first.offset, name)?))
+            }
+        }
+    }
+}
+
+/// The text of a script with a conflict with the name; none where it stays as it is.
+fn of_script(
+    alloc: Global,
+    text: &[u8],
+    script: &Script<&str>,
+    name: &[u8],
+) -> Result<Option<Vec<u8>>, AllocError>
+    ensures { IfOk result (λ t. option_map (λ v. v.items) t
+        ≡ spec.with_conflict name.now text.now (commands_in (script_view (λ piece. piece.now) script.now))) }
+{
+    with_conflict(alloc, text, script.commands.as_slice(), name)
+}
+
+/// A modulefile with a conflict with its own name before its first command; none where it has such a conflict, or no
+/// command, or the name can't be written as it is.
+///
+/// The error: it is no script, or memory ran out.
+pub fn with_one_version(alloc: Global, text: &str, name: &str) -> Result<Option<Vec<u8>>, TextFault>
+    ensures found { IfOk result (λ t. (s : Commands) × IsWithin text.now s
+        × (option_map (λ v. v.items) t ≡ spec.with_conflict name.now text.now (commands_in s))) }
+    ensures fault { IfErr result (IsTextFault text.now) }
+{
+    let script = parse_script(alloc, text)?;
+    match of_script(alloc, text.as_bytes(), &script, name.as_bytes()) {
+        Ok(written) => Ok(written),
+        Err(_) => Err(TextFault::OutOfMemory),
+    }
+}
+
+#[test]
+fn conflicts_are_added(rt: HostRuntime) {
+    let given = "# gcc\n\nprereq zlib\nconflict g++\n";
+    let text = with_one_version(rt.alloc(), given, "gcc").unwrap().unwrap();
+    assert!(rt;
+        text.as_slice() == b"# gcc\n\nconflict gcc\nprereq zlib\nconflict g++\n".as_slice()
+    );
+    assert!(rt;
+        with_one_version(rt.alloc(), "conflict a \"gcc\" b", "gcc")
+            .unwrap()
+            .is_none()
+    );
+    assert!(rt;
+        with_one_version(rt.alloc(), "# nothing", "gcc")
+            .unwrap()
+            .is_none()
+    );
+    assert!(rt;
+        with_one_version(rt.alloc(), "setenv A 1", "g cc")
+            .unwrap()
+            .is_none()
+    );
+}
