@@ -1,6 +1,6 @@
 -- What `whatis` without names reports, and `keyword` (module(1)): of all modules that can be loaded, or of those whose
 -- report mentions a text.
-use Rattle.std.specs.Prelude.{◌≡◌, ◌==◌, ℕ, Bool, true, false, List, [], ◌∷◌, map, flat_map, Option}
+use Rattle.std.specs.Prelude.{◌≡◌, ◌⊎◌, ◌==◌, Bool, true, false, List, [], ◌∷◌, map, flat_map, Option}
 use Rattle.std.specs.List.{list_any}
 use Rattle.std.specs.Option.{option_map}
 use Rattle.envvars.specs.Texts.{Text}
@@ -12,7 +12,7 @@ use Rattle.lookup.specs.Lines.{Line, Available}
 use Rattle.search.specs.Looked.{ListingLooksAt}
 use Rattle.shelltext.specs.declared.shell.Shell.{Shell}
 use Rattle.tclrules.specs.declared.limits.Limits.{Limits}
-use Rattle.requests.specs.Requests.{whatis}
+use Rattle.requests.specs.Requests.{Request, whatis}
 use Rattle.requests.specs.Sessions.{IsResponse}
 use Rattle.requests.specs.Steps.{RequestContext, modulepath, request_context_in}
 use Rattle.requests.specs.Looked.{RequestLooksAt}
@@ -33,6 +33,10 @@ AreAllNames s e names =
     (lines : List Line) × Available (HasResult s.limits) s.files s.listings (modulepath e) lines
     × (names ≡ without_repeats (map name_of lines))
 
+-- the request `whatis NAME`
+abbrev pub describing : Shell → Text → Request
+describing shell name = (shell, whatis (name ∷ []))
+
 -- Each name has the outcome of `whatis NAME` in the environment.
 abbrev pub AreDescribed : RequestContext → Environment → List Text → List Outcome → Type 0
 AreDescribed s e [] [] = Unit {0}
@@ -40,6 +44,17 @@ AreDescribed s e [] (outcome ∷ outcomes) = ⊥
 AreDescribed s e (name ∷ names) [] = ⊥
 AreDescribed s e (name ∷ names) (outcome ∷ outcomes) =
     IsResponse s e (whatis (name ∷ [])) (response_of e outcome) × AreDescribed s e names outcomes
+
+-- The request of one of the names looks at this path.
+abbrev pub OneLooksAt : RequestContext → Environment → List Text → Text → Type 0
+OneLooksAt s e [] at = ⊥
+OneLooksAt s e (name ∷ names) at = RequestLooksAt s e (whatis (name ∷ [])) at ⊎ OneLooksAt s e names at
+
+-- A description looks at this path: the listing of all modules does, or one of their requests.
+abbrev pub DescribingLooksAt : RequestContext → Environment → Text → Type 0
+DescribingLooksAt s e at =
+    ListingLooksAt (HasResult s.limits) s.files s.listings [] (modulepath e) at
+    ⊎ ((names : List Text) × AreAllNames s e names × OneLooksAt s e names at)
 
 -- given up for want of memory: in an evaluation, a request or the search
 abbrev pub is_want_of_memory : Outcome → Bool

@@ -2,8 +2,8 @@
 use Rattle.std.specs.Prelude.{◌≡◌, Bool, false, List, ◌++◌, bytes_eq, codes, flat_map, Result, Ok, Err}
 use Rattle.envvars.specs.Texts.{Text}
 use Rattle.envvars.specs.Environment.{Environment}
-use Rattle.envloaded.specs.Loaded.{Entry}
 use Rattle.filetree.specs.Relations.{Is, If, ◌>>◌}
+use Rattle.tclrules.specs.declared.limits.Limits.{Limits}
 use Rattle.modulefile.specs.Effects as modes
 use Rattle.modulefile.specs.Answers.{FileContext}
 use Rattle.modulefile.specs.Files.{FileReason, Ran, RunsFile, failed, halted, refused}
@@ -33,25 +33,25 @@ abbrev pub joined : List Text → Text
 joined messages = flat_map (λ message. message) messages
 
 -- what `whatis NAME` writes of the module that was found
-abbrev pub DescribesFound : RequestContext → FileContext → search.FoundModule → Result HelpAnswer RequestReason → Type 0
-DescribesFound s c m =
-    RefusedAs file_refused (RunsFile s.limits c m.text) >> (λ ran.
+abbrev pub DescribesFound : Limits → FileContext → search.FoundModule → Result HelpAnswer RequestReason → Type 0
+DescribesFound limits c m =
+    RefusedAs file_refused (RunsFile limits c m.text) >> (λ ran.
     Is (Ok (described (joined ran.messages ++ whatis_text m.name ran.records))))
 
 -- the answer by the outcome of the file with the call behind it
-abbrev pub HelpsBy : RequestContext → FileContext → search.FoundModule → Result Ran FileReason
-    → Result HelpAnswer RequestReason → Type 0
-HelpsBy s c m (Ok ran) = Is (Ok (own (joined ran.messages)))
-HelpsBy s c m (Err reason) = If (lacks_help reason) (DescribesFound s c m) (Is (Err (file_refused reason)))
+abbrev pub HelpsBy : Limits → FileContext → search.FoundModule → Result Ran FileReason → Result HelpAnswer RequestReason
+    → Type 0
+HelpsBy limits c m (Ok ran) = Is (Ok (own (joined ran.messages)))
+HelpsBy limits c m (Err reason) = If (lacks_help reason) (DescribesFound limits c m) (Is (Err (file_refused reason)))
 
 -- the answer of the module that was found
-abbrev pub HelpsFound : RequestContext → FileContext → search.FoundModule → Result HelpAnswer RequestReason → Type 0
-HelpsFound s c m o =
-    (outcome : Result Ran FileReason) × RunsFile s.limits c (with_call m.text) outcome × HelpsBy s c m outcome o
+abbrev pub HelpsFound : Limits → FileContext → search.FoundModule → Result HelpAnswer RequestReason → Type 0
+HelpsFound limits c m o =
+    (outcome : Result Ran FileReason) × RunsFile limits c (with_call m.text) outcome × HelpsBy limits c m outcome o
 
 -- What `help` answers of the module that a name means. Its file is evaluated for its description.
 abbrev pub Helps : RequestContext → Environment → Text → Result HelpAnswer RequestReason → Type 0
 Helps s e typed =
     Is (entries_of e) >> (λ xs.
     Finds s e typed >> (λ m.
-    HelpsFound s (context_of s modes.whatis false typed m.name m.path xs e) m))
+    HelpsFound s.limits (context_of s modes.whatis false typed m.name m.path xs e) m))

@@ -3,3 +3,5 @@ pub mod Mentions
 pub mod Written
 pub mod Descriptions
 pub mod Helps
+-- for this crate's own contracts alone
+pub mod Views

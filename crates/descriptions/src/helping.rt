@@ -1,13 +1,21 @@
 //! `help NAME`: what the procedure `ModulesHelp` of a modulefile says.
-ghost use Rattle.std.specs.Prelude.{◌≡◌, ◌<◌, ◌++◌, map, IfOk, OnOk, string_bytes, codes};
+ghost use Rattle.std.specs.Prelude.{◌≡◌, ◌<◌, ◌++◌, map, IfOk, IfErr, string_bytes};
+ghost use Rattle.envvars.specs.Texts.{texts_in};
 ghost use Rattle.filetree.specs.Agreement.{FailsAt, InEachPair, ReadsOn};
+ghost use Rattle.filetree.specs.Relations.{Is};
 ghost use Rattle.modulerun.specs.Running.{file_reason_of};
-ghost use Rattle.requests.specs.Looked.{SearchLooksAt};
-ghost use Rattle.requests.specs.Steps.{Finds, request_context_in};
+ghost use Rattle.lookup.specs.DefaultFileResults.{HasResult};
 ghost use Rattle.search.specs.Answers.{found_view};
-ghost use Rattle.modules.specs.Answers.{StepAnswersOverTree, is_failure};
-ghost use Rattle.descriptions.specs.Helps.{Helps, lacks_help, with_call};
-ghost use Rattle.descriptions.specs.Views.{help_view, lacks_by};
+ghost use Rattle.search.specs.Found.{Found};
+ghost use Rattle.search.specs.Looked.{LooksAt};
+ghost use Rattle.requests.specs.Looked.{SearchLooksAt};
+ghost use Rattle.requests.specs.Reasons.{missed};
+ghost use Rattle.requests.specs.Refusals.{RefusedAs};
+ghost use Rattle.requests.specs.Steps as steps;
+ghost use Rattle.requests.specs.Steps.{request_context_in};
+ghost use Rattle.modules.specs.Answers.{GivesOrRefuses, StepAnswersOverTree, is_failure};
+ghost use Rattle.descriptions.specs.Helps.{DescribesFound, Helps, HelpsFound, joined, with_call};
+ghost use Rattle.descriptions.specs.Views.{RunsText, context_for, help_view, lacks_by, loaded_names};
 
 use crate::all_names::modulepath;
 use crate::written::push_all;
@@ -69,6 +77,7 @@ fn lacks_help(fault: &RunFault) -> bool
 
 /// Texts, one after another.
 fn joined(alloc: Global, texts: &[String]) -> Result<String, AllocError>
+    ensures { IfOk result (λ t. string_bytes t ≡ joined (map string_bytes texts.now)) }
 {
     let mut text = String::new(alloc);
     push_all(&mut text, texts)?;
@@ -83,6 +92,7 @@ fn evaluate(
     text: &str,
     env: &Env,
 ) -> Result<FileRun, RunFault>
+    ensures { RunsText request.entry.limits (context_for request.entry (found_view found.now) env.now) text.now result }
 {
     let context = FileContext {
         mode: Mode::Whatis,
@@ -104,6 +114,8 @@ fn described(
     found: &LocatedModule,
     env: &Env,
 ) -> Result<HelpText, Refusal>
+    ensures { GivesOrRefuses help_view result (DescribesFound request.entry.limits
+        (context_for request.entry (found_view found.now) env.now) (found_view found.now)) }
 {
     let ran = evaluate(alloc, request, found, found.text.as_str(), env)?;
     let mut text = joined(alloc, ran.messages.as_slice())?;
@@ -119,6 +131,8 @@ fn help_of(
     found: &LocatedModule,
     env: &Env,
 ) -> Result<HelpText, Refusal>
+    ensures { GivesOrRefuses help_view result (HelpsFound request.entry.limits
+        (context_for request.entry (found_view found.now) env.now) (found_view found.now)) }
 {
     let text = with_call(alloc, found.text.as_str())?;
     match evaluate(alloc, request, found, text.as_str(), env) {
@@ -141,6 +155,13 @@ fn find_module<T: Tree>(
     tree: &mut T,
     limits: Limits,
 ) -> Result<LocatedModule, Refusal>
+    ensures reads { ReadsOn T.agrees T.failures tree.old tree.new }
+    ensures over_tree { StepAnswersOverTree (T.agrees tree.new) (T.failures tree.old < T.failures tree.new) found_view
+        result (λ files listings.
+        RefusedAs missed (Found (HasResult limits) files listings (steps.modulepath env.now) typed.now)) }
+    ensures failed { FailsAt is_failure (T.failed tree.old) (T.failed tree.new) result (λ at.
+        InEachPair (T.agrees tree.new) (λ files listings.
+        LooksAt (HasResult limits) files listings (steps.modulepath env.now) typed.now at)) }
 {
     let default_files = EvaluatedDefaultFiles { limits };
     Ok(locate(alloc, tree, &default_files, modulepath(env), typed)?)
@@ -148,6 +169,7 @@ fn find_module<T: Tree>(
 
 /// The names of the loaded modules, in load order; 35 where the loaded lists don't fit together.
 fn loaded_names(alloc: Global, env: &Env) -> Result<Vec<String>, Refusal>
+    ensures { GivesOrRefuses texts_in result (Is (loaded_names env.now)) }
 {
     let entries = loaded(alloc, env)?;
     let names = names_of(alloc, entries.as_slice())?;
@@ -169,6 +191,12 @@ pub fn help<T: Tree>(
     tree: &mut T,
     limits: Limits,
 ) -> Result<HelpText, Refusal>
+    ensures reads { ReadsOn T.agrees T.failures tree.old tree.new }
+    ensures answered { StepAnswersOverTree (T.agrees tree.new) (T.failures tree.old < T.failures tree.new) help_view
+        result (λ files listings. Helps (request_context_in limits shell files listings) env.now typed.now) }
+    ensures failed { FailsAt is_failure (T.failed tree.old) (T.failed tree.new) result (λ at.
+        InEachPair (T.agrees tree.new) (λ files listings.
+        SearchLooksAt (request_context_in limits shell files listings) env.now typed.now at)) }
 {
     let names = loaded_names(alloc, env)?;
     let found = find_module(alloc, typed, env, tree, limits)?;
