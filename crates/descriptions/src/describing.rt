@@ -44,11 +44,7 @@ pub(crate) fn describing(alloc: Global, shell: Shell, name: &str) -> Result<Requ
 }
 
 /// The request `whatis NAME` for each name.
-fn requests_for(
-    alloc: Global,
-    shell: Shell,
-    names: &[String],
-) -> Result<Vec<Request>, AllocError>
+fn requests_for(alloc: Global, shell: Shell, names: &[String]) -> Result<Vec<Request>, AllocError>
     ensures { IfOk result (λ v. map request_view v.items ≡ map (describing shell) (map string_bytes names.now)) }
 {
     let mut requests = Vec::with_capacity(alloc, names.len())?;

@@ -30,7 +30,12 @@ pub(crate) fn has_want_of_memory(outcomes: &[Outcome]) -> bool
 }
 
 /// Adds the line of a module that is left out.
-fn push_refused(alloc: Global, text: &mut String, name: &str, refusal: &Refusal) -> Result<(), AllocError>
+fn push_refused(
+    alloc: Global,
+    text: &mut String,
+    name: &str,
+    refusal: &Refusal,
+) -> Result<(), AllocError>
     ensures { OnOk result (string_bytes text.new
         ≡ string_bytes text.old ++ line_of (name.now ++ (codes ": " ++ message_of refusal.now))) }
 {
@@ -41,7 +46,12 @@ fn push_refused(alloc: Global, text: &mut String, name: &str, refusal: &Refusal)
 }
 
 /// Adds the line of a module, where it is left out.
-fn push_left_line(alloc: Global, text: &mut String, name: &str, outcome: &Outcome) -> Result<(), AllocError>
+fn push_left_line(
+    alloc: Global,
+    text: &mut String,
+    name: &str,
+    outcome: &Outcome,
+) -> Result<(), AllocError>
     ensures { OnOk result (string_bytes text.new ≡ string_bytes text.old ++ left_line name.now outcome.now) }
 {
     match outcome {

@@ -47,7 +47,10 @@ fn keyword(rt: &HostRuntime, shell: Shell, given: &Given, words: &[String]) -> R
 
 /// Says where more is said than a description says.
 fn report_manual(rt: &HostRuntime) -> Result<(), Refusal> {
-    report(rt, b"\"module show NAME\" says what a module does. Manual pages:\n")?;
+    report(
+        rt,
+        b"\"module show NAME\" says what a module does. Manual pages:\n",
+    )?;
     let Some(pages) = site_path(rt, "share/man") else {
         return report(rt, b"  man module\n  man modulefile\n");
     };
@@ -61,21 +64,33 @@ fn report_manual(rt: &HostRuntime) -> Result<(), Refusal> {
     Ok(())
 }
 
-/// Reports what the files of modules say of themselves, and of those that say nothing what they are.
-fn help_on(rt: &HostRuntime, shell: Shell, given: &Given, words: &[String]) -> Result<(), Refusal> {
-    let mut tree = DiskTree::new(rt);
-    let mut says_more = false;
-    for name in words {
-        let env = &given.env;
-        match help(rt.alloc(), shell, name.as_str(), env, &mut tree, STANDARD)? {
-            HelpText::Own(text) => report(rt, text.as_bytes())?,
-            HelpText::Described(text) => {
-                report(rt, text.as_bytes())?;
-                says_more = true;
-            }
+/// Adds what the file of a module says of itself, or what it is. Whether it says nothing of itself.
+fn push_help(text: &mut String, answer: &HelpText) -> Result<bool, Refusal> {
+    match answer {
+        HelpText::Own(own) => {
+            text.push_str(own.as_str())?;
+            Ok(false)
+        }
+        HelpText::Described(described) => {
+            text.push_str(described.as_str())?;
+            Ok(true)
         }
     }
-    if says_more {
+}
+
+/// Reports what the files of modules say of themselves, and of those that say nothing what they are; nothing where one
+/// of them is refused.
+fn help_on(rt: &HostRuntime, shell: Shell, given: &Given, words: &[String]) -> Result<(), Refusal> {
+    let mut tree = DiskTree::new(rt);
+    let mut text = String::new(rt.alloc());
+    let mut is_described = false;
+    for name in words {
+        let env = &given.env;
+        let answer = help(rt.alloc(), shell, name.as_str(), env, &mut tree, STANDARD)?;
+        is_described = push_help(&mut text, &answer)? || is_described;
+    }
+    report(rt, text.as_bytes())?;
+    if is_described {
         return report_manual(rt);
     }
     Ok(())

@@ -3,6 +3,7 @@
 use collectionfiles::FileFault;
 use collectionrequests::{KeepFault, RestoreFault};
 use message::RefusalKind;
+use std::alloc::AllocError;
 use std::fmt;
 use std::process::ExitCode;
 
@@ -32,6 +33,12 @@ impl From<KeepFault> for Refusal {
 impl From<modules::Refusal> for Refusal {
     fn from(fault: modules::Refusal) -> Refusal {
         Refusal::Described(fault)
+    }
+}
+
+impl From<AllocError> for Refusal {
+    fn from(_e: AllocError) -> Refusal {
+        Refusal::Described(modules::Refusal::OutOfMemory)
     }
 }
 
