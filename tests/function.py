@@ -54,6 +54,11 @@ REFUSED = [
     ([], "Bad arguments"),
     (["subcommand"], "Bad arguments"),
     (["subcommand", "spider"], "Unknown subcommand 'spider'"),
+    (["keyword"], "Bad arguments"),
+    (["apropos", "a", "b"], "Bad arguments"),
+    (["whatis", "gcc"], "This program doesn't do 'whatis'"),
+    (["help"], "This program doesn't do 'help'"),
+    (["help", "gcc"], "Unable to locate a modulefile for 'gcc'"),
 ]
 
 # A word, and the subcommand that it means.
@@ -85,6 +90,51 @@ STATUSES = [
     ([], {}, 1),
     (["gcc"], {}, 1),
 ]
+
+# Modulefiles by their names: what `avail` names, in this order.
+DESCRIBED = {
+    "bad/1": "nope\n",
+    "d/1": "module-whatis A {B c}\n",
+    "foo/1": "module-whatis {The foo Tool}\nmodule-whatis {Category: Compilers}\n",
+    "foo/2": "module-whatis second\n",
+    "foo/10": "puts stderr {foo/10 is old}\nmodule-whatis {the tenth, for Zürich}\n",
+    "silent/1": "setenv A 1\n",
+}
+WHATIS = {
+    "d/1": "d/1: A B c\n",
+    "foo/1": "foo/1: The foo Tool\nfoo/1: Category: Compilers\n",
+    "foo/2": "foo/2: second\n",
+    "foo/10": "foo/10 is old\nfoo/10: the tenth, for Zürich\n",
+    "silent/1": "",
+}
+LEFT_OUT = 'Left out:\nbad/1: invalid command name "nope" (line 2)\n'
+
+# The words behind the shell, and the modules whose reports are written.
+KEYWORDS = [
+    (["whatis"], ["d/1", "foo/1", "foo/2", "foo/10"]),
+    (["keyword", "tool"], ["foo/1"]),
+    (["apropos", "COMPILERS"], ["foo/1"]),
+    (["key", "category"], ["foo/1"]),
+    (["keyword", "b C"], ["d/1"]),
+    (["keyword", "FOO/"], ["foo/1", "foo/2", "foo/10"]),
+    (["keyword", "zürich"], ["foo/10"]),
+    (["keyword", "ZÜRICH"], []),
+    (["keyword", "is old"], []),
+    (["keyword", ".*"], []),
+    (["keyword", "silent"], []),
+    (["keyword", ""], ["d/1", "foo/1", "foo/2", "foo/10"]),
+]
+
+# A modulefile behind its first line, and what `help` says of it.
+HELPS = [
+    ("proc ModulesHelp {} {\n  puts stderr {what it is}\n  puts -nonewline stderr more\n}\n", "what it is\nmore"),
+    ("set v 1.2\nproc ModulesHelp {} {\n  global v\n  puts stderr \"at $v\"\n}\nmodule-whatis it", "at 1.2\n"),
+    ("puts stderr first\nproc ModulesHelp {} {\n  puts stderr [module-info mode whatis]\n}\n", "first\n1\n"),
+    ("proc ModulesHelp {} {}\n", ""),
+    ("module-whatis {no procedure}\nputs stderr said\n", "said\nhelp/1: no procedure\n{manual}"),
+    ("setenv A 1\n", "{manual}"),
+]
+MANUAL = '"module show NAME" says what a module does. Manual pages:\n  man module\n  man modulefile\n'
 
 
 @pytest.fixture(scope="session")
@@ -164,6 +214,59 @@ def test_is_loaded(program, names, env, status):
     same(outcome(run(program, ["sh", "is-loaded", *names], env)), (status, "", ""), f"{names} of {env}")
 
 
+def described(folder, files):
+    """The variables with which these modulefiles are all that can be loaded."""
+    for name, text in files.items():
+        folder.module(name, text)
+    return {"MODULEPATH": os.fsdecode(folder.modules)}
+
+
+@pytest.mark.parametrize("words, names", KEYWORDS)
+def test_descriptions_of_all_modules(program, folder, words, names):
+    env = described(folder, DESCRIBED)
+    report = "".join(WHATIS[name] for name in names)
+    same(outcome(run(program, ["sh", *words], env)), (0, "", report + LEFT_OUT), f"{words}")
+
+
+def test_descriptions_of_modules_of_two_directories(program, folder, tmp_path):
+    """A name of two directories is described once, by the file that it means, and where no file is refused nothing is
+    left out."""
+    env = described(folder, {"foo/1": "module-whatis one\n", "foo/2": "module-whatis two\n"})
+    (tmp_path / "more" / "foo").mkdir(parents=True)
+    for name in ("1", "3"):
+        (tmp_path / "more" / "foo" / name).write_text(f"#%Module\nmodule-whatis {{other {name}}}\n")
+    env["MODULEPATH"] += f":{tmp_path}/more"
+    same(outcome(run(program, ["sh", "whatis"], env)), (0, "", "foo/1: one\nfoo/2: two\nfoo/3: other 3\n"), "whatis")
+    same(outcome(run(program, ["sh", "whatis"], {})), (0, "", ""), "no MODULEPATH")
+    same(outcome(run(program, ["sh", "keyword", "x"], {"MODULEPATH": "/nowhere"})), (0, "", ""), "no directory")
+
+
+def test_descriptions_by_loaded_lists_that_contradict_one_another(program, folder):
+    """Each module is refused, as its own `whatis` is."""
+    env = described(folder, {"foo/1": "module-whatis one\n", "foo/2": "module-whatis two\n"})
+    done = run(program, ["sh", "whatis"], {**env, "LOADEDMODULES": "gcc/12.3"})
+    lines = done.stderr.splitlines()
+    same((done.returncode, lines[0], [line.split(":")[0] for line in lines[1:]]), (0, "Left out:", ["foo/1", "foo/2"]), "what")
+
+
+@pytest.mark.parametrize("text, said", HELPS)
+def test_help_of_a_module(program, folder, text, said):
+    env = described(folder, {"help/1": text})
+    same(outcome(run(program, ["sh", "help", "help"], env)), (0, "", said.replace("{manual}", MANUAL)), text)
+
+
+def test_help_of_several_modules(program, folder):
+    texts = {name: f"proc ModulesHelp {{}} {{puts stderr {{{name}}}}}\n" for name in ("a/1", "b/2")}
+    env = described(folder, {**texts, "c/3": "module-whatis three\n", "d/4": "proc ModulesHelp {} {nope}\n"})
+    same(outcome(run(program, ["sh", "help", "b", "a"], env)), (0, "", "b/2\na/1\n"), "two")
+    done = run(program, ["sh", "--help", "c", "a"], env)
+    same(outcome(done), (0, "", f"c/3: three\na/1\n{MANUAL}"), "one without the procedure")
+    done = run(program, ["sh", "help", "a", "d"], env)
+    same((done.returncode, done.stderr.startswith('ERROR: invalid command name "nope"')), (1, True), "one refused")
+    done = run(program, ["sh", "help", "c", "a"], {**env, "LOADEDMODULES": "a/1:b/2", "_LMFILES_": "/m/a/1:/m/b/2"})
+    same(outcome(done), (0, "", f"c/3: three\na/1\n{MANUAL}"), "where modules are loaded")
+
+
 def test_loaded_lists_that_contradict_one_another(program):
     done = run(program, ["sh", "is-loaded", "gcc"], {"LOADEDMODULES": "gcc/12.3"})
     same((done.returncode, done.stdout, done.stderr.startswith("ERROR: ")), (1, "", True), "lists")
@@ -236,3 +339,17 @@ def test_memory_of_collections(program, folder, tmp_path):
             return outcome(run(dynamic(program), ["sh", *words], {**env, **more}))
 
         refuses_each(shim, asked, lambda it: it[0] == 1 and it[1] == "" and it[2].startswith("ERROR: "), words)
+
+
+def test_memory_of_descriptions(program, folder, tmp_path):
+    """A growth that is refused ends a report with a refusal; a module isn't left out for want of memory."""
+    shim = refuser(os.fsencode(tmp_path))
+    help_text = "proc ModulesHelp {} {puts stderr help}\n"
+    variables = described(folder, {"bad/1": "nope\n", "foo/1": f"module-whatis one\n{help_text}"})
+    env = {name.encode(): value.encode() for name, value in variables.items()}
+    for words in (["whatis"], ["keyword", "ONE"], ["help", "foo"]):
+
+        def asked(more, words=words):
+            return outcome(run(dynamic(program), ["sh", *words], {**env, **more}))
+
+        refuses_each(shim, asked, (1, "", "ERROR: Out of memory\n").__eq__, words)

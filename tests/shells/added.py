@@ -147,6 +147,9 @@ STARTED = {
     "module reload": ["libexec/module"],
     "ml restore default": ["libexec/module"],
     "module savelist": ["libexec/report", "libexec/module"],
+    "module whatis": ["libexec/report", "libexec/module"],
+    "module keyword foo": ["libexec/report", "libexec/module"],
+    "module help foo": ["libexec/report", "libexec/module"],
     "module saverm default": ["libexec/module"],
     "module restore default": ["libexec/module"],
     "module use /": ["libexec/module"],
@@ -335,6 +338,7 @@ def test_reports_on_standard_error_away_from_a_terminal(here):
     start = here.start
     all_of_it = "bad/1\nbar/a\nbar/b\nfoo/1\nfoo/2(default)\nfoo/10\nsub/x/1\nsub/x/2\ntop\n"
     names = [name.replace("(default)", "") for name in all_of_it.split("\n")[1:-1]]
+    left = 'Left out:\nbad/1: invalid command name "nope" (line 2)\n'
     whatis = "".join(f"{name}: the {name} tool\n" for name in names)
     kept = here.keeps(
         [
@@ -348,7 +352,7 @@ def test_reports_on_standard_error_away_from_a_terminal(here):
         f"{start}:\nfoo/10\nsub/x/2\n"
         f"{start}:\nfoo/10\n"
         "ERROR: 'avail' has no option '-x'\n"
-        f"{whatis}foo/1: the foo/1 tool\nfoo/10: the foo/10 tool\nbar/a: the bar/a tool\n"
+        f"{whatis}{left}foo/1: the foo/1 tool\nfoo/10: the foo/10 tool\n{left}bar/a: the bar/a tool\n{left}{left}"
         "ERROR: Bad arguments\n"
         f"{start}\n"
         "No Modulefiles Currently Loaded.\n"

@@ -25,7 +25,6 @@ TYPED = (
     ("module load od\t", ["load", "odd$(>HERE)/1"]),
     ("ml only\t", ["load", "only/1"]),
     ("ml -ba\t", ["unload", "baz/3"]),
-    ("module help fo\t", ["whatis", "foo/1.0"]),
     ("module load it\t", ["load", "it's!/1"]),
     ('module load "fo\t', ["load", "foo/1.0"]),
     ("module load 'od\t", ["load", "odd$(>HERE)/1"]),

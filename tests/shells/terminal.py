@@ -68,12 +68,22 @@ def test_says_why_avail_finds_nothing(scripted, shell, start):
 
 
 @at_terminals
-def test_pipes_what_help_says_of_a_module(scripted, start):
-    at = start(scripted)
-    scripted.stand_in.answer(b"", b"foo/1.0: a foo\n")
-    at.types(f"module help foo | /bin/cat > '{at.at('piped')}'")
-    more = b'"module show NAME" says what a module does. Manual pages:\n' + pages(scripted.prefix)
-    at.keeps("piped", b"foo/1.0: a foo\n" + more, "what help pipes")
+def test_pipes_what_is_said_of_modules(real, folder, start):
+    folder.module("foo/1.0", "module-whatis {a foo}\n")
+    folder.module("bar/2", "module-whatis {a bar}\nproc ModulesHelp {} {puts stderr {how to use bar}}\n")
+    folder.module("bad/1", "nope\n")
+    at = start(real)
+    more = b'"module show NAME" says what a module does. Manual pages:\n' + pages(real.prefix)
+    left = b'Left out:\nbad/1: invalid command name "nope" (line 2)\n'
+    lines = {
+        "module help foo": b"foo/1.0: a foo\n" + more,
+        "module help bar": b"how to use bar\n",
+        "module whatis": b"bar/2: a bar\nfoo/1.0: a foo\n" + left,
+        "module keyword 'A FOO'": b"foo/1.0: a foo\n" + left,
+    }
+    for number, (line, wanted) in enumerate(lines.items()):
+        at.types(f"{line} | /bin/cat > '{at.at('piped')}'; /bin/mv '{at.at('piped')}' '{at.at(number)}'")
+        at.keeps(number, wanted, f"what `{line}` pipes")
 
 
 @at_terminals

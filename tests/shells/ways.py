@@ -188,17 +188,17 @@ def test_helps_and_says_its_version(scripted):
     true(version[0].startswith(b"modulecmd "), "it names the program")
 
 
-def test_helps_about_a_module_by_what_it_is_and_where_the_pages_are(scripted, shell):
-    for _ in range(3):
-        scripted.stand_in.answer(b"", b"foo/1.0: a foo\n")
-    scripted.will_refuse()
-    lines = ["module help 'a  *' foo", "status", "module --help foo", "ml help foo", "module help nope/1", "status"]
-    kept, done = scripted.run(lines)
-    more = b'"module show NAME" says what a module does. Manual pages:\n' + pages(scripted.prefix)
-    same(done.stderr, (b"foo/1.0: a foo\n" + more) * 3 + REFUSAL, "standard error")
+def test_helps_about_a_module_by_its_file_and_else_by_what_it_is(real, folder):
+    folder.module("foo/1.0", "module-whatis {a foo}\n")
+    folder.module("bar/2", "module-whatis {a bar}\nproc ModulesHelp {} {puts stderr {how to use bar}}\n")
+    lines = ["module help bar foo", "status", "module --help foo", "ml help bar", "module help nope/1", "status"]
+    kept, done = real.run(lines)
+    more = b'"module show NAME" says what a module does. Manual pages:\n' + pages(real.prefix)
+    described = b"foo/1.0: a foo\n" + more
+    refusal = b"ERROR: Unable to locate a modulefile for 'nope/1'\n"
+    said = b"how to use bar\n" + described + described + b"how to use bar\n" + refusal
+    same(done.stderr, said, "standard error")
     same((done.stdout, kept.statuses), (b"", ["0", "1"]), "standard output and the statuses")
-    names = [["a  *", "foo"], ["foo"], ["foo"], ["nope/1"]]
-    same(scripted.stand_in.words(), [[shell.init, "whatis", *given] for given in names], "the words")
 
 
 def test_names_pages_that_man_finds(real):

@@ -18,11 +18,16 @@ use subcommands::{Subcommand, subcommand_of};
 /// What the program's name ends with where a site has it.
 const OWN_NAME: &str = "/libexec/module";
 
-/// The path of the site's own collection, by the program's name.
-fn site_collection(rt: &HostRuntime) -> Option<String> {
+/// The path of something that the site has, by the program's name.
+pub(crate) fn site_path(rt: &HostRuntime, place: &str) -> Option<String> {
     let name = env::args(rt).ok()?.next()?;
     let prefix = name.as_str().strip_suffix(OWN_NAME)?;
-    format!(in rt.alloc(); "{prefix}/etc/initial").ok()
+    format!(in rt.alloc(); "{prefix}/{place}").ok()
+}
+
+/// The path of the site's own collection.
+fn site_collection(rt: &HostRuntime) -> Option<String> {
+    site_path(rt, "etc/initial")
 }
 
 /// The name of a collection, the first of the words or else `default`.
@@ -44,7 +49,7 @@ fn refuse_words(words: &[String]) -> Result<(), Refusal> {
 }
 
 /// Writes a part of a report, or a message, to standard error.
-fn report(rt: &HostRuntime, bytes: &[u8]) -> Result<(), Refusal> {
+pub(crate) fn report(rt: &HostRuntime, bytes: &[u8]) -> Result<(), Refusal> {
     match rt.stderr().write_all(bytes) {
         Ok(()) => Ok(()),
         Err(_) => Err(Refusal::WriteFailed),

@@ -1,14 +1,16 @@
-//! The program `module SHELL SUBCOMMAND [WORD...]`: `use`, `unuse`, `is-loaded`, collections, and what a word means.
+//! The program `module SHELL SUBCOMMAND [WORD...]`: what the function `module` does beside `modulecmd`.
 //! Touches its arguments, environment, working directory and standard streams, reads files, and writes collections.
 //! Nothing stands above it; it has no clause, so it has little code.
 #![tactic(auto)]
 
 mod collection_commands;
+mod description_commands;
 mod given;
 mod missing;
 mod refusal;
 
 use collection_commands::do_collection_command;
+use description_commands::do_description_command;
 use functioncommand::{FunctionOutput, function_output};
 use given::Given;
 use message::{Message, RefusalKind};
@@ -37,6 +39,9 @@ fn main(rt: HostRuntime) -> ExitCode {
         Err(refusal) => return refused(&rt, refusal.message),
     };
     if let Some(status) = do_collection_command(&rt, &given) {
+        return status;
+    }
+    if let Some(status) = do_description_command(&rt, &given) {
         return status;
     }
     let working = match &given.working {

@@ -1,12 +1,13 @@
-//! Why a command of collections is refused.
+//! Why a command of collections, or a report on modules, is refused.
 
 use collectionfiles::FileFault;
 use collectionrequests::{KeepFault, RestoreFault};
 use message::RefusalKind;
+use std::alloc::AllocError;
 use std::fmt;
 use std::process::ExitCode;
 
-/// Why a command of collections is refused. Its `Display` is what stands behind `ERROR: `.
+/// Why such a command is refused. Its `Display` is what stands behind `ERROR: `.
 #[derive(Drop)]
 pub enum Refusal {
     /// 56: its words don't fit it.
@@ -15,6 +16,8 @@ pub enum Refusal {
     WriteFailed,
     /// Nothing can be kept.
     Keep(KeepFault),
+    /// A module, or all of them, can't be described.
+    Described(modules::Refusal),
     /// The collection can't be restored.
     Restore(RestoreFault),
     /// This is wrong with the files.
@@ -24,6 +27,18 @@ pub enum Refusal {
 impl From<KeepFault> for Refusal {
     fn from(fault: KeepFault) -> Refusal {
         Refusal::Keep(fault)
+    }
+}
+
+impl From<modules::Refusal> for Refusal {
+    fn from(fault: modules::Refusal) -> Refusal {
+        Refusal::Described(fault)
+    }
+}
+
+impl From<AllocError> for Refusal {
+    fn from(_e: AllocError) -> Refusal {
+        Refusal::Described(modules::Refusal::OutOfMemory)
     }
 }
 
@@ -45,6 +60,7 @@ impl fmt::Display for Refusal {
             Refusal::BadArguments => RefusalKind::BadArguments.plain().message.fmt(f),
             Refusal::WriteFailed => RefusalKind::WriteFailed.plain().message.fmt(f),
             Refusal::Keep(fault) => fault.fmt(f),
+            Refusal::Described(fault) => fault.fmt(f),
             Refusal::Restore(fault) => fault.fmt(f),
             Refusal::Files(fault) => fault.fmt(f),
         }

@@ -1,0 +1,3 @@
+pub mod MentionLemmas
+pub mod DescriptionLemmas
+pub mod HelpLemmas

@@ -1,0 +1,7 @@
+-- What is reported of modules that aren't loaded for it.
+pub mod Mentions
+pub mod Written
+pub mod Descriptions
+pub mod Helps
+-- for this crate's own contracts alone
+pub mod Views
