@@ -19,7 +19,7 @@ use tclrules::Limits;
 const OWN_NAME: &str = "/libexec/module";
 
 /// How much every modulefile may use, as with `modulecmd`: commands, evaluations within one another, bytes in a value.
-const STANDARD: Limits = Limits {
+pub const STANDARD: Limits = Limits {
     commands: 100_000,
     depth: 200,
     value_bytes: 1_048_576,
@@ -51,7 +51,7 @@ fn refuse_words(words: &[String]) -> Result<(), Refusal> {
 }
 
 /// Writes a part of a report, or a message, to standard error.
-fn report(rt: &HostRuntime, bytes: &[u8]) -> Result<(), Refusal> {
+pub fn report(rt: &HostRuntime, bytes: &[u8]) -> Result<(), Refusal> {
     match rt.stderr().write_all(bytes) {
         Ok(()) => Ok(()),
         Err(_) => Err(Refusal::WriteFailed),
@@ -103,11 +103,11 @@ fn remove(rt: &HostRuntime, given: &Given, words: &[String]) -> Result<(), Refus
 }
 
 /// Writes the messages of modulefiles, and then the text for the shell.
-fn write(rt: &HostRuntime, restored: &Restored) -> Result<(), Refusal> {
-    for message in &restored.messages {
+pub fn write(rt: &HostRuntime, messages: &[String], text: &str) -> Result<(), Refusal> {
+    for message in messages {
         report(rt, message.as_bytes())?;
     }
-    match rt.stdout().write_all(restored.text.as_bytes()) {
+    match rt.stdout().write_all(text.as_bytes()) {
         Ok(()) => Ok(()),
         Err(_) => Err(Refusal::WriteFailed),
     }
@@ -127,10 +127,8 @@ fn restored(
     let path = find_collection(rt.alloc(), &mut storage, env, site.as_deref(), name)?;
     let kept = read_collection_file(rt.alloc(), &mut storage, path.as_str())?;
     let mut tree = DiskTree::new(rt);
-    write(
-        rt,
-        &restore(rt.alloc(), shell, &kept, env, &mut tree, STANDARD)?,
-    )
+    let Restored { text, messages } = restore(rt.alloc(), shell, &kept, env, &mut tree, STANDARD)?;
+    write(rt, messages.as_slice(), text.as_str())
 }
 
 /// Unloads all modules and loads them again.
@@ -142,10 +140,8 @@ fn reloaded(
 ) -> Result<(), Refusal> {
     refuse_words(words)?;
     let mut tree = DiskTree::new(rt);
-    write(
-        rt,
-        &reload(rt.alloc(), shell, &given.env, &mut tree, STANDARD)?,
-    )
+    let Restored { text, messages } = reload(rt.alloc(), shell, &given.env, &mut tree, STANDARD)?;
+    write(rt, messages.as_slice(), text.as_str())
 }
 
 /// Does the command, where it is one of collections, and gives the program's status.

@@ -1,13 +1,15 @@
-//! The program `module SHELL SUBCOMMAND [WORD...]`: `use`, `unuse`, `is-loaded`, collections, and what a word means.
+//! The program `module SHELL SUBCOMMAND [WORD...]`: MODULEPATH, `is-loaded`, collections, automated loads and unloads.
 //! Touches its arguments, environment, working directory and standard streams, reads files, and writes collections.
 //! Nothing stands above it; it has no clause, so it has little code.
 #![tactic(auto)]
 
+mod automatic_commands;
 mod collection_commands;
 mod given;
 mod missing;
 mod refusal;
 
+use automatic_commands::do_automatic_command;
 use collection_commands::do_collection_command;
 use functioncommand::{FunctionOutput, function_output};
 use given::Given;
@@ -37,6 +39,9 @@ fn main(rt: HostRuntime) -> ExitCode {
         Err(refusal) => return refused(&rt, refusal.message),
     };
     if let Some(status) = do_collection_command(&rt, &given) {
+        return status;
+    }
+    if let Some(status) = do_automatic_command(&rt, &given) {
         return status;
     }
     let working = match &given.working {

@@ -1,12 +1,16 @@
-//! Why a command of collections is refused.
+//! Why a command of collections, or an automated load or unload, is refused.
 
+use autohandling::AutomaticFault;
 use collectionfiles::FileFault;
 use collectionrequests::{KeepFault, RestoreFault};
+use envvars::EnvFault;
 use message::RefusalKind;
+use modules::Refusal as RequestRefusal;
+use std::alloc::AllocFailed;
 use std::fmt;
 use std::process::ExitCode;
 
-/// Why a command of collections is refused. Its `Display` is what stands behind `ERROR: `.
+/// Why such a command is refused. Its `Display` is what stands behind `ERROR: `.
 #[derive(Drop)]
 pub enum Refusal {
     /// 56: its words don't fit it.
@@ -19,6 +23,8 @@ pub enum Refusal {
     Restore(RestoreFault),
     /// This is wrong with the files.
     Files(FileFault),
+    /// Nothing is loaded, or unloaded.
+    Automatic(AutomaticFault),
 }
 
 impl From<KeepFault> for Refusal {
@@ -39,6 +45,24 @@ impl From<FileFault> for Refusal {
     }
 }
 
+impl From<AutomaticFault> for Refusal {
+    fn from(fault: AutomaticFault) -> Refusal {
+        Refusal::Automatic(fault)
+    }
+}
+
+impl From<EnvFault> for Refusal {
+    fn from(fault: EnvFault) -> Refusal {
+        Refusal::Automatic(AutomaticFault::Refused(RequestRefusal::Env(fault)))
+    }
+}
+
+impl<T: Drop> From<AllocFailed<T>> for Refusal {
+    fn from(_e: AllocFailed<T>) -> Refusal {
+        Refusal::Automatic(AutomaticFault::Refused(RequestRefusal::OutOfMemory))
+    }
+}
+
 impl fmt::Display for Refusal {
     fn fmt<W: fmt::Write>(&self, f: &mut fmt::Formatter<W>) -> fmt::Result {
         match self {
@@ -47,6 +71,7 @@ impl fmt::Display for Refusal {
             Refusal::Keep(fault) => fault.fmt(f),
             Refusal::Restore(fault) => fault.fmt(f),
             Refusal::Files(fault) => fault.fmt(f),
+            Refusal::Automatic(fault) => fault.fmt(f),
         }
     }
 }
