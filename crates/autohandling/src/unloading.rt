@@ -1,5 +1,5 @@
 //! `unload --auto`: what needs it is unloaded with it.
-ghost use Rattle.std.specs.Prelude.{◌≡◌, ◌∷◌, ◌++◌, ◌<◌, [], map, string_bytes, vec_len, IfErr, IfOk, OnOk};
+ghost use Rattle.std.specs.Prelude.{◌≡◌, ◌<◌, ◌+◌, map, string_bytes, vec_len, IfErr, IfOk, OnOk};
 ghost use Rattle.envvars.specs.Texts.{texts_in};
 ghost use Rattle.filetree.specs.Agreement.{FailsOnlyAt, InEachPair, ReadsOn};
 ghost use Rattle.modules.specs.Answers.{cause_of};
@@ -30,7 +30,8 @@ fn put_in_front(
 ) -> Result<(), Refusal>
     ensures put { OnOk result (PutsInFront (cause_of refusal) (texts_in names.old) (texts_in added.old)
         (texts_in names.new) (texts_in added.new)) }
-    ensures bound { OnOk result ((vec_len added.old < most_added) × (vec_len added.new ≡ vec_len added.old + 1)) }
+    ensures bound { OnOk result (vec_len added.old < most_added) }
+    ensures longer { OnOk result (vec_len added.new ≡ vec_len added.old + 1) }
     ensures refused { IfErr result (λ other. IsNotPut (cause_of refusal) (texts_in added.old) (cause_of other)) }
 {
     match refusal {
