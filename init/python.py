@@ -24,6 +24,9 @@ _PROGRAMS = {
     "libexec/usage": "--version",
 }
 
+# What loads and unloads; automated handling is of the first four.
+_MOVES = ["load", "add", "unload", "rm", "switch", "swap", "purge"]
+
 # What `ml` hands to `module` as it is.
 _SUBCOMMANDS = (
     "add apropos av avail del display help --help -h is-avail is-loaded keyword li list load purge reload remove restore "
@@ -60,6 +63,11 @@ def _program(words):
         return "libexec/report"
     if words in (["help"], ["--help"]):
         return "libexec/usage"
+    # Options, and automated handling, are the function's own.
+    if words[0] in _MOVES[:4] and os.environ.get("MODULES_AUTO_HANDLING") == "1":
+        return "libexec/module"
+    if words[0] in _MOVES and words[1:2] and words[1].startswith("-"):
+        return "libexec/module"
     return next((program for program, names in _PROGRAMS.items() if words[0] in names.split()), None)
 
 
@@ -76,6 +84,9 @@ def module(*words):
             return False
         words[0] = name.decode().rstrip("\n")
         program = _program(words) or "libexec/module"
+    if words in (["load"], ["add"]):
+        # There is nothing to load.
+        return True
     if program == "libexec/usage":
         return subprocess.run([f"{_PREFIX}/{program}", words[0]], check=False).returncode == 0
     if program == "libexec/report":
@@ -97,8 +108,9 @@ def ml(*words):
     then loads another."""
     if not words or words[0] in _SUBCOMMANDS.split():
         return module(*(words or ["list"]))
-    unloaded = [word[1:] for word in words if word.startswith("-")]
-    loaded = [word for word in words if not word.startswith("-")]
+    # (an option stands for itself before the names to load)
+    unloaded = [word[1:] for word in words if word.startswith("-") and not word.startswith("--")]
+    loaded = [word for word in words if not word.startswith("-") or word.startswith("--")]
     return (not unloaded or module("unload", *unloaded)) and (not loaded or module("load", *loaded))
 
 

@@ -1,5 +1,5 @@
 # What the alias `ml` does in csh and tcsh: without words the loaded modules; else `-NAME...` are unloaded, and then
-# `NAME...` loaded, by a command each. The name of the shell and then the words are as in module.csh.
+# `NAME...` loaded, by a command each; an option stands for itself before the latter. The name of the shell and then the words are as in module.csh.
 
 if ( $?tcsh ) set _module_words = ( $argv:q )
 if ( $#_module_words == 1 ) set _module_words = ( $_module_words:q list )
@@ -52,7 +52,9 @@ default:
     shift _module_words
     set _module_status = 0
     foreach _module_word ( $_module_words:q )
-        if ( $_module_word:q =~ -* ) then
+        if ( $_module_word:q =~ --* ) then
+            set _module_load = ( $_module_load:q $_module_word:q )
+        else if ( $_module_word:q =~ -* ) then
             set _module_unload = ( $_module_unload:q "`$_module_cut`" )
             set _module_status = $status
             if ( $_module_status != 0 ) break

@@ -23,12 +23,28 @@ case x--version:
     breaksw
 case xload:
 case xadd:
+    # Without names there is nothing to load.
+    if ( $#_module_words == 2 ) then
+        set _module_way = nothing
+        breaksw
+    endif
 case xunload:
 case xrm:
+    set _module_way = bin/modulecmd
+    if ( $?MODULES_AUTO_HANDLING ) then
+        if ( "x$MODULES_AUTO_HANDLING" == x1 ) set _module_way = libexec/module
+    endif
+    if ( $#_module_words > 2 ) then
+        if ( x$_module_words[3]:q =~ x-* ) set _module_way = libexec/module
+    endif
+    breaksw
 case xswitch:
 case xswap:
 case xpurge:
     set _module_way = bin/modulecmd
+    if ( $#_module_words > 2 ) then
+        if ( x$_module_words[3]:q =~ x-* ) set _module_way = libexec/module
+    endif
     breaksw
 case xuse:
     set _module_way = libexec/module
@@ -73,6 +89,9 @@ endif
 
 switch ( $_module_way )
 case name:
+    breaksw
+case nothing:
+    set _module_status = 0
     breaksw
 case again:
     set _module_words[2] = $_module_name:q

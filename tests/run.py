@@ -57,6 +57,7 @@ SUITES = (
     "site.py",
     "function.py",
     "saving.py",
+    "auto.py",
     "plain.py",
     "memory.py",
     "numbers.py",

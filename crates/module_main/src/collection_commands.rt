@@ -101,11 +101,11 @@ fn remove(rt: &HostRuntime, given: &Given, words: &[String]) -> Result<(), Refus
 }
 
 /// Writes the messages of modulefiles, and then the text for the shell.
-fn write(rt: &HostRuntime, restored: &Restored) -> Result<(), Refusal> {
-    for message in &restored.messages {
+pub(crate) fn write(rt: &HostRuntime, messages: &[String], text: &str) -> Result<(), Refusal> {
+    for message in messages {
         report(rt, message.as_bytes())?;
     }
-    match rt.stdout().write_all(restored.text.as_bytes()) {
+    match rt.stdout().write_all(text.as_bytes()) {
         Ok(()) => Ok(()),
         Err(_) => Err(Refusal::WriteFailed),
     }
@@ -125,10 +125,15 @@ fn restored(
     let path = find_collection(rt.alloc(), &mut storage, env, site.as_deref(), name)?;
     let kept = read_collection_file(rt.alloc(), &mut storage, path.as_str())?;
     let mut tree = DiskTree::new(rt);
-    write(
-        rt,
-        &restore(rt.alloc(), shell, &kept, env, &mut tree, STANDARD_LIMITS)?,
-    )
+    let Restored { text, messages } = restore(
+        rt.alloc(),
+        shell,
+        &kept,
+        env,
+        &mut tree,
+        STANDARD_LIMITS,
+    )?;
+    write(rt, messages.as_slice(), text.as_str())
 }
 
 /// Unloads all modules and loads them again.
@@ -140,10 +145,14 @@ fn reloaded(
 ) -> Result<(), Refusal> {
     refuse_words(words)?;
     let mut tree = DiskTree::new(rt);
-    write(
-        rt,
-        &reload(rt.alloc(), shell, &given.env, &mut tree, STANDARD_LIMITS)?,
-    )
+    let Restored { text, messages } = reload(
+        rt.alloc(),
+        shell,
+        &given.env,
+        &mut tree,
+        STANDARD_LIMITS,
+    )?;
+    write(rt, messages.as_slice(), text.as_str())
 }
 
 /// Does the command, where it is one of collections, and gives the program's status.

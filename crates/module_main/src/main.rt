@@ -3,12 +3,14 @@
 //! Nothing stands above it; it has no clause, so it has little code.
 #![tactic(auto)]
 
+mod automatic_commands;
 mod collection_commands;
 mod description_commands;
 mod given;
 mod missing;
 mod refusal;
 
+use automatic_commands::do_automatic_command;
 use collection_commands::do_collection_command;
 use description_commands::do_description_command;
 use functioncommand::{FunctionOutput, function_output};
@@ -39,6 +41,9 @@ fn main(rt: HostRuntime) -> ExitCode {
         Err(refusal) => return refused(&rt, refusal.message),
     };
     if let Some(status) = do_collection_command(&rt, &given) {
+        return status;
+    }
+    if let Some(status) = do_automatic_command(&rt, &given) {
         return status;
     }
     if let Some(status) = do_description_command(&rt, &given) {

@@ -1,9 +1,12 @@
-//! Why a command of collections, or a report on modules, is refused.
+//! Why a command is refused.
 
+use autohandling::AutomaticFault;
 use collectionfiles::FileFault;
 use collectionrequests::{KeepFault, RestoreFault};
+use envvars::EnvFault;
 use message::RefusalKind;
-use std::alloc::AllocError;
+use modules::Refusal as RequestRefusal;
+use std::alloc::{AllocError, AllocFailed};
 use std::fmt;
 use std::process::ExitCode;
 
@@ -22,6 +25,8 @@ pub enum Refusal {
     Restore(RestoreFault),
     /// This is wrong with the files.
     Files(FileFault),
+    /// Nothing is loaded, or unloaded.
+    Automatic(AutomaticFault),
 }
 
 impl From<KeepFault> for Refusal {
@@ -54,6 +59,24 @@ impl From<FileFault> for Refusal {
     }
 }
 
+impl From<AutomaticFault> for Refusal {
+    fn from(fault: AutomaticFault) -> Refusal {
+        Refusal::Automatic(fault)
+    }
+}
+
+impl From<EnvFault> for Refusal {
+    fn from(fault: EnvFault) -> Refusal {
+        Refusal::Automatic(AutomaticFault::Refused(RequestRefusal::Env(fault)))
+    }
+}
+
+impl<T: Drop> From<AllocFailed<T>> for Refusal {
+    fn from(_e: AllocFailed<T>) -> Refusal {
+        Refusal::Automatic(AutomaticFault::Refused(RequestRefusal::OutOfMemory))
+    }
+}
+
 impl fmt::Display for Refusal {
     fn fmt<W: fmt::Write>(&self, f: &mut fmt::Formatter<W>) -> fmt::Result {
         match self {
@@ -63,6 +86,7 @@ impl fmt::Display for Refusal {
             Refusal::Described(fault) => fault.fmt(f),
             Refusal::Restore(fault) => fault.fmt(f),
             Refusal::Files(fault) => fault.fmt(f),
+            Refusal::Automatic(fault) => fault.fmt(f),
         }
     }
 }

@@ -1,0 +1,7 @@
+-- What automated loads and unloads do, and what they answer.
+pub mod Adding
+pub mod Loads
+pub mod Unloads
+pub mod Answers
+-- for this crate's own contracts alone
+pub mod Views

@@ -1,0 +1,13 @@
+//! Which names are put in no more.
+ghost use Rattle.std.specs.Prelude.{◌≡◌, map, string_bytes};
+ghost use Rattle.autohandling.specs.Adding.{is_spent};
+
+/// How many names are put in at most.
+const MOST_ADDED: usize = 1_000;
+
+/// Whether the name was put in already, or as many names were as can be.
+pub(crate) fn is_spent(name: &str, added: &[String]) -> bool
+    ensures { result ≡ is_spent name.now (map string_bytes added.now) }
+{
+    added.len() >= MOST_ADDED || added.iter().any(|known| name == known.as_str())
+}
