@@ -30,7 +30,7 @@ _MOVES = ["load", "add", "unload", "rm", "switch", "swap", "purge"]
 # What `ml` hands to `module` as it is.
 _SUBCOMMANDS = (
     "add apropos av avail del display help --help -h is-avail is-loaded keyword li list load purge reload remove restore "
-    "rm save savelist saverm saveshow show sw swap switch unload unuse use --version -V whatis"
+    "rm save savelist saverm saveshow show sw swap switch -t --terse unload unuse use --version -V whatis"
 )
 
 # A line of a text for sh: a variable that is assigned and exported, or unset. A value is parts in single quotes, and
@@ -76,6 +76,9 @@ def module(*words):
     words. True where the command was accepted; else the environment stays as it was. Refusals are written on standard
     error, and reports too, but on standard output where that is a terminal; the usage is on standard output."""
     words = [str(word) for it in words for word in (it if isinstance(it, (list, tuple)) else [it])] or ["help"]
+    if words[0] in ("-t", "--terse"):
+        # The option of a report can stand before its subcommand; alone it is that of `list`.
+        words[:2] = [*(words[1:2] or ["list"]), "-t"]
     program = _program(words)
     if program is None:
         # Another name of a subcommand, or a beginning of names.

@@ -1,5 +1,6 @@
 # What the alias `ml` does in csh and tcsh: without words the loaded modules; else `-NAME...` are unloaded, and then
-# `NAME...` loaded, by a command each; an option stands for itself before the latter. The name of the shell and then the words are as in module.csh.
+# `NAME...` loaded, by a command each; an option stands for itself before the latter. The name of the shell and then the
+# words are as in module.csh.
 
 if ( $?tcsh ) set _module_words = ( $argv:q )
 if ( $#_module_words == 1 ) set _module_words = ( $_module_words:q list )
@@ -33,6 +34,8 @@ case xshow:
 case xsw:
 case xswap:
 case xswitch:
+case x-t:
+case x--terse:
 case xunload:
 case xunuse:
 case xuse:

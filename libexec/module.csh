@@ -12,6 +12,11 @@ endif
 
 set _module_way = name
 if ( $#_module_words == 1 ) set _module_words = ( $_module_words:q help )
+# The option of a report can stand before its subcommand; alone it is that of `list`.
+if ( x$_module_words[2]:q == x-t || x$_module_words[2]:q == x--terse ) then
+    if ( $#_module_words == 2 ) set _module_words = ( $_module_words:q list )
+    set _module_words = ( $_module_words[1] $_module_words[3]:q -t $_module_words[4-]:q )
+endif
 switch ( x$_module_words[2]:q )
 case xhelp:
 case x--help:

@@ -346,6 +346,7 @@ def test_reports_on_standard_error_away_from_a_terminal(here):
             "module avail -x", "status", "module avail -- -x", "module whatis", "module keyword 'OO/1'",
             "module apropos BAR/A", "module keyword nope", "status", "module keyword", "status", "module use",
             "module list --terse", "module load foo", "module list -t", "status",
+            "module --terse", "ml -t", "module -t avail foo/1",
         ],
         f"{start}:\n{all_of_it}"
         f"{start}:\nbad/1\nbar/b\nfoo/2(default)\nsub/x/2\ntop\n"
@@ -356,7 +357,10 @@ def test_reports_on_standard_error_away_from_a_terminal(here):
         "ERROR: Bad arguments\n"
         f"{start}\n"
         "No Modulefiles Currently Loaded.\n"
-        "Currently Loaded Modulefiles:\nfoo/2\n",
+        "Currently Loaded Modulefiles:\nfoo/2\n"
+        "Currently Loaded Modulefiles:\nfoo/2\n"
+        "Currently Loaded Modulefiles:\nfoo/2\n"
+        f"{start}:\nfoo/1\nfoo/10\n",
     )  # fmt: skip
     same(kept.statuses, ["1", "0", "1", "0"], "the statuses")
 
