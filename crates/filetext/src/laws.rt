@@ -6,6 +6,6 @@ ghost use Rattle.filetext.specs.FileTexts.{HasNoReturns, is_marked, text_of};
 
 /// A text that is UTF-8, without a byte order mark and without a carriage return before a newline, is as it was.
 pub fn unchanged()
-    ensures same { (bytes : Text) → is_marked bytes ≡ false → is_utf8 bytes ≡ true → HasNoReturns bytes
+    ensures { (bytes : Text) → is_marked bytes ≡ false → is_utf8 bytes ≡ true → HasNoReturns bytes
         → text_of bytes ≡ bytes }
 {}

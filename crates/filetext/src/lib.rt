@@ -2,8 +2,8 @@
 //! Takes memory and touches nothing else.
 #![tactic(auto)]
 
-mod file_text;
 mod laws;
+mod texts;
 
-pub use file_text::{FileText, file_text};
 pub use laws::unchanged;
+pub use texts::{FileText, file_text};

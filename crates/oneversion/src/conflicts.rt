@@ -19,14 +19,20 @@ fn is_word(word: &Word<&str>, text: &[u8]) -> bool
 }
 
 /// Whether one of the words is this text.
-fn is_among(words: &[Word<&str>], text: &[u8]) -> bool
+fn has_word(words: &[Word<&str>], text: &[u8]) -> bool
     ensures { result ≡ list_any (λ w. spec.is_word text.now (word_view (λ piece. piece.now) w)) words.now }
 {
     words.iter().any(|word| is_word(word, text))
 }
 
+/// Whether one of the words is this text.
+fn is_among(words: &[Word<&str>], text: &[u8]) -> bool
+    ensures { result ≡ list_any (spec.is_word text.now) (words_view words.now) }
+{
+    has_word(words, text)
+}
+
 /// Whether the words are a conflict with the name.
-#[tactic(auto, using(crate::proofs::Mapped::any_words))]
 fn is_conflict(words: &[Word<&str>], name: &[u8]) -> bool
     ensures { result ≡ spec.is_conflict name.now (words_view words.now) }
 {
@@ -37,7 +43,6 @@ fn is_conflict(words: &[Word<&str>], name: &[u8]) -> bool
 }
 
 /// Whether the command is a conflict with the name.
-#[tactic(auto, using(portforms::proofs::Trees::words_of_command))]
 fn conflicts(command: &Command<&str>, name: &[u8]) -> bool
     ensures { result ≡ spec.conflicts name.now (command_view (λ piece. piece.now) command.now) }
 {
@@ -53,7 +58,6 @@ fn is_one(commands: &[Command<&str>], name: &[u8]) -> bool
 }
 
 /// Whether one of the commands is a conflict with the name.
-#[tactic(auto, using(crate::proofs::Mapped::any_commands))]
 pub(crate) fn has_conflict(commands: &[Command<&str>], name: &[u8]) -> bool
     ensures { result
         ≡ spec.has_conflict name.now (map (command_view (λ piece. piece.now)) commands.now) }

@@ -1,5 +1,5 @@
 use Rattle.filetext.proofs.Same.{unchanged}
 use Rattle.filetext.proofs.laws.unchanged.Goals as goal
 
-pub returns-clause-same : goal.returns-clause-0
-returns-clause-same c = unchanged
+pub returns : goal.returns
+returns c = unchanged
