@@ -1,3 +1,4 @@
 pub mod MentionLemmas
 pub mod DescriptionLemmas
 pub mod HelpLemmas
+pub mod LeftLemmas

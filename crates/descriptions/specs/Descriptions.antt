@@ -1,6 +1,6 @@
 -- What `whatis` without names reports, and `keyword` (module(1)): of all modules that can be loaded, or of those whose
 -- report mentions a text.
-use Rattle.std.specs.Prelude.{◌≡◌, ◌⊎◌, ◌==◌, Bool, true, false, List, [], ◌∷◌, map, flat_map, Option}
+use Rattle.std.specs.Prelude.{◌≡◌, ◌⊎◌, ◌==◌, ℕ, Bool, true, false, List, [], ◌∷◌, map, flat_map, Option}
 use Rattle.std.specs.List.{list_any}
 use Rattle.std.specs.Option.{option_map}
 use Rattle.envvars.specs.Texts.{Text}
@@ -56,10 +56,14 @@ DescribingLooksAt s e at =
     ListingLooksAt (HasResult s.limits) s.files s.listings [] (modulepath e) at
     ⊎ ((names : List Text) × AreAllNames s e names × OneLooksAt s e names at)
 
--- given up for want of memory: in an evaluation, a request or the search
+-- the numbers of want of memory: in an evaluation, a request, the search
+abbrev pub memory_numbers : List ℕ
+memory_numbers = 11 ∷ 31 ∷ 41 ∷ []
+
+-- given up for want of memory
 abbrev pub is_want_of_memory : Outcome → Bool
 is_want_of_memory (Accepted done) = false
-is_want_of_memory (Refused refusal) = list_any (λ n. n == number_of refusal) (11 ∷ 31 ∷ 41 ∷ [])
+is_want_of_memory (Refused refusal) = list_any (λ n. n == number_of refusal) memory_numbers
 
 -- A description of all modules, or of those whose report mentions a text: `text` is what `whatis NAME` writes of each
 -- of these, in order, and `left_out` has a line of each whose own `whatis NAME` is refused.

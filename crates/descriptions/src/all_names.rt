@@ -1,5 +1,5 @@
 //! The names of all modules that can be loaded.
-ghost use Rattle.std.specs.Prelude.{◌≡◌, ◌<◌, map, IfOk, IfErr};
+ghost use Rattle.std.specs.Prelude.{◌≡◌, ◌<◌, [], map, IfOk, IfErr};
 ghost use Rattle.envvars.specs.Texts.{texts_in};
 ghost use Rattle.envvars.specs.Fields.{without_repeats};
 ghost use Rattle.filetree.specs.Agreement.{FailsOnlyAt, InEachPair, ReadsOn};

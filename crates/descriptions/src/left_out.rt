@@ -1,16 +1,23 @@
 //! Modules that are left out of a report, each with the reason.
-ghost use Rattle.std.specs.Prelude.{◌≡◌, ◌++◌, codes, map, IfOk, OnOk, string_bytes};
+ghost use Rattle.std.specs.Prelude.{◌≡◌, ◌==◌, ◌++◌, codes, map, IfOk, OnOk, string_bytes};
 ghost use Rattle.std.specs.List.{list_any};
 ghost use Rattle.modulefile.specs.Reports.{line_of};
 ghost use Rattle.modules.specs.Messages.{message_of};
-ghost use Rattle.descriptions.specs.Descriptions.{is_want_of_memory};
+ghost use Rattle.descriptions.specs.Descriptions.{is_want_of_memory, memory_numbers};
 ghost use Rattle.descriptions.specs.Written.{left_line, left_lines};
 
 use modules::{Outcome, Refusal};
 use std::alloc::{AllocError, Global};
 
-/// The numbers of want of memory: in an evaluation, a request, the search.
-const WANT_OF_MEMORY: [u16; 3] = [11, 31, 41];
+/// Whether the number is one of want of memory: 11 in an evaluation, 31 in a request, 41 in the search.
+fn is_number_of_memory(number: u16) -> bool
+    ensures { result ≡ list_any (λ n. n == number) memory_numbers }
+{
+    match number {
+        11 | 31 | 41 => true,
+        _ => false,
+    }
+}
 
 /// Whether memory ran out in a request.
 fn is_want_of_memory(outcome: &Outcome) -> bool
@@ -18,7 +25,7 @@ fn is_want_of_memory(outcome: &Outcome) -> bool
 {
     match outcome {
         Outcome::Accepted(_) => false,
-        Outcome::Refused(refusal) => WANT_OF_MEMORY.contains(&refusal.number()),
+        Outcome::Refused(refusal) => is_number_of_memory(refusal.number()),
     }
 }
 
