@@ -42,6 +42,7 @@ case xreload:
     set _module_way = libexec/module
     breaksw
 case xis-loaded:
+case xis-avail:
     set _module_way = status
     breaksw
 case xlist:
@@ -53,7 +54,6 @@ case xkeyword:
 case xapropos:
 case xsavelist:
 case xsaveshow:
-case xis-avail:
     set _module_way = report
     breaksw
 endsw

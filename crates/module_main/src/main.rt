@@ -5,12 +5,14 @@
 
 mod collection_commands;
 mod given;
+mod listing_commands;
 mod missing;
 mod refusal;
 
 use collection_commands::do_collection_command;
 use functioncommand::{FunctionOutput, function_output};
 use given::Given;
+use listing_commands::do_listing_command;
 use message::{Message, RefusalKind};
 use missing::MissingDirectories;
 use std::io::Write;
@@ -37,6 +39,9 @@ fn main(rt: HostRuntime) -> ExitCode {
         Err(refusal) => return refused(&rt, refusal.message),
     };
     if let Some(status) = do_collection_command(&rt, &given) {
+        return status;
+    }
+    if let Some(status) = do_listing_command(&rt, &given) {
         return status;
     }
     let working = match &given.working {
