@@ -29,9 +29,12 @@ are_versions_of_one left right = share_folder left.0 right.0
 abbrev pub has_version : ListingEntry → List ListingEntry → Bool
 has_version entry others = list_any (are_versions_of_one entry) others
 
--- one of the modules is a version of the same, and marked as a default
+-- another module is a version of the same, and marked as a default; one of the modules is
+abbrev pub is_default_beside : ListingEntry → ListingEntry → Bool
+is_default_beside entry other = other.1 && are_versions_of_one entry other
+
 abbrev pub has_default : ListingEntry → List ListingEntry → Bool
-has_default entry modules = list_any (λ other. other.1 && are_versions_of_one entry other) modules
+has_default entry modules = list_any (is_default_beside entry) modules
 
 -- The module is a version that is asked for, where these are all, and these come after it: each; the last; or the one
 -- that is marked, and else the last.

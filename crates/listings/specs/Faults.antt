@@ -45,6 +45,15 @@ is_failure faults.BadArguments = false
 is_failure (faults.NoAvailOption word) = false
 is_failure (faults.NoListOption word) = false
 
+-- the fault has a reason
+abbrev pub has_reason : ListingFault → Bool
+has_reason faults.OutOfMemory = false
+has_reason faults.Inconsistent = true
+has_reason faults.Device = false
+has_reason faults.BadArguments = true
+has_reason (faults.NoAvailOption word) = true
+has_reason (faults.NoListOption word) = true
+
 -- what stands behind `ERROR: `
 abbrev pub message_of : ListingFault → Text
 message_of faults.OutOfMemory = (about kinds.MemoryForRequest []).text

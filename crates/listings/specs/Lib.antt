@@ -3,7 +3,6 @@ pub mod Faults
 pub mod Options
 pub mod Texts
 pub mod Finding
-pub mod Hidden
 pub mod Chosen
 pub mod Reports
 pub mod Available

@@ -1,12 +1,12 @@
 //! `avail`: the modules that can be loaded.
-ghost use Rattle.std.specs.Prelude.{◌≡◌, ◌++◌, ◌<◌, map, flat_map, Err, IfErr, IfOk, OnOk, string_bytes};
+ghost use Rattle.std.specs.Prelude.{◌≡◌, ◌<◌, map, Err, IfErr, IfOk, string_bytes};
 ghost use Rattle.envloaded.specs.LoadedEntries.{entry_view};
-ghost use Rattle.filetree.specs.Agreement.{ReadsOn};
+ghost use Rattle.filetree.specs.Agreement.{InEachPair, Narrows};
 ghost use Rattle.filetree.specs.Causes.{Applies};
 ghost use Rattle.search.specs.Listings.{listing_view};
 ghost use Rattle.search.specs.ListingEntries.{listing_entry_view};
 ghost use Rattle.lookup.specs.DefaultFileResults.{HasResult};
-ghost use Rattle.listings.specs.Available.{GivesReport};
+ghost use Rattle.listings.specs.Available.{ReportsAvailable};
 ghost use Rattle.listings.specs.Faults.{cause_of};
 ghost use Rattle.listings.specs.Options as words_spec;
 ghost use Rattle.listings.specs.Reports as spec;
@@ -17,15 +17,14 @@ use crate::chosen::chosen;
 use crate::fault::ListingFault;
 use crate::finding::modulepath;
 use crate::options::{Options, avail_words};
-use crate::readable::readable_modules;
-use crate::terminal::{ReportPart, ReportedName, Terminal, push_shown_line, shown_report};
+use crate::terminal::{ReportPart, ReportedName, Terminal, shown_report};
 use crate::texts::are_beginnings;
 use envloaded::{Loaded, loaded_if_consistent};
 use envvars::Env;
 use filetree::Tree;
 use lookup::EvaluatedDefaultFiles;
 use requests::avail_report as plain_report;
-use search::{DirectoryListing, ListingEntry, path_of};
+use search::{DirectoryListing, ListingEntry, path_of, selected};
 use std::alloc::{AllocError, Global};
 use tclrules::Limits;
 
@@ -133,46 +132,6 @@ fn modules_text(
     shown_report(alloc, terminal, in_lines, &parts)
 }
 
-/// Adds the line of a path that can't be read.
-fn push_unreadable(
-    alloc: Global,
-    report: &mut String,
-    terminal: Option<Terminal>,
-    path: &str,
-) -> Result<(), AllocError>
-    ensures { OnOk result (string_bytes report.new ≡ string_bytes report.old
-        ++ spec.unreadable_line terminal path.now) }
-{
-    let mut line = String::from_str(alloc, path)?;
-    line.push_str(": not readable")?;
-    match terminal {
-        Some(_) => push_shown_line(alloc, report, &line),
-        None => {
-            line.push('\n')?;
-            report.push_str(&line)
-        }
-    }
-}
-
-/// The text of a report on these modules, and on the paths that can't be read.
-fn report_text(
-    alloc: Global,
-    env: &Env,
-    terminal: Option<Terminal>,
-    in_lines: bool,
-    listings: &[DirectoryListing],
-    unreadable: &[String],
-) -> Result<String, AllocError>
-    ensures { IfOk result (λ text. string_bytes text ≡ spec.available_text terminal in_lines
-        (spec.loaded_or_none env.now) (map listing_view listings.now) (map string_bytes unreadable.now)) }
-{
-    let mut report = modules_text(alloc, env, terminal, in_lines, listings)?;
-    for path in unreadable {
-        push_unreadable(alloc, &mut report, terminal, path)?;
-    }
-    Ok(report)
-}
-
 /// The texts by which a search selects: none, which selects all, where they aren't beginnings letter by letter.
 fn searched_texts(options: Options, texts: &[String]) -> &[String]
     ensures { map string_bytes result.now ≡ searched_texts options (map string_bytes texts.entry.now) }
@@ -181,12 +140,11 @@ fn searched_texts(options: Options, texts: &[String]) -> &[String]
 }
 
 /// The report of `avail` with these words: options, and then texts with one of which names begin, or which they have in
-/// them, where an option asks so. What can't be read is left out, and named behind the modules. Without a terminal the
-/// modules are reported as by `modulecmd`; on one, loaded modules are marked too, names stand in columns, or one a line
-/// where an option asks so, and no character of them steers it.
+/// them, where an option asks so. Without a terminal the modules are reported as by `modulecmd`; on one, loaded modules
+/// are marked too, names stand in columns, or one a line where an option asks so, and no character of them steers it.
 ///
-/// The errors: `NoAvailOption`, the words have another option; `Device`, only where the device failed in this call, at a
-/// thousand paths; `OutOfMemory`.
+/// The errors: `NoAvailOption`, the words have another option; `Device`, only where the device failed in this call;
+/// `OutOfMemory`.
 pub fn avail_report<'a, T: Tree>(
     alloc: Global,
     env: &Env,
@@ -195,17 +153,17 @@ pub fn avail_report<'a, T: Tree>(
     tree: &mut T,
     limits: Limits,
 ) -> Result<String, ListingFault<'a>>
-    ensures reads { ReadsOn T.agrees T.failures tree.old tree.new }
-    ensures report { IfOk result (λ text. GivesReport (HasResult limits) T.agrees T.failures T.failed tree.old tree.new
-        terminal env.now (map string_bytes words.entry.now) (string_bytes text)) }
+    ensures narrows { Narrows (T.agrees tree.old) (T.agrees tree.new) }
+    ensures report { IfOk result (λ text. InEachPair (T.agrees tree.new) (λ files folders.
+        ReportsAvailable (HasResult limits) files folders terminal env.now (map string_bytes words.entry.now)
+        (string_bytes text))) }
     ensures fault { IfErr result (λ e. Applies (cause_of e) (T.failures tree.old < T.failures tree.new) (λ reason.
         words_spec.avail_words words_spec.no_options (map string_bytes words.entry.now) ≡ Err reason)) }
 {
     let (options, texts) = avail_words(Options::none(), words)?;
     let default_files = EvaluatedDefaultFiles { limits };
     let searched = searched_texts(options, texts);
-    let readable = readable_modules(alloc, tree, &default_files, searched, modulepath(env))?;
-    let listings = chosen(alloc, options, texts, &readable.listings)?;
-    let unreadable = readable.unreadable.as_slice();
-    Ok(report_text(alloc, env, terminal, options.lines, &listings, unreadable)?)
+    let listings = selected(alloc, tree, &default_files, searched, modulepath(env))?;
+    let listings = chosen(alloc, options, texts, &listings)?;
+    Ok(modules_text(alloc, env, terminal, options.lines, &listings)?)
 }

@@ -44,11 +44,18 @@ fn has_version(entry: &ListingEntry, others: &[ListingEntry]) -> bool
     others.iter().any(|other| are_versions_of_one(entry, other))
 }
 
+/// Whether another module is a version of the same, and marked as a default.
+fn is_default_beside(entry: &ListingEntry, other: &ListingEntry) -> bool
+    ensures { result ≡ spec.is_default_beside (listing_entry_view entry.now) (listing_entry_view other.now) }
+{
+    other.is_default && are_versions_of_one(entry, other)
+}
+
 /// Whether one of the modules is a version of the same, and marked as a default.
 fn has_default(entry: &ListingEntry, modules: &[ListingEntry]) -> bool
     ensures { result ≡ spec.has_default (listing_entry_view entry.now) (map listing_entry_view modules.now) }
 {
-    modules.iter().any(|other| other.is_default && are_versions_of_one(entry, other))
+    modules.iter().any(|other| is_default_beside(entry, other))
 }
 
 /// Whether a module is among the versions that are asked for, where these are all, and these come after it.

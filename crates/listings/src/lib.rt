@@ -6,10 +6,8 @@ mod avail;
 mod chosen;
 mod fault;
 mod finding;
-mod hiding;
 mod list;
 mod options;
-mod readable;
 mod terminal;
 mod texts;
 

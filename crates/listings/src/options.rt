@@ -1,14 +1,14 @@
 //! The options of `avail` and `list`, and the texts behind them.
-ghost use Rattle.std.specs.Prelude.{map, string_bytes};
+ghost use Rattle.std.specs.Prelude.{◌≡◌, map, true, string_bytes, IfErr};
 ghost use Rattle.message.specs.Answers.{Gives};
-ghost use Rattle.listings.specs.Faults.{reason_of};
+ghost use Rattle.listings.specs.Faults.{has_reason, reason_of};
 ghost use Rattle.listings.specs.Options as spec;
 ghost use Rattle.listings.specs.Views.{words_view};
 
 use crate::fault::ListingFault;
 
 /// Which versions of each module are listed.
-#[derive(Clone, Copy, Debug, PartialEq, Eq)]
+#[derive(Clone, Copy)]
 pub(crate) enum Versions {
     /// All of them.
     Every,
@@ -19,7 +19,7 @@ pub(crate) enum Versions {
 }
 
 /// What the options of a report ask for.
-#[derive(Clone, Copy, Debug, PartialEq, Eq)]
+#[derive(Clone, Copy)]
 pub(crate) struct Options {
     /// One name a line, on a terminal too.
     pub lines: bool,
@@ -87,7 +87,8 @@ pub(crate) fn avail_words<'a>(
     options: Options,
     words: &'a [String],
 ) -> Result<(Options, &'a [String]), ListingFault<'a>>
-    ensures { Gives reason_of words_view result (spec.avail_words options (map string_bytes words.entry.now)) }
+    ensures words { Gives reason_of words_view result (spec.avail_words options (map string_bytes words.entry.now)) }
+    ensures reason { IfErr result (λ fault. has_reason fault ≡ true) }
 {
     let [word, rest @ ..] = words else {
         return Ok((options, words));
@@ -113,7 +114,8 @@ pub(crate) fn list_words<'a>(
     options: Options,
     words: &'a [String],
 ) -> Result<(Options, &'a [String]), ListingFault<'a>>
-    ensures { Gives reason_of words_view result (spec.list_words options (map string_bytes words.entry.now)) }
+    ensures words { Gives reason_of words_view result (spec.list_words options (map string_bytes words.entry.now)) }
+    ensures reason { IfErr result (λ fault. has_reason fault ≡ true) }
 {
     let [word, rest @ ..] = words else {
         return Ok((options, words));

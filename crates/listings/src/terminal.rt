@@ -9,7 +9,7 @@ use terminaltext::{Cell, push_table, shown};
 use unicode_width::UnicodeWidthStr;
 
 /// The terminal on which a report is shown.
-#[derive(Clone, Copy, Debug, PartialEq, Eq)]
+#[derive(Clone, Copy, Debug)]
 pub struct Terminal {
     /// How many columns it has.
     pub width: u16,
@@ -90,11 +90,7 @@ fn cells_of(
 }
 
 /// Adds a line of a text as a terminal shows it.
-pub(crate) fn push_shown_line(
-    alloc: Global,
-    report: &mut String,
-    text: &str,
-) -> Result<(), AllocError>
+fn push_shown_line(alloc: Global, report: &mut String, text: &str) -> Result<(), AllocError>
     ensures { OnOk result (string_bytes report.new ≡ string_bytes report.old ++ spec.shown_line text.now) }
 {
     report.push_str(&shown(alloc, text)?)?;
@@ -120,6 +116,7 @@ fn push_heading(
 }
 
 /// Adds the names in columns, below their heading, where there are some.
+#[tactic(auto, using(crate::proofs::PartLemmas::no_columns, crate::proofs::PartLemmas::some_columns))]
 fn push_columns(
     alloc: Global,
     report: &mut String,
@@ -158,6 +155,7 @@ fn push_names(alloc: Global, report: &mut String, names: &[ReportedName]) -> Res
 }
 
 /// Adds the names one a line, below their heading, where there are some.
+#[tactic(auto, using(crate::proofs::PartLemmas::no_lines, crate::proofs::PartLemmas::some_lines))]
 fn push_lines(alloc: Global, report: &mut String, part: &ReportPart) -> Result<(), AllocError>
     ensures { OnOk result (string_bytes report.new ≡ string_bytes report.old ++ spec.lines_text (part_view part.now)) }
 {

@@ -1,5 +1,6 @@
 //! Which names texts fit, by the options of a report.
 ghost use Rattle.std.specs.Prelude.{◌≡◌, map, string_bytes};
+ghost use Rattle.std.specs.List.{list_any};
 ghost use Rattle.listings.specs.Texts as spec;
 
 use crate::options::Options;
@@ -52,11 +53,19 @@ fn fits(options: Options, name: &str, text: &str) -> bool
     }
 }
 
+/// Whether one of the texts fits a name.
+fn one_fits(options: Options, texts: &[String], name: &str) -> bool
+    ensures { result ≡ list_any (spec.fits options name.now) (map string_bytes texts.now) }
+{
+    texts.iter().any(|text| fits(options, name, text.as_str()))
+}
+
 /// Whether one of the texts fits a name, or there are none.
+#[tactic(auto, using(crate::proofs::ListLemmas::meant_or))]
 pub(crate) fn is_meant(options: Options, texts: &[String], name: &str) -> bool
     ensures { result ≡ spec.is_meant options (map string_bytes texts.now) name.now }
 {
-    texts.is_empty() || texts.iter().any(|text| fits(options, name, text.as_str()))
+    texts.is_empty() || one_fits(options, texts, name)
 }
 
 /// Whether the texts mean what they mean to a search: they are beginnings, letter by letter.

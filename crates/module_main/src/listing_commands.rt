@@ -22,7 +22,11 @@ const USUAL_COLUMNS: u16 = 80;
 
 /// The terminal to which a report goes, where it goes to one.
 fn terminal(env: &Env) -> Option<Terminal> {
-    let width = match env.get(COLUMNS)?.parse() {
+    let columns = env.get(COLUMNS)?;
+    if columns.is_empty() {
+        return None;
+    }
+    let width = match columns.parse() {
         Ok(width) => width,
         Err(_) => USUAL_COLUMNS,
     };

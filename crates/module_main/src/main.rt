@@ -1,4 +1,4 @@
-//! The program `module SHELL SUBCOMMAND [WORD...]`: `use`, `unuse`, `is-loaded`, collections, and what a word means.
+//! The program `module SHELL SUBCOMMAND [WORD...]`: `use`, `unuse`, `is-loaded`, collections, listings, what a word means.
 //! Touches its arguments, environment, working directory and standard streams, reads files, and writes collections.
 //! Nothing stands above it; it has no clause, so it has little code.
 #![tactic(auto)]
