@@ -1,5 +1,5 @@
 -- Parts of a report, with and without names.
-use Rattle.std.proofs.Common.{◌≡◌, ◌<◌, Bool, true, List, [], ◌∷◌, ◌++◌, flat_map, map, length, refl, arith}
+use Rattle.std.proofs.Common.{◌≡◌, ◌<◌, List, [], ◌∷◌, ◌++◌, flat_map, map, length, refl, arith}
 use Rattle.message.specs.Messages.{Text}
 use Rattle.terminaltext.specs.Tables.{table_text}
 use Rattle.listings.specs.Reports.{cell_of, columns_text, heading_line, lines_text, name_line, shown_line}

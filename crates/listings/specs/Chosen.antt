@@ -1,6 +1,6 @@
 -- What a report of `avail` names of listings (module(1), avail): the modules that its texts mean, and of each module the
 -- versions that are asked for.
-use Rattle.std.specs.Prelude.{Bool, true, false, not, ◌&&◌, ◌||◌, ◌==◌, List, [], ◌∷◌, map, filter, bytes_eq, if◌then◌else◌}
+use Rattle.std.specs.Prelude.{Bool, true, false, not, ◌&&◌, ◌||◌, ◌==◌, List, [], ◌∷◌, map, filter, if◌then◌else◌}
 use Rattle.std.specs.List.{list_any}
 use Rattle.message.specs.Messages.{Text}
 use Rattle.modulename.specs.ModuleName.{slash}

@@ -1,5 +1,5 @@
 -- The reports of `avail` and `list` (module(1)). On a terminal no character steers it; into a pipe bytes go as they are.
-use Rattle.std.specs.Prelude.{◌≡◌, ℕ, Bool, true, false, ◌&&◌, List, [], ◌∷◌, ◌++◌, map, filter, bytes_eq, chars, codes}
+use Rattle.std.specs.Prelude.{Bool, true, false, ◌&&◌, List, [], ◌∷◌, ◌++◌, map, filter, bytes_eq, chars, codes}
 use Rattle.std.specs.Prelude.{Option, Some, None, Result, Ok, Err, if◌then◌else◌, unwrap_or}
 use Rattle.std.specs.List.{flat_map, list_any}
 use Rattle.message.specs.Messages.{Text}

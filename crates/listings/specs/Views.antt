@@ -2,7 +2,6 @@
 use Rattle.std.specs.Prelude.{List, map, string_bytes, String, vec_items}
 use Rattle.std.specs.Borrow.{Bor}
 use Rattle.std.specs.declared.alloc.Global.{Global}
-use Rattle.message.specs.Messages.{Text}
 use Rattle.listings.specs.declared.options.Options.{Options}
 use Rattle.listings.specs.declared.terminal.ReportedName.{ReportedName}
 use Rattle.listings.specs.declared.terminal.ReportPart.{ReportPart}

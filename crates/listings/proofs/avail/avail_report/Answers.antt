@@ -1,4 +1,4 @@
-use Rattle.std.proofs.Common.{◌≡◌, ◌<◌, List, Ok, map, String, Global, string_bytes, subst, ap, ◌∙◌}
+use Rattle.std.proofs.Common.{◌≡◌, List, Ok, map, String, Global, string_bytes, subst, ap, ◌∙◌}
 use Rattle.std.proofs.lemmas.Result.{err_from_is_err_and}
 use Rattle.message.specs.Messages.{Text}
 use Rattle.search.specs.Listed.{Listing, Listed}

@@ -1,4 +1,4 @@
-use Rattle.std.proofs.Common.{◌≡◌, Bool, true, ◌||◌, List, ℕ, [], ◌∷◌, refl, sym, ap, ◌∙◌}
+use Rattle.std.proofs.Common.{◌≡◌, Bool, true, ◌||◌, List, ℕ, [], ◌∷◌, sym, ap, ◌∙◌}
 use Rattle.listings.specs.Texts.{stands_in_front, stands_within}
 use Rattle.listings.proofs.texts.+stands_within.Goals as goal
 
