@@ -19,8 +19,8 @@ _PREFIX = "@prefix@"
 # The programs by the names of the subcommands that they do.
 _PROGRAMS = {
     "bin/modulecmd": "load add unload rm switch swap purge",
-    "libexec/module": "use unuse is-loaded save saverm restore reload",
-    "libexec/report": "help --help list avail show display whatis keyword apropos savelist saveshow is-avail",
+    "libexec/module": "use unuse is-loaded is-avail save saverm restore reload",
+    "libexec/report": "help --help list avail show display whatis keyword apropos savelist saveshow",
     "libexec/usage": "--version",
 }
 

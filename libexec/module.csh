@@ -63,6 +63,7 @@ case xreload:
     set _module_way = libexec/module
     breaksw
 case xis-loaded:
+case xis-avail:
     set _module_way = status
     breaksw
 case xlist:
@@ -74,7 +75,6 @@ case xkeyword:
 case xapropos:
 case xsavelist:
 case xsaveshow:
-case xis-avail:
     set _module_way = report
     breaksw
 endsw

@@ -1,13 +1,14 @@
-"""What the program `module` answers of the commands that the function adds: `use`, `unuse`, `is-loaded`, and which
-subcommand a word means. Each row is typed by hand from module(1).
+"""What the program `module` answers of the commands that the function adds: `use`, `unuse`, `is-loaded`, `is-avail`,
+`avail` and `list` with options, and which subcommand a word means. Each row is typed by hand from module(1).
 """
 
 import os
+import shutil
 import subprocess
 
 import pytest
 
-from tests.harness import SECONDS, dynamic, evaluated, refuser, refuses_each, same
+from tests.harness import NOBODY, SECONDS, dynamic, evaluated, refuser, refuses_each, same, true
 
 LOADED = {"LOADEDMODULES": "gcc/12.3:mpi/4", "_LMFILES_": "/m/gcc/12.3:/m/mpi/4"}
 NOT_THERE = "There is no directory '{}' yet.\n"
@@ -136,6 +137,76 @@ HELPS = [
 ]
 MANUAL = '"module show NAME" says what a module does. Manual pages:\n  man module\n  man modulefile\n'
 
+# The modules of a directory. ver/1.9 is the default of ver.
+MODULES = ("gcc/9", "gcc/10", "gcc/12", "Lib/app/1", "Lib/app/2", "tool", "ver/1.9", "ver/1.10", "ver/1.10-rc")
+
+# The words behind `avail`, and the names in its report.
+LISTED = [
+    ([], "Lib/app/1 Lib/app/2 gcc/9 gcc/10 gcc/12 tool ver/1.9(default) ver/1.10 ver/1.10-rc"),
+    (["-t"], "Lib/app/1 Lib/app/2 gcc/9 gcc/10 gcc/12 tool ver/1.9(default) ver/1.10 ver/1.10-rc"),
+    (["gcc/1", "to"], "gcc/10 gcc/12 tool"),
+    (["nope"], ""),
+    (["app"], ""),
+    (["-d"], "Lib/app/2 gcc/12 tool ver/1.9(default)"),
+    (["--default", "gcc/1", "ver"], "gcc/12 ver/1.9(default)"),
+    (["-d", "ver/1.10"], "ver/1.10-rc"),
+    (["-L"], "Lib/app/2 gcc/12 tool ver/1.10-rc"),
+    (["--latest", "--terse", "Lib"], "Lib/app/2"),
+    (["-d", "-L", "ver"], "ver/1.10-rc"),
+    (["-L", "-d", "ver"], "ver/1.9(default)"),
+    (["-C", "app"], "Lib/app/1 Lib/app/2"),
+    (["--contains", "/1", "oo"], "Lib/app/1 gcc/10 gcc/12 tool ver/1.9(default) ver/1.10 ver/1.10-rc"),
+    (["-i", "lib"], "Lib/app/1 Lib/app/2"),
+    (["--icase", "GCC/1", "T"], "gcc/10 gcc/12 tool"),
+    (["-i", "APP"], ""),
+    (["-C", "-i", "APP/2"], "Lib/app/2"),
+    (["-C", "APP"], ""),
+    (["-C"], "Lib/app/1 Lib/app/2 gcc/9 gcc/10 gcc/12 tool ver/1.9(default) ver/1.10 ver/1.10-rc"),
+    (["-C", "-L", "er"], "ver/1.10-rc"),
+    (["--", "tool"], "tool"),
+    (["--", "-t"], ""),
+    (["tool", "-t"], "tool"),
+]
+
+# The words behind `list`, what is loaded, and the report.
+LOADED_REPORTS = [
+    ([], {}, "No Modulefiles Currently Loaded.\n"),
+    (["gcc"], {}, "No Modulefiles Currently Loaded.\n"),
+    ([], LOADED, "Currently Loaded Modulefiles:\ngcc/12.3\nmpi/4\n"),
+    (["-t"], LOADED, "Currently Loaded Modulefiles:\ngcc/12.3\nmpi/4\n"),
+    (["--terse", "mpi", "x"], LOADED, "Currently Loaded Modulefiles:\nmpi/4\n"),
+    (["--", "gcc"], LOADED, "Currently Loaded Modulefiles:\ngcc/12.3\n"),
+    (["12"], LOADED, "No loaded module begins so.\n"),
+    (["GCC"], LOADED, "No loaded module begins so.\n"),
+]
+
+# The words behind `avail` or `list` that have an option that is none, and the option.
+NO_OPTIONS = [
+    (["avail", "--nope"], "--nope"),
+    (["avail", "-t", "-x", "gcc"], "-x"),
+    (["avail", "-"], "-"),
+    (["avail", "-td"], "-td"),
+    (["list", "-d"], "-d"),
+    (["list", "--nope", "gcc"], "--nope"),
+]
+
+# The words behind `is-avail`, and the status.
+AVAILABLE = [
+    (["gcc"], 0),
+    (["gcc/10"], 0),
+    (["ver"], 0),
+    (["tool"], 0),
+    (["Lib/app"], 0),
+    (["Lib"], 1),
+    (["gc"], 1),
+    (["GCC"], 1),
+    (["nope", "tool"], 0),
+    (["nope", "no/1"], 1),
+    (["gcc/"], 1),
+    (["../m/tool", "*", ""], 1),
+    (["-t"], 1),
+]
+
 
 @pytest.fixture(scope="session")
 def program(built):
@@ -150,10 +221,19 @@ def place(tmp_path):
     return str(tmp_path)
 
 
-def run(program, words, env=None, cwd=None):
+def run(program, words, env=None, cwd=None, **more):
     return subprocess.run(
-        [program, *words], env=env or {}, cwd=cwd, capture_output=True, text=True, timeout=SECONDS, check=False
+        [program, *words], env=env or {}, cwd=cwd, capture_output=True, text=True, timeout=SECONDS, check=False, **more
     )
+
+
+@pytest.fixture
+def modules(folder):
+    """The variable with a directory of modules."""
+    for name in MODULES:
+        folder.module(name, "")
+    folder.file("ver/.version", "#%Module\nset ModulesVersion 1.9\n")
+    return {"MODULEPATH": os.fsdecode(folder.modules)}
 
 
 def outcome(done):
@@ -270,6 +350,181 @@ def test_help_of_several_modules(program, folder):
 def test_loaded_lists_that_contradict_one_another(program):
     done = run(program, ["sh", "is-loaded", "gcc"], {"LOADEDMODULES": "gcc/12.3"})
     same((done.returncode, done.stdout, done.stderr.startswith("ERROR: ")), (1, "", True), "lists")
+
+
+@pytest.mark.parametrize("words, names", LISTED)
+def test_avail(program, modules, words, names):
+    directory = modules["MODULEPATH"]
+    report = "".join(f"{line}\n" for line in (f"{directory}:", *names.split())) if names else ""
+    same(outcome(run(program, ["sh", "avail", *words], modules)), (0, "", report), f"avail {words}")
+
+
+def test_avail_of_several_directories(program, place):
+    for name in ("a/gcc/1", "b/gcc/1", "b/gcc/2"):
+        os.makedirs(os.path.join(place, os.path.dirname(name)), exist_ok=True)
+        with open(os.path.join(place, name), "w") as file:
+            file.write("#%Module\n")
+    env = {"MODULEPATH": f"{place}/b:{place}/nope::{place}/a:{place}/b"}
+    report = f"{place}/b:\ngcc/2\n{place}/a:\ngcc/1\n{place}/b:\ngcc/2\n"
+    same(outcome(run(program, ["sh", "avail", "-L"], env)), (0, "", report), "a directory twice")
+    same(outcome(run(program, ["sh", "avail"])), (0, "", ""), "no MODULEPATH")
+
+
+@pytest.mark.parametrize("words, option", NO_OPTIONS)
+def test_options_that_are_none(program, modules, words, option):
+    said = f"ERROR: '{words[0]}' has no option '{option}'\n"
+    same(outcome(run(program, ["sh", *words], modules)), (1, "", said), f"{words}")
+
+
+@pytest.mark.parametrize("words, env, report", LOADED_REPORTS)
+def test_list(program, words, env, report):
+    same(outcome(run(program, ["sh", "list", *words], env)), (0, "", report), f"list {words}")
+
+
+@pytest.mark.parametrize("names, status", AVAILABLE)
+def test_is_avail(program, modules, names, status):
+    same(outcome(run(program, ["sh", "is-avail", *names], modules)), (status, "", ""), f"is-avail {names}")
+
+
+def test_is_avail_says_no_where_a_load_is_refused_before_its_file_is_evaluated(program, folder, modules):
+    folder.module("bad/1", "")
+    folder.file("bad/.modulerc", "#%Module\nmodule-alias b bad/1\n")
+    folder.file("bytes/1", b"#%Module\n\xff\n")
+    for names, status in ((["bad"], 1), (["bad/1"], 0), (["bytes/1"], 1), (["bytes/1", "tool"], 0)):
+        same(outcome(run(program, ["sh", "is-avail", *names], modules)), (status, "", ""), f"is-avail {names}")
+    same(outcome(run(program, ["sh", "is-avail"], modules)), (1, "", "ERROR: Bad arguments\n"), "no name")
+
+
+def as_nobody(program, folder):
+    """The program where any user may run it, and how it is run by one who owns nothing."""
+    copy = os.path.join(os.fsdecode(folder.path), "module")
+    shutil.copy(program, copy)
+    by_nobody = {"user": NOBODY, "group": NOBODY, "extra_groups": []} if os.geteuid() == 0 else {}
+    return copy, by_nobody
+
+
+def test_avail_where_something_cannot_be_read(program, folder, modules):
+    """It is refused where it has to look there, as by the program `modulecmd`."""
+    program, by_nobody = as_nobody(program, folder)
+    at = modules["MODULEPATH"]
+    os.chmod(f"{at}/Lib/app", 0)
+    failed = (1, "", "ERROR: Reading failed\n")
+    for words, wanted in (
+        ([], failed),
+        (["Lib"], failed),
+        (["-C", "gcc/1"], failed),
+        (["gcc/1"], (0, "", f"{at}:\ngcc/10\ngcc/12\n")),
+    ):
+        done = run(program, ["sh", "avail", *words], modules, **by_nobody)
+        same(outcome(done), wanted, f"avail {words}")
+
+
+def test_is_avail_where_something_cannot_be_read(program, folder, modules):
+    """Only what a load's search looks at counts."""
+    program, by_nobody = as_nobody(program, folder)
+    os.chmod(os.path.join(modules["MODULEPATH"], "gcc"), 0)
+    found, failed = (0, "", ""), (1, "", "ERROR: Reading failed\n")
+    for names, wanted in (("tool", found), ("tool gcc", found), ("gcc", failed), ("no gcc tool", failed)):
+        done = run(program, ["sh", "is-avail", *names.split()], modules, **by_nobody)
+        same(outcome(done), wanted, f"is-avail {names}")
+
+
+def on_terminal(columns, colours=""):
+    """The variables by which the function says that a report goes to a terminal."""
+    return {"MODULECMD_COLUMNS": str(columns), "MODULECMD_COLOURS": colours}
+
+
+# What a terminal of 80 columns shows of the modules, where gcc/12 and ver/1.9 are loaded.
+TABLE = """\
+Lib/app/1                 gcc/10                    ver/1.9(default, loaded)
+Lib/app/2                 gcc/12(loaded)            ver/1.10
+gcc/9                     tool                      ver/1.10-rc
+"""
+
+
+def test_reports_on_a_terminal(program, modules):
+    at = modules["MODULEPATH"]
+    loaded = {"LOADEDMODULES": "gcc/12:ver/1.9:gone/1", "_LMFILES_": f"{at}/gcc/12:{at}/ver/1.9:/m/gone/1"}
+    marked = ("gcc/12(loaded)", "ver/1.9(default, loaded)")
+    lines = "Lib/app/1\nLib/app/2\ngcc/9\ngcc/10\n{}\ntool\n{}\nver/1.10\nver/1.10-rc\n".format(*marked)
+    names = "Currently Loaded Modulefiles:\n"
+    for words, terminal, report in (
+        (["avail"], on_terminal(80), f"{at}:\n{TABLE}"),
+        (["avail"], on_terminal("x"), f"{at}:\n{TABLE}"),
+        (["avail"], on_terminal(49), f"{at}:\n{lines}"),
+        (["avail"], on_terminal(0), f"{at}:\n{lines}"),
+        (["avail", "-t"], on_terminal(80, "1"), f"{at}:\n{lines}"),
+        (["avail", "ver/1.9"], on_terminal(80, "1"), f"\033[1m{at}:\033[0m\nver/1.9\033[32m(default, loaded)\033[0m\n"),
+        (["avail", "gcc/12"], on_terminal(80, "1"), f"\033[1m{at}:\033[0m\ngcc/12(loaded)\n"),
+        (["list"], on_terminal(80), f"{names}gcc/12   ver/1.9  gone/1\n"),
+        (["list"], on_terminal(16), f"{names}gcc/12   gone/1\nver/1.9\n"),
+        (["list", "-t"], on_terminal(80), f"{names}gcc/12\nver/1.9\ngone/1\n"),
+        (["list", "g"], on_terminal(80, "1"), "\033[1mCurrently Loaded Modulefiles:\033[0m\ngcc/12  gone/1\n"),
+    ):
+        done = run(program, ["sh", *words], {**modules, **loaded, **terminal})
+        same(outcome(done), (0, "", report), f"{words} by {terminal}")
+    contradicting = {**modules, "LOADEDMODULES": "gcc/12", **on_terminal(80)}
+    same(outcome(run(program, ["sh", "avail", "gcc/12"], contradicting)), (0, "", f"{at}:\ngcc/12\n"), "the lists")
+
+
+def test_columns_are_as_wide_as_their_names(program, folder):
+    """é takes one column in two bytes, and 日 two columns in three."""
+    for name in ("a/日", "b/1", "é/1", "f/1"):
+        folder.module(name, "")
+    at = os.fsdecode(folder.modules)
+    for columns, table in (
+        (9, "a/日\nb/1\nf/1\né/1\n"),
+        (10, "a/日  f/1\nb/1   é/1\n"),
+        (16, "a/日  f/1\nb/1   é/1\n"),
+        (22, "a/日  b/1   f/1   é/1\n"),
+    ):
+        env = {"MODULEPATH": at, "LC_ALL": "C", **on_terminal(columns)}
+        done = run(program, ["sh", "avail"], env, encoding="utf-8")
+        same(outcome(done), (0, "", f"{at}:\n{table}"), f"columns of {columns}")
+
+
+# Characters that steer a terminal: C0, DEL, C1, ends of lines, and marks of direction.
+STEERING = "\x01\x1b\x7f\x80\x9b\x9f\u061c\u200e\u200f\u2028\u2029\u202a\u202e\u2066\u2069"
+
+
+@pytest.mark.parametrize("character", STEERING)
+def test_characters_that_steer_reach_no_terminal(program, folder, character):
+    folder.module(f"a{character}b/1", "")
+    at = os.fsdecode(folder.modules)
+    env = {"MODULEPATH": at, "LOADEDMODULES": f"a{character}b/1", "_LMFILES_": f"{at}/a{character}b/1"}
+
+    def report(words, more):
+        command = [program, "sh", *words]
+        done = subprocess.run(command, env={**env, **more}, capture_output=True, timeout=SECONDS, check=True)
+        return done.stderr.decode()
+
+    for words in (["avail"], ["avail", "-t"]):
+        same(report(words, {}), f"{at}:\na{character}b/1\n", f"{words} into a pipe")
+        same(report(words, on_terminal(80)), f"{at}:\na?b/1(loaded)\n", f"{words} on a terminal")
+    for words in (["list"], ["list", "-t"]):
+        same(report(words, {}), f"Currently Loaded Modulefiles:\na{character}b/1\n", f"{words} into a pipe")
+        same(report(words, on_terminal(80)), "Currently Loaded Modulefiles:\na?b/1\n", f"{words} on a terminal")
+
+
+def test_memory_of_listings(program, folder, modules, tmp_path):
+    """Each growth that is refused ends it with its reason alone."""
+    shim = refuser(os.fsencode(tmp_path))
+    at = modules["MODULEPATH"]
+    lists = {"LOADEDMODULES": "gcc/12:tool", "_LMFILES_": f"{at}/gcc/12:{at}/tool"}
+    plain = {name.encode(): value.encode() for name, value in {**modules, **lists}.items()}
+    shown = {name.encode(): value.encode() for name, value in {**modules, **lists, **on_terminal(40, "1")}.items()}
+    for words, env in (
+        (["avail", "-d", "ver", "gcc"], plain),
+        (["avail", "-C", "c"], shown),
+        (["list", "gcc"], plain),
+        (["list"], shown),
+        (["is-avail", "nope", "ver"], plain),
+    ):
+
+        def asked(more, words=words, env=env):
+            return outcome(run(dynamic(program), ["sh", *words], {**env, **more}))
+
+        refuses_each(shim, asked, (1, "", "ERROR: Out of memory\n").__eq__, words)
 
 
 def test_the_working_directory(program, place):

@@ -204,7 +204,6 @@ def test_reports_are_the_same_by_every_awk_and_sh(here, folder, under):
     for words, err in (
         (["avail", "-L"], f"{here.start}:\nfoo/10\n"),
         (["keyword", "THE FOO/2"], "foo/2: the foo/2 tool\n"),
-        (["is-avail", "nope", "foo"], ""),
         (["use"], f"{here.start}\n"),
     ):
         here.answers(words, err=err, program="report", under=under)
@@ -322,26 +321,10 @@ def test_variables_of_the_user_stay_what_they_are(here, folder):
     here.answers(["reload"])
 
 
-def test_columns_are_as_wide_as_their_names(product):
-    names = "/m:\né/1\nab/1\nc\033/1\nd/1\n/n:\nlong/name\n".encode()
-    for width, colour, wanted in (
-        (14, 0, "/m:\né/1   c?/1\nab/1  d/1\n/n:\nlong/name\n"),
-        (22, 0, "/m:\né/1   ab/1  c?/1  d/1\n/n:\nlong/name\n"),
-        (1, 1, "\033[1m/m:\033[0m\né/1\nab/1\nc?/1\nd/1\n\033[1m/n:\033[0m\nlong/name\n"),
-    ):
-        command = ["awk", "-v", "wanted=columns", "-v", f"width={width}", "-v", f"colour={colour}", "-f"]
-        command.append(os.path.join(product, "libexec/listing.awk"))
-        env = {"PATH": os.environ["PATH"], "LC_ALL": "C"}
-        done = subprocess.run(command, input=names, env=env, capture_output=True, check=True)
-        same(done.stdout.decode(), wanted, f"columns of {width}")
-
-
 def test_a_heading_of_several_lines_names_no_module(here):
     odd = here.start + "\nnope/1\nx"
     os.makedirs(odd + "/foo")
     with open(odd + "/foo/1", "w") as file:
-        file.write("#%Module\n")
+        file.write("#%Module\nmodule-whatis {a tool}\n")
     here.env[b"MODULEPATH"] = odd.encode()
-    here.answers(["is-avail", "foo/1"], program="report")
-    here.answers(["is-avail", "nope/1"], status=1, program="report")
-    here.answers(["is-avail", "*", "?oo", "foo*"], status=1, program="report")
+    here.answers(["keyword", "o"], err="foo/1: a tool\n", program="report")

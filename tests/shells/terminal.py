@@ -16,9 +16,9 @@ ERROR = b"ERROR: no\n"
 @at_terminals
 def test_pipes_reports(scripted, start):
     at = start(scripted)
-    report = b"Currently Loaded Modulefiles:\nfoo/1.0\n"
-    piped = b"piped Currently Loaded Modulefiles:\npiped foo/1.0\n"
-    lines = ("module list", "module show foo/1.0", "ml list", "module whatis foo", "module display foo")
+    report = b"/m/foo/1.0:\nsetenv FOO on\n"
+    piped = b"piped /m/foo/1.0:\npiped setenv FOO on\n"
+    lines = ("module show foo/1.0", "ml show foo", "module whatis foo", "module display foo")
     for number, line in enumerate(lines):
         scripted.stand_in.answer(b"", report)
         at.types(f"{line} | /bin/sed -e 's/^/piped /' > '{at.at(number)}'")
@@ -30,7 +30,7 @@ def test_hands_on_the_status_of_a_report_and_pipes_nothing_else(scripted, shell,
     at = start(scripted)
     scripted.stand_in.answer(b"", ERROR, 7)
     scripted.stand_in.answer(b"", b"message\n", 0)
-    at.types(f"module list; echo {shell.says.status} > '{at.at('status')}'")
+    at.types(f"module show foo; echo {shell.says.status} > '{at.at('status')}'")
     at.keeps("status", b"7\n", "the status")
     at.settle(0.1)
     scripted.stand_in.answer(b"", ERROR, 1)
@@ -43,12 +43,11 @@ def test_hands_on_the_status_of_a_report_and_pipes_nothing_else(scripted, shell,
 
 
 @at_terminals
-def test_says_why_avail_finds_nothing(scripted, shell, start):
-    at = start(scripted)
-    scripted.stand_in.write("avail", b"")
+def test_says_why_avail_finds_nothing(real, shell, start):
+    at = start(real)
     # What is typed, and what the terminal shows; the pipe takes nothing.
     typed = {
-        "module avail": b"No module is in the directories of MODULEPATH: " + scripted.folder.modules,
+        "module avail": b"No module is in the directories of MODULEPATH: " + real.folder.modules,
         "module avail 'gcc*'": b'"avail" takes the beginnings of names',
         "ml avail --terse z": b"capitals as they are; no patterns.",
         f"{shell.says.unsets.format('MODULEPATH')}; module avail": b"No MODULEPATH is set.",
@@ -57,14 +56,17 @@ def test_says_why_avail_finds_nothing(scripted, shell, start):
     for number, (line, shown) in enumerate(typed.items()):
         at.shows(f"{line} | /bin/cat > '{at.at(number)}'", shown)
         same(content(at.at(number)), b"", f"what `{line}` pipes")
-    scripted.stand_in.write("avail", b"/m:\nfoo/1.0\n")
-    at.settle(0.1)
+
+
+@at_terminals
+def test_pipes_what_avail_finds_and_its_refusal(real, shell, start):
+    real.folder.module("foo/1.0", "")
+    at = start(real)
     at.types(f"module avail f > '{at.at('found')}'")
-    at.keeps("found", b"/m:\nfoo/1.0\n", "what is found")
-    os.remove(os.path.join(scripted.stand_in.path, "avail"))
-    at.types(f"module avail f > '{at.at('refused')}'; echo {shell.says.status} > '{at.at('status')}'")
+    at.keeps("found", real.folder.modules + b":\nfoo/1.0\n", "what is found")
+    at.types(f"module avail --nope > '{at.at('refused')}'; echo {shell.says.status} > '{at.at('status')}'")
     at.keeps("status", b"1\n", "the status of a refusal")
-    same(content(at.at("refused")), b"ERROR: Reading failed\n", "a refusal")
+    same(content(at.at("refused")), b"ERROR: 'avail' has no option '--nope'\n", "a refusal")
 
 
 @at_terminals
@@ -142,7 +144,8 @@ def test_shows_reports_in_columns(real, shell, modules, start):
     title = BOLD + b"Currently Loaded Modulefiles" + HEADING
     at.shows("module load mpi top; module list", title, b"mpi/1  top\r\n")
     no_colour = shell.says.sets.format("NO_COLOR", "1")
-    at.shows(f"{no_colour}; module avail", modules + b":\r\n" + plain + b"\r\n")
+    marked = plain.replace(b"mpi/1        ", b"mpi/1(loaded)") + b"(loaded)"
+    at.shows(f"{no_colour}; module avail", modules + b":\r\n" + marked + b"\r\n")
     at.settle(0.1)
     for number, line in enumerate(("module avail", "module avail -t")):
         at.types(f"{line} | /bin/cat > '{at.at(number)}'")

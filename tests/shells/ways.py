@@ -74,8 +74,6 @@ OTHER_NAMES = {
     "module swa foo": ["swap", "foo"],
     "ml sw foo": ["switch", "foo"],
     "module pu": ["purge"],
-    "module li": ["list"],
-    "ml li": ["list"],
     "module disp 'a  b'": ["show", "a  b"],
     "module wh foo": ["whatis", "foo"],
     "module load a:del": ["load", "a:del"],
@@ -93,13 +91,17 @@ def test_takes_other_names_and_beginnings_of_subcommands(scripted, shell):
 
 @with_redirections
 def test_takes_beginnings_of_what_else_it_does(scripted, shell):
-    scripted.stand_in.write("avail", b"said 0\n")
+    scripted.folder.module("foo/1.0", "")
     path = scripted.folder.path.decode()
-    lines = [f"module av said {shell.says.to_file} '{path}/av'", f"ml av {shell.says.to_pipe} /bin/cat > '{path}/ml'"]
+    lines = [f"module av f {shell.says.to_file} '{path}/av'", f"ml av {shell.says.to_pipe} /bin/cat > '{path}/ml'"]
+    lines += [f"module li {shell.says.to_file} '{path}/li'", f"ml li {shell.says.to_pipe} /bin/cat > '{path}/ml-li'"]
     lines += [f"module -V > '{path}/version'", f"ml -V | /bin/cat > '{path}/ml-version'"]
     lines += [f"module -h > '{path}/help'", f"ml -h > '{path}/ml-help'"]
     scripted.keeps(lines)
-    same((content(f"{path}/av"), content(f"{path}/ml")), (b"said 0\n", b"said 0\n"), "the reports")
+    report = scripted.folder.modules + b":\nfoo/1.0\n"
+    same((content(f"{path}/av"), content(f"{path}/ml")), (report, report), "the reports of avail")
+    report = b"No Modulefiles Currently Loaded.\n"
+    same((content(f"{path}/li"), content(f"{path}/ml-li")), (report, report), "the reports of list")
     for name, begins in (("version", b"modulecmd "), ("help", b"usage: module")):
         true(content(f"{path}/{name}").startswith(begins), name)
         same(content(f"{path}/ml-{name}"), content(f"{path}/{name}"), f"{name} by ml")
@@ -214,12 +216,11 @@ def test_names_pages_that_man_finds(real):
 
 
 def test_ml_lists_loads_and_unloads(scripted):
-    scripted.will_answer(0, 0, 0, 0, 0, 3, 0, 0)
+    scripted.will_answer(0, 0, 0, 0, 3, 0, 0)
     lines = ["ml", "ml foo bar/1", "ml -foo -bar", "ml foo -bar -b-c baz", "status", "ml foo -bar", "status"]
-    kept = scripted.keeps([*lines, "ml purge", "ml avail-x"])
+    kept = scripted.keeps([*lines, "ml purge", "ml avail-x"], err=b"No Modulefiles Currently Loaded.\n")
     same(kept.statuses, ["0", "3"], "the statuses")
     wanted = [
-        ["list"],
         ["load", "foo", "bar/1"],
         ["unload", "foo", "bar"],
         ["unload", "bar", "b-c"],
@@ -240,25 +241,28 @@ def test_ml_unloads_and_loads_where_PATH_leads_nowhere(scripted, shell):
 
 def test_leaves_reports_on_standard_error_away_from_a_terminal(scripted):
     report = b"/m:\nfoo/1.0\n"
-    for _ in range(5):
+    for _ in range(3):
         scripted.stand_in.answer(b"", report)
-    lines = ["module list", "module show a", "module display a", "module whatis a", "ml", "status"]
-    kept = scripted.keeps(lines, err=report * 5)
+    lines = ["module show a", "module display a", "module whatis a", "module list", "ml", "status"]
+    kept = scripted.keeps(lines, err=report * 3 + b"No Modulefiles Currently Loaded.\n" * 2)
     same(kept.statuses, ["0"], "the status")
 
 
 COMMANDS = (
-    "load foo", "unload foo", "switch foo", "purge", "list", "show foo", "whatis foo", "nope", "avail said", "add foo",
+    "load foo", "unload foo", "switch foo", "purge", "list", "show foo", "whatis foo", "nope", "avail -x", "add foo",
     "rm foo", "swap a b", "display foo", "del foo", "remove foo",
 )  # fmt: skip
 
-# Those of which the function says that they are none.
-REFUSED = {"nope": b"ERROR: Unknown subcommand 'nope'\n"}
+# What the program of the function says of some of them, and that `nope` is none.
+SAID = {
+    "list": b"No Modulefiles Currently Loaded.\n",
+    "avail -x": b"ERROR: 'avail' has no option '-x'\n",
+    "nope": b"ERROR: Unknown subcommand 'nope'\n",
+}
 
 
 @with_redirections
 def test_lets_every_subcommand_be_redirected_and_piped(scripted, shell):
-    scripted.stand_in.write("avail", b"said 0\n")
     lines, wanted = [], {}
     # `ml` loads what isn't its own word.
     ways = {
@@ -270,10 +274,8 @@ def test_lets_every_subcommand_be_redirected_and_piped(scripted, shell):
         for way, line in ways.items():
             path = os.path.join(scripted.folder.path, f"{number}.{way}".encode()).decode()
             lines.append(line.format(command, path))
-            if command == "avail said":
-                wanted[path] = b"said 0\n"
-            elif command in REFUSED and way != "short":
-                wanted[path] = REFUSED[command]
+            if command in SAID and not (command == "nope" and way == "short"):
+                wanted[path] = SAID[command]
             else:
                 wanted[path] = f"said {number} {way}\n".encode()
                 scripted.stand_in.answer(b"", wanted[path], 1 if number % 2 else 0)

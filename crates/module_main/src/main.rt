@@ -7,6 +7,7 @@ mod automatic_commands;
 mod collection_commands;
 mod description_commands;
 mod given;
+mod listing_commands;
 mod missing;
 mod refusal;
 
@@ -15,6 +16,7 @@ use collection_commands::do_collection_command;
 use description_commands::do_description_command;
 use functioncommand::{FunctionOutput, function_output};
 use given::Given;
+use listing_commands::do_listing_command;
 use message::{Message, RefusalKind};
 use missing::MissingDirectories;
 use std::io::Write;
@@ -47,6 +49,9 @@ fn main(rt: HostRuntime) -> ExitCode {
         return status;
     }
     if let Some(status) = do_description_command(&rt, &given) {
+        return status;
+    }
+    if let Some(status) = do_listing_command(&rt, &given) {
         return status;
     }
     let working = match &given.working {
