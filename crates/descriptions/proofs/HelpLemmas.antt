@@ -1,6 +1,7 @@
 -- What `help` answers of a module, by the evaluations of its file.
 use Rattle.std.proofs.Common.{◌≡◌, ◌++◌, Bool, true, false, List, map, string_bytes, Option, Some, None, IfSome}
-use Rattle.std.proofs.Common.{Result, Ok, Err, refl, sym, ap, subst}
+use Rattle.std.proofs.Common.{Result, Ok, Err, String, refl, sym, ap, ◌∙◌, subst}
+use Rattle.std.specs.declared.alloc.Global.{Global}
 use Rattle.envvars.specs.Texts.{Text}
 use Rattle.envvars.specs.Environment.{Environment}
 use Rattle.envloaded.specs.Loaded.{Entry, names_of}
@@ -9,8 +10,9 @@ use Rattle.modulefile.specs.Answers.{FileContext}
 use Rattle.modulefile.specs.Effects as modes
 use Rattle.modulefile.specs.Files.{FileReason, RunsFile}
 use Rattle.modulefile.specs.RecordViews.{record_view}
+use Rattle.modulefile.specs.declared.records.Record as code
 use Rattle.modulefile.specs.Reports.{whatis_text}
-use Rattle.modulerun.specs.Running.{file_reason_of, ran_view}
+use Rattle.modulerun.specs.Running.{RunsTo, file_reason_of, ran_view}
 use Rattle.modulerun.specs.declared.run.FileRun.{FileRun}
 use Rattle.modulerun.specs.declared.run_fault.RunFault.{RunFault}
 use Rattle.search.specs.Found as search
@@ -23,13 +25,53 @@ use Rattle.modules.specs.Answers.{GivesOrRefuses, by_reason, cause_of}
 use Rattle.modules.specs.declared.refusal.Refusal.{Refusal}
 use Rattle.modules.proofs.StepLemmas.{if_no, if_yes, run_refused, stands_as}
 use Rattle.descriptions.specs.Helps.{DescribesFound, HelpAnswer, Helps, HelpsFound, described, joined, lacks_help, own, with_call}
-use Rattle.descriptions.specs.Views.{lacks_by, loaded_names, named}
+use Rattle.descriptions.specs.Views.{RunsText, context_for, lacks_by, loaded_names, named}
+use Rattle.descriptions.specs.declared.helping.HelpRequest.{HelpRequest}
 
 -- the same answer, of wider outcomes
 pub gives_wider : {X Y : Type 0} (view : X → Y) (result : Result X Refusal) (Gave Whole : Result Y RequestReason → Type 0)
     → ((o : Result Y RequestReason) → Gave o → Whole o) → GivesOrRefuses view result Gave → GivesOrRefuses view result Whole
 gives_wider view (Ok x) Gave Whole wider h = wider (Ok (view x)) h
 gives_wider view (Err e) Gave Whole wider h = stands_as (cause_of e) ⊥ ⊥ (λ r. Gave (Err r)) (λ r. Whole (Err r)) (λ q. q) (λ r k. wider (Err r) k) h
+
+-- what is written of a module, by its parts
+pub written_of : (new text said report name n : Text) (ms messages : List (String Global)) (rs records : List code.Record) → new ≡ text ++ said → said ≡ report
+    → text ≡ joined (map string_bytes ms) → ms ≡ messages → report ≡ whatis_text n (map record_view rs) → n ≡ name → rs ≡ records
+    → new ≡ joined (map string_bytes messages) ++ whatis_text name (map record_view records)
+written_of new text said report name n ms messages rs records a b c d e f g =
+    a ∙ ap (λ (t : Text). text ++ t) (b ∙ e ∙ ap (λ (x : Text). whatis_text x (map record_view rs)) f ∙ ap (λ (x : List code.Record). whatis_text name (map record_view x)) g)
+    ∙ ap (λ (t : Text). t ++ whatis_text name (map record_view records)) (c ∙ ap (λ (x : List (String Global)). joined (map string_bytes x)) d)
+
+-- ---- an evaluation
+
+-- the context with this name and path, over this environment
+abbrev pub context_at : HelpRequest → Text → Text → Environment → FileContext
+context_at request name path before =
+    record {
+      mode = modes.whatis;
+      in_switch = false;
+      name = name;
+      path = path;
+      shell = request.shell;
+      typed = request.typed.now;
+      loaded = map string_bytes request.loaded.now;
+      before = before;
+    }
+
+module _ (request : HelpRequest) (m : search.FoundModule) (e before : Environment) (name path : Text) (named-so : name ≡ m.name) (placed : path ≡ m.path) (over : before ≡ e) where
+  in_context : (P : FileContext → Type 0) → P (context_at request name path before) → P (context_for request m e)
+  in_context P h =
+      subst (λ (x : Text). P (context_at request x m.path e)) named-so
+      (subst (λ (x : Text). P (context_at request name x e)) placed (subst (λ (x : Environment). P (context_at request name path x)) over h))
+
+  pub evaluated : (limits : Limits) (text : Text) (result : Result FileRun RunFault) (last : Environment) → RunsTo limits (context_at request name path before) text result last
+      → RunsText limits (context_for request m e) text result
+  evaluated limits text (Ok ran) last h = (last, in_context (λ c. RunsFile limits c text (Ok (ran_view ran last))) h)
+  evaluated limits text (Err fault) last h = in_context (λ c. IfSome (file_reason_of fault) (λ reason. RunsFile limits c text (Err reason))) h.1
+
+-- of the text that was given
+pub of_text : (limits : Limits) (c : FileContext) (text given : Text) (result : Result FileRun RunFault) → given ≡ text → RunsText limits c given result → RunsText limits c text result
+of_text limits c text given result same h = subst (λ (t : Text). RunsText limits c t result) same h
 
 module _ (limits : Limits) (c : FileContext) (m : search.FoundModule) where
   -- ---- a description

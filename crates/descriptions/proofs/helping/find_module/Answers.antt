@@ -1,0 +1,25 @@
+use Rattle.std.proofs.Common.{◌<◌, Ok, Err, refl, subst}
+use Rattle.std.proofs.lemmas.Result.{err_from_is_err_and}
+use Rattle.lookup.specs.DefaultFileResults.{HasResult}
+use Rattle.search.specs.Found.{Found}
+use Rattle.search.specs.Answers.{cause_of, found_view}
+use Rattle.modules.proofs.StepLemmas.{search_stands}
+use Rattle.descriptions.proofs.helping.find_module.Goals as goal
+
+pub returns-in_err-locate-clause-over_tree : goal.returns-in_err-locate-clause-over_tree
+returns-in_err-locate-clause-over_tree g c =
+    let p = err_from_is_err_and c.from_residual.result c.from_residual.ensures.1 in
+    let fault = c.in_err-locate.field-0.0 in
+    let results = HasResult c.args.limits in
+    let typed = c.args.typed.now in
+    rw (p.1, p.2) (search_stands (cause_of fault) (g.T.Tree.failures c.args.tree.now < g.T.Tree.failures c.locate.new.tree) _ _
+    (λ r h files listings a. (Err r, subst (λ path. Found results files listings path typed (Err r)) c.modulepath.ensures (h files listings a), refl))
+    c.in_err-locate.ensures.over_tree)
+
+pub returns-clause-over_tree : goal.returns-clause-over_tree
+returns-clause-over_tree g c = λ files listings a. (
+  Ok (found_view c.in_ok-locate.field-0),
+  subst (λ path. Found (HasResult c.args.limits) files listings path c.args.typed.now (Ok (found_view c.in_ok-locate.field-0))) c.modulepath.ensures
+      (c.in_ok-locate.ensures.over_tree files listings a),
+  refl,
+)
