@@ -15,7 +15,7 @@ mod walk;
 use arguments::{Job, Wanted, asked_for};
 use fault::{PortFault, USAGE};
 use filetext::file_text;
-use porting::{Ported, ported};
+use porting::{Ported, port_file};
 use processinput::{arguments as words_of, read_input};
 use status::Status;
 use std::io::Write;
@@ -30,7 +30,7 @@ fn print(rt: &HostRuntime, json: bool, path: &str, bytes: &[u8]) -> Result<Statu
         text,
         report,
         status,
-    } = ported(rt.alloc(), json, path, file, None)?;
+    } = port_file(rt.alloc(), json, path, file, None)?;
     if rt.stdout().write_all(text.as_bytes()).is_err()
         || rt.stderr().write_all(report.as_slice()).is_err()
     {

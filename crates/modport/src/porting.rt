@@ -70,7 +70,7 @@ fn be_one_version(
 /// name, where one is given.
 ///
 /// The errors: want of memory; it isn't translated.
-pub(crate) fn ported(
+pub(crate) fn port_file(
     alloc: Global,
     json: bool,
     path: &str,

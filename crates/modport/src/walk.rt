@@ -2,7 +2,7 @@
 
 use crate::arguments::Walked;
 use crate::fault::PortFault;
-use crate::porting::ported;
+use crate::porting::port_file;
 use crate::reporting::{fault_line, file_line};
 use crate::status::Status;
 use crate::texts::{joined, kind_of, modulefile, read, write_new};
@@ -131,7 +131,7 @@ impl<'r> Walk<'r> {
                 "no modulefile",
             )?.as_slice());
         };
-        let ported = ported(alloc, self.json, from, file, name)?;
+        let ported = port_file(alloc, self.json, from, file, name)?;
         if let Some(to) = to {
             write_new(self.rt, to, ported.text.as_bytes(), found)?;
         }
