@@ -17,7 +17,7 @@ use Rattle.requests.specs.Looked as looks
 use Rattle.requests.specs.Looked.{IsOwnResponse, OwnLooksAt, SessionLooksAt}
 use Rattle.requests.specs.Reasons.{RequestReason}
 use Rattle.requests.specs.Requests.{Request, whatis}
-use Rattle.requests.specs.Sessions.{IsResponse, Response, Session, accepted, refused, given_up, env_after, in_shell}
+use Rattle.requests.specs.Sessions.{IsResponse, Response, Session, accepted, refused, given_up, env_after}
 use Rattle.requests.specs.Steps.{RequestContext, modulepath, request_context_in}
 use Rattle.modules.specs.Responses.{response_of, responses}
 use Rattle.modules.specs.declared.sessions.Outcome.{Outcome}

@@ -1,5 +1,5 @@
 -- What `help` answers of a module, by the evaluations of its file.
-use Rattle.std.proofs.Common.{◌≡◌, ◌++◌, Bool, true, false, List, map, string_bytes, Option, Some, None, IfSome}
+use Rattle.std.proofs.Common.{◌≡◌, ◌++◌, true, false, List, map, string_bytes, Option, Some, None, IfSome}
 use Rattle.std.proofs.Common.{Result, Ok, Err, String, refl, sym, ap, ◌∙◌, subst}
 use Rattle.std.specs.declared.alloc.Global.{Global}
 use Rattle.envvars.specs.Texts.{Text}
@@ -20,7 +20,7 @@ use Rattle.shelltext.specs.declared.shell.Shell.{Shell}
 use Rattle.tclrules.specs.declared.limits.Limits.{Limits}
 use Rattle.requests.specs.Reasons.{RequestReason, file_refused}
 use Rattle.requests.specs.Refusals.{RefusedAs}
-use Rattle.requests.specs.Steps.{RequestContext, Finds, context_of, entries_of}
+use Rattle.requests.specs.Steps.{RequestContext, Finds, entries_of}
 use Rattle.modules.specs.Answers.{GivesOrRefuses, by_reason, cause_of}
 use Rattle.modules.specs.declared.refusal.Refusal.{Refusal}
 use Rattle.modules.proofs.StepLemmas.{if_no, if_yes, run_refused, stands_as}

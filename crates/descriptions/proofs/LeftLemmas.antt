@@ -1,7 +1,6 @@
 -- The lines of modules that are left out, up to the end of the names or the outcomes.
 use Rattle.std.proofs.Common.{◌≡◌, ◌⊎◌, inl, inr, ◌++◌, ◌∙◌, List, [], ◌∷◌, append-nil, map, String, string_bytes, sym}
 use Rattle.std.specs.declared.alloc.Global.{Global}
-
 use Rattle.envvars.specs.Texts.{Text}
 use Rattle.modules.specs.declared.sessions.Outcome.{Outcome}
 use Rattle.descriptions.specs.Written.{left_lines}

@@ -1,6 +1,6 @@
 -- What `whatis` without names reports, and `keyword` (module(1)): of all modules that can be loaded, or of those whose
 -- report mentions a text.
-use Rattle.std.specs.Prelude.{◌≡◌, ◌⊎◌, ◌==◌, ℕ, Bool, true, false, List, [], ◌∷◌, map, flat_map, Option}
+use Rattle.std.specs.Prelude.{◌≡◌, ◌⊎◌, ◌==◌, ℕ, Bool, false, List, [], ◌∷◌, map, flat_map, Option}
 use Rattle.std.specs.List.{list_any}
 use Rattle.std.specs.Option.{option_map}
 use Rattle.envvars.specs.Texts.{Text}

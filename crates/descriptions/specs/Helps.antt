@@ -1,5 +1,5 @@
 -- What `help NAME` answers (own): what the procedure `ModulesHelp` of the module's file says.
-use Rattle.std.specs.Prelude.{◌≡◌, Bool, false, List, ◌++◌, bytes_eq, codes, flat_map, Result, Ok, Err}
+use Rattle.std.specs.Prelude.{Bool, false, List, ◌++◌, bytes_eq, codes, flat_map, Result, Ok, Err}
 use Rattle.envvars.specs.Texts.{Text}
 use Rattle.envvars.specs.Environment.{Environment}
 use Rattle.filetree.specs.Relations.{Is, If, ◌>>◌}

@@ -1,5 +1,5 @@
 -- Whether a text has another in it (own). Small letters of ASCII and capitals are alike; other letters are as they are.
-use Rattle.std.specs.Prelude.{Bool, ◌||◌, List, [], ◌∷◌, map, nat_eq}
+use Rattle.std.specs.Prelude.{Bool, ◌||◌, [], ◌∷◌, map, nat_eq}
 use Rattle.std.specs.List.{starts_with}
 use Rattle.std.specs.Char.{to_ascii_lowercase}
 use Rattle.envvars.specs.Texts.{Text}

@@ -1,5 +1,5 @@
 -- What the values of the code stand for in the definitions, for the contracts of this crate's private functions (own).
-use Rattle.std.specs.Prelude.{◌≡◌, Bool, false, List, map, string_bytes, Option, Some, None, IfSome, Result, Ok, Err}
+use Rattle.std.specs.Prelude.{Bool, false, List, map, string_bytes, Option, Some, None, IfSome, Result, Ok, Err}
 use Rattle.envvars.specs.Environment.{Environment}
 use Rattle.envvars.specs.Texts.{Text}
 use Rattle.envloaded.specs.Loaded.{Entry, names_of}

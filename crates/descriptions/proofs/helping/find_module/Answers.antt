@@ -1,8 +1,12 @@
 use Rattle.std.proofs.Common.{◌<◌, Ok, Err, refl, subst}
 use Rattle.std.proofs.lemmas.Result.{err_from_is_err_and}
 use Rattle.lookup.specs.DefaultFileResults.{HasResult}
+use Rattle.filetree.specs.Agreement.{InEachPair}
 use Rattle.search.specs.Found.{Found}
 use Rattle.search.specs.Answers.{cause_of, found_view}
+use Rattle.requests.specs.Reasons.{missed}
+use Rattle.requests.specs.Refusals.{RefusedAs}
+use Rattle.requests.specs.Steps.{modulepath}
 use Rattle.modules.proofs.StepLemmas.{search_stands}
 use Rattle.descriptions.proofs.helping.find_module.Goals as goal
 
@@ -12,7 +16,10 @@ returns-in_err-locate-clause-over_tree g c =
     let fault = c.in_err-locate.field-0.0 in
     let results = HasResult c.args.limits in
     let typed = c.args.typed.now in
-    rw (p.1, p.2) (search_stands (cause_of fault) (g.T.Tree.failures c.args.tree.now < g.T.Tree.failures c.locate.new.tree) _ _
+    let agrees = g.T.Tree.agrees c.locate.new.tree in
+    rw (p.1, p.2) (search_stands (cause_of fault) (g.T.Tree.failures c.args.tree.now < g.T.Tree.failures c.locate.new.tree)
+    (λ r. InEachPair agrees (λ files listings. Found results files listings c.modulepath.result.now typed (Err r)))
+    (λ r. InEachPair agrees (λ files listings. RefusedAs missed (Found results files listings (modulepath c.args.env.now) typed) (Err r)))
     (λ r h files listings a. (Err r, subst (λ path. Found results files listings path typed (Err r)) c.modulepath.ensures (h files listings a), refl))
     c.in_err-locate.ensures.over_tree)
 

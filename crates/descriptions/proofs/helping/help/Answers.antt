@@ -46,7 +46,7 @@ returns-clause-answered g c =
     let m = found_view c.in_ok-found.found in
     let names : List Text = map (λ (s : String Global). string_bytes s) c.as_slice.result.now in
     let read : Ok names ≡ loaded_names e =
-        ap (λ (l : List (String Global)). let r : Result (List Text) RequestReason = Ok (map (λ (s : String Global). string_bytes s) l) in r) c.as_slice.ensures.value ∙ c.in_ok-names.ensures in
+    ap (λ (l : List (String Global)). let r : Result (List Text) RequestReason = Ok (map (λ (s : String Global). string_bytes s) l) in r) c.as_slice.ensures.value ∙ c.in_ok-names.ensures in
     over_tree_given agrees (g.T.Tree.failures c.args.tree.now < g.T.Tree.failures c.find_module.new.tree) help_view c.help_of.result
     (λ files listings. HelpsFound limits (context_with shell typed m names e) m)
     (λ files listings. Helps (request_context_in limits shell files listings) e typed)
