@@ -84,7 +84,6 @@ def test_refused(folder):
         (["nothing"], b"", "No such file"),
         ([folder.at("fifo")], b"", "No such file"),
         ([folder.modules], b"", "No such file"),
-        (["--stdin"], b"#%Module\nsetenv X caf\xe9\n", "Not UTF-8"),
         (["--stdin"], b"#%Module\nset x {\n", "Missing close-brace at byte 15"),
         ([], b"", usage),
         (["--all", "a"], b"", usage),

@@ -1,6 +1,6 @@
 -- Turns of the loops over commands and parts: what is left, read from here, gives what the whole gives.
-use Rattle.std.proofs.Common.{◌≡◌, ℕ, ◌+◌, ◌-◌, ◌<◌, ◌≤◌, List, [], ◌∷◌, ◌++◌, Bool, true, false, Bor, refl, sym, ap, ◌∙◌, Option, Some, None}
-use Rattle.std.proofs.Common.{get_or, take, drop, length, append_assoc, append-nil, map}
+use Rattle.std.proofs.Common.{◌≡◌, ℕ, ◌+◌, ◌-◌, ◌<◌, ◌≤◌, List, [], ◌∷◌, ◌++◌, Bool, true, false, Bor, sym, ap, ◌∙◌, Option, Some, None}
+use Rattle.std.proofs.Common.{get_or, take, drop, length, append_assoc, map}
 use Rattle.std.proofs.lemmas.List.{drop_more, drop_all, map-append}
 use Rattle.std.specs.Prelude.{if◌then◌else◌}
 use Rattle.tclchars.specs.Runs.{Text}
