@@ -1,9 +1,10 @@
 -- What the search for a name says of it.
-use Rattle.std.proofs.Common.{◌≡◌, ℕ, ◌+◌, ◌<◌, ◌≤◌, true, false, List, [], ◌∷◌, ◌++◌, length, map, take, drop, get_or, string_bytes, String, Ok, Err, refl, sym, ap, subst, ◌∙◌, arith}
-use Rattle.std.proofs.lemmas.List.{take-append-drop, take_all, take_more, drop_more, map-append, length-map, get_or-map}
+use Rattle.std.proofs.Common.{◌≡◌, ℕ, ◌+◌, ◌<◌, ◌≤◌, true, false, List, [], ◌∷◌, ◌++◌, length, map, take, drop, get_or, string_bytes, String, Option, Some, None, Ok, Err, refl, sym, ap, subst, ◌∙◌, arith}
+use Rattle.std.proofs.lemmas.List.{take-append-drop, take_all, take_more, drop_more, map-append, take-map, drop-map, length-map, get_or-map}
 use Rattle.std.proofs.lemmas.List.Elements.{All-push}
 use Rattle.std.specs.declared.alloc.Global.{Global}
-use Rattle.std.specs.Prelude.{All}
+use Rattle.std.specs.Prelude.{All, insert}
+use Rattle.std.specs.Option.{option_map}
 use Rattle.envvars.specs.Texts.{Text}
 use Rattle.envvars.specs.Environment.{Environment}
 use Rattle.filetree.specs.Causes.{Applies, Cause, memory, device, because}
@@ -18,7 +19,7 @@ use Rattle.requests.specs.Reasons.{RequestReason, missed}
 use Rattle.requests.specs.Steps.{RequestContext, modulepath}
 use Rattle.modules.specs.Answers.{by_search}
 use Rattle.autohandling.specs.Loads.{IsFirstFound, IsFound, IsMissed}
-use Rattle.autohandling.specs.Views.{AnyLooksAt, is_reason}
+use Rattle.autohandling.specs.Views.{AnyLooksAt, FoundAmong, is_reason}
 
 module _ (s : RequestContext) (e : Environment) (name path : Text) (same : path ≡ modulepath e) where
   pub is_found : (m : FoundModule) → Found (HasResult s.limits) s.files s.listings path name (Ok m) → IsFound s e name
@@ -71,7 +72,7 @@ module _ (xs : List (String Global)) (i : ℕ) (x : String Global) (below : i < 
   missed_more P h all = subst (All P) (sym texts_more) (All-push P (texts (take i xs)) (string_bytes x) all h)
 
   pub first_found : (s : RequestContext) (e : Environment) → IsFound s e (string_bytes x) → All (IsMissed s e) (texts (take i xs)) → IsFirstFound s e (texts xs) (string_bytes x)
-  first_found s e found missed = record { before = texts (take i xs); after = texts (drop (i + 1) xs); parted = texts_parted; missed = missed; found = found }
+  first_found s e found before = record { before = texts (take i xs); after = texts (drop (i + 1) xs); parted = texts_parted; missed = before; found = found }
 
   pub one_looks : (s : RequestContext) (e : Environment) (at : Text) → SearchLooksAt s e (string_bytes x) at → AnyLooksAt s e (texts xs) at
   one_looks s e at looks =
@@ -90,3 +91,22 @@ pub no_reason : (c : Cause FindReason) (failed : Type 0) (Q : RequestReason → 
 no_reason memory failed Q h = tt
 no_reason device failed Q h = h
 no_reason (because r) failed Q h = absurd h
+
+-- none was found
+pub none_found : (s : RequestContext) (e : Environment) (alternatives : List Text) (o : Option (String Global)) → ((x : String Global) → o ≡ Some x → ⊥)
+    → FoundAmong s e alternatives (option_map string_bytes o) → All (IsMissed s e) alternatives
+none_found s e alternatives None not h = h
+none_found s e alternatives (Some x) not h = absurd (not x refl)
+
+-- ---- texts of names
+
+pub texts_push : (xs : List (String Global)) (x : String Global) → map (λ (y : String Global). string_bytes y) (xs ++ x ∷ []) ≡ map (λ (y : String Global). string_bytes y) xs ++ string_bytes x ∷ []
+texts_push xs x = map-append (λ (y : String Global). string_bytes y) xs (x ∷ [])
+
+pub texts_insert : (xs : List (String Global)) (i : ℕ) (x : String Global) → map (λ (y : String Global). string_bytes y) (insert xs i x) ≡ insert (map (λ (y : String Global). string_bytes y) xs) i (string_bytes x)
+texts_insert xs i x =
+    let front : List Text = map (λ (y : String Global). string_bytes y) (take i xs) in
+    let back : List Text = map (λ (y : String Global). string_bytes y) (drop i xs) in
+    map-append (λ (y : String Global). string_bytes y) (take i xs) (x ∷ drop i xs)
+    ∙ (ap (λ (l : List Text). l ++ string_bytes x ∷ back) (sym (take-map (λ (y : String Global). string_bytes y) i xs))
+    ∙ ap (λ (l : List Text). take i (map (λ (y : String Global). string_bytes y) xs) ++ string_bytes x ∷ l) (sym (drop-map (λ (y : String Global). string_bytes y) i xs)))

@@ -35,7 +35,7 @@ returns-then-branch-clause-found g c =
     let e = c.args.env.now in
     let all = map (λ (s : String Global). string_bytes s) c.args.alternatives.now in
     let same : option_map string_bytes c.in_ok-copy.field-0 ≡ Some (string_bytes c.name-item.result) =
-    c.in_ok-copy.ensures ∙ ap (λ (t : Text). let o : Option Text = Some t in o) c.as_str-2.ensures.value in
+    c.in_ok-copy.ensures ∙ ap (λ (t : Text). let o : Option Text = Some t in o) c.as_str-then-branch.ensures.value in
     λ files listings a shell.
     let s = request_context_in c.args.limits shell files listings in
     let found = subst (λ (b : Bool). IsFoundOrMissed s e c.as_str.result.now b) c.if-branch.true (c.in_ok-is_found.ensures.found files listings a shell) in
