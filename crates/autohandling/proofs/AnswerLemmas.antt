@@ -18,7 +18,7 @@ use Rattle.modules.specs.Answers.{cause_of}
 use Rattle.modules.specs.MoveViews.{moves_of}
 use Rattle.modules.specs.Replies.{changed_env, changed_view}
 use Rattle.modules.specs.declared.reply.RequestChanges.{RequestChanges}
-use Rattle.sessions.specs.Rehearsals.{LacksText}
+use Rattle.modules.proofs.StepLemmas.{stands_as}
 use Rattle.autohandling.specs.Answers.{IsAnswer, IsAutomaticFault, Outcomes}
 use Rattle.autohandling.specs.Views.{IsUnsaid}
 use Rattle.autohandling.specs.declared.answer.AutomaticAnswer.{AutomaticAnswer}
@@ -66,3 +66,16 @@ module _ (agrees : Files → Listings → Type 0) (shell : Shell) (e : Environme
       InEachPair agrees (λ files listings. RequestStep (request_context_in limits shell files listings) e (act (texts_in v)) (Ok (changed_view e changed))) in
       (changed_view e changed, subst Stepped (sym same.0) step, said, done.0, done.1)
   answered limits act names added (Err fault) step said done same = tt
+
+-- a failure in the last of several calls is one of them all
+fault_later : (agrees : Files → Listings → Type 0) (shell : Shell) (e : Environment) (failed before : Type 0) (Comes : Outcomes) (fault : AutomaticFault) → (failed → before)
+    → IsAutomaticFault agrees failed shell e Comes fault → IsAutomaticFault agrees before shell e Comes fault
+fault_later agrees shell e failed before Comes (Refused refusal) later h =
+    let P : RequestReason → Type 0 = λ reason. InEachPair agrees (λ files listings. Comes files listings (Err reason)) in stands_as (cause_of refusal) failed before P P later (λ r k. k) h
+fault_later agrees shell e failed before Comes (Unprinted prints.OutOfMemory) later h = tt
+fault_later agrees shell e failed before Comes (Unprinted (prints.NotSayable name)) later h = h
+
+pub faults_later : (agrees : Files → Listings → Type 0) (shell : Shell) (e : Environment) (failed before : Type 0) (Comes : Outcomes) (result : Result AutomaticAnswer AutomaticFault) → (failed → before)
+    → IfErr result (IsAutomaticFault agrees failed shell e Comes) → IfErr result (IsAutomaticFault agrees before shell e Comes)
+faults_later agrees shell e failed before Comes (Ok a) later h = tt
+faults_later agrees shell e failed before Comes (Err fault) later h = fault_later agrees shell e failed before Comes fault later h

@@ -1,12 +1,10 @@
 -- Refusals for which nothing is put in.
 use Rattle.std.proofs.Common.{◌≡◌, List, Option, Some, None, refl}
-use Rattle.envvars.specs.Reasons.{EnvReason, reason_of}
 use Rattle.envvars.specs.Texts.{Text}
 use Rattle.envvars.specs.Environment.{Environment}
 use Rattle.filetree.specs.Causes.{Applies, Cause, memory, device, because}
 use Rattle.modulefile.specs.Files.{FileReason}
 use Rattle.modulefile.specs.Judgments.{bad_edit}
-use Rattle.modulerun.specs.Running.{file_reason_of}
 use Rattle.search.specs.Answers as search
 use Rattle.search.specs.Reasons.{FindReason}
 use Rattle.requests.specs.Reasons.{RequestReason, file_refused, missed, refused_edit}
@@ -32,24 +30,28 @@ with_search memory failed P Q final h = tt
 with_search device failed P Q final h = h
 with_search (because r) failed P Q final h = (h, final r)
 
+-- for a reason of this kind nothing is put in, whatever the names are
+abbrev pub IsOther : RequestReason → Type 0
+IsOther reason = (s : RequestContext) (e : Environment) (added names : List Text) → loads.IsFinal s e added names reason
+
 -- The load is refused by another number than 52.
-pub final_load : (s : RequestContext) (e : Environment) (added tried : List Text) (refusal : Refusal) (failed : Type 0) (P : RequestReason → Type 0)
+pub final_load : (refusal : Refusal) (failed : Type 0) (P : RequestReason → Type 0)
     → ((m : MissingNames) → refusal ≡ refusals.PrereqMissing m → ⊥) → Applies (cause_of refusal) failed P
-    → Applies (cause_of refusal) failed (λ r. P r × ((names : List Text) → loads.IsFinal s e added names r))
-final_load s e added tried refusals.OutOfMemory failed P not h = tt
-final_load s e added tried (refusals.Run fault) failed P not h =
-    with_reason file_refused (file_reason_of fault) failed P (λ r. (names : List Text) → loads.IsFinal s e added names r) (λ r names. tt) h
-final_load s e added tried (refusals.Find fault) failed P not h =
-    with_search (search.cause_of fault) failed P (λ r. (names : List Text) → loads.IsFinal s e added names r) (λ r names. tt) h
-final_load s e added tried (refusals.Env fault) failed P not h =
-    with_reason (λ r. refused_edit (bad_edit r)) (reason_of fault) failed P (λ r. (names : List Text) → loads.IsFinal s e added names r) (λ r names. tt) h
-final_load s e added tried refusals.BadArguments failed P not h = (h, λ names. tt)
-final_load s e added tried (refusals.UnknownSubcommand word) failed P not h = (h, λ names. tt)
-final_load s e added tried (refusals.ConflictWith name) failed P not h = (h, λ names. tt)
-final_load s e added tried (refusals.PrereqMissing m) failed P not h = absurd (not m refl)
-final_load s e added tried (refusals.StillNeededBy name) failed P not h = (h, λ names. tt)
-final_load s e added tried (refusals.FileGone path) failed P not h = (h, λ names. tt)
-final_load s e added tried (refusals.NotAModulefile path) failed P not h = (h, λ names. tt)
+    → Applies (cause_of refusal) failed (λ r. P r × IsOther r)
+final_load refusals.OutOfMemory failed P not h = tt
+final_load (refusals.Run fault) failed P not h =
+    with_reason file_refused _ failed P IsOther (λ r s e added names. tt) h
+final_load (refusals.Find fault) failed P not h =
+    with_search (search.cause_of fault) failed P IsOther (λ r s e added names. tt) h
+final_load (refusals.Env fault) failed P not h =
+    with_reason (λ r. refused_edit (bad_edit r)) _ failed P IsOther (λ r s e added names. tt) h
+final_load refusals.BadArguments failed P not h = (h, λ s e added names. tt)
+final_load (refusals.UnknownSubcommand word) failed P not h = (h, λ s e added names. tt)
+final_load (refusals.ConflictWith name) failed P not h = (h, λ s e added names. tt)
+final_load (refusals.PrereqMissing m) failed P not h = absurd (not m refl)
+final_load (refusals.StillNeededBy name) failed P not h = (h, λ s e added names. tt)
+final_load (refusals.FileGone path) failed P not h = (h, λ s e added names. tt)
+final_load (refusals.NotAModulefile path) failed P not h = (h, λ s e added names. tt)
 
 kept_reason : {R : Type 0} (view : R → RequestReason) (o : Option R) (added : List Text) → ((r : R) → unloads.IsFinal added (view r)) → IsNotPut (by_reason view o) added (by_reason view o)
 kept_reason view None added final = tt
@@ -63,9 +65,9 @@ kept_search (because r) added = (refl, tt)
 -- The unload is refused by another number than 53.
 pub final_unload : (added : List Text) (refusal : Refusal) → ((name : String Global) → refusal ≡ refusals.StillNeededBy name → ⊥) → IsNotPut (cause_of refusal) added (cause_of refusal)
 final_unload added refusals.OutOfMemory not = tt
-final_unload added (refusals.Run fault) not = kept_reason file_refused (file_reason_of fault) added (λ r. tt)
+final_unload added (refusals.Run fault) not = kept_reason file_refused _ added (λ r. tt)
 final_unload added (refusals.Find fault) not = kept_search (search.cause_of fault) added
-final_unload added (refusals.Env fault) not = kept_reason (λ r. refused_edit (bad_edit r)) (reason_of fault) added (λ r. tt)
+final_unload added (refusals.Env fault) not = kept_reason (λ r. refused_edit (bad_edit r)) _ added (λ r. tt)
 final_unload added refusals.BadArguments not = (refl, tt)
 final_unload added (refusals.UnknownSubcommand word) not = (refl, tt)
 final_unload added (refusals.ConflictWith name) not = (refl, tt)

@@ -4,3 +4,4 @@ pub mod AnswerLemmas
 pub mod FindLemmas
 pub mod FinalLemmas
 pub mod PlanLemmas
+pub mod ResultLemmas

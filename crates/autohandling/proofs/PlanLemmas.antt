@@ -10,7 +10,7 @@ use Rattle.requests.specs.Reasons.{RequestReason, prereq_missing}
 use Rattle.requests.specs.Requests.{load}
 use Rattle.requests.specs.Steps.{RequestContext, Done, RequestStep}
 use Rattle.autohandling.specs.Adding.{is_spent}
-use Rattle.autohandling.specs.Loads.{AutomaticLoadLooksAt, Completes, IsFinal, IsFirstFound, IsMissed, LoadsTo, RefusesLoad}
+use Rattle.autohandling.specs.Loads.{AutomaticLoadLooksAt, Completes, as_asked, IsFinal, IsFirstFound, IsMissed, LoadsTo, RefusesLoad}
 use Rattle.autohandling.specs.Views.{AnyLooksAt, IsPlan, IsUnmet, IsWhole, Loads, PutsIn}
 use Rattle.autohandling.specs.declared.plan.Plan.{Plan}
 use Rattle.autohandling.proofs.LoadLemmas as tries
@@ -86,4 +86,11 @@ all_ready s e asked plan end is = record {
       let whole : take plan.ready (texts_in plan.names) ≡ texts_in plan.names =
       take_all plan.ready (texts_in plan.names) (omega (arith, end, length-map plan.names.items (λ (x : String Global). string_bytes x))) in
       subst (λ (l : List Text). LoadsTo s e l plan.after) whole is.loaded;
+}
+
+-- at first none is
+pub first_plan : (s : RequestContext) (e : Environment) (asked : List Text) (plan : Plan) → texts_in plan.names ≡ asked → plan.ready ≡ 0 → plan.after ≡ e → texts_in plan.added ≡ [] → IsPlan s e asked plan
+first_plan s e asked plan names ready after added = record {
+  completed = subst (λ (l : List Text). Completes s e asked l (texts_in plan.names)) (sym added) (subst (λ (l : List Text). Completes s e asked [] l) (sym names) as_asked);
+  loaded = subst (λ (n : ℕ). LoadsTo s e (take n (texts_in plan.names)) plan.after) (sym ready) after;
 }

@@ -33,7 +33,7 @@ returns-in_default-clause-refused g c =
     let found = rw c.as_slice.ensures.value at c.in_ok-found.ensures.found in (
       refl,
       λ files listings a shell.
-      inl (none_found (request_context_in c.args.limits shell files listings) c.args.self.now.after (texts_in c.args.missing.names) c.in_ok-found.found (λ x is. c.in_default.not-Some is) (found files listings a shell)),
+      inl (none_found (request_context_in c.args.limits shell files listings) c.args.self.now.after (texts_in c.args.missing.names) c.in_ok-found.found c.in_default.not-Some (found files listings a shell)),
     )
 
 pub returns-then-is_spent-clause-refused : goal.returns-then-is_spent-clause-refused
