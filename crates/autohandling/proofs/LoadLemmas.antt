@@ -82,7 +82,7 @@ module _ (s : RequestContext) (e : Environment) (asked added names : List Text) 
       → RefusesLoad s e asked (prereq_missing alternatives)
   stuck alternatives step unmet =
       let is : IsStuck s e added (take (ready + 1) names) alternatives =
-          record { front = front; name = next; last = tried; after = after; lacking = lacks alternatives step; unmet = unmet } in
+      record { front = front; name = next; last = tried; after = after; lacking = lacks alternatives step; unmet = unmet } in
       refuses (prereq_missing alternatives) step is
 
   -- where the try looks, and the search for what the name lacks
@@ -102,7 +102,12 @@ module _ (s : RequestContext) (e : Environment) (asked added names : List Text) 
 
   pub last_refuses : OneOutcome → (after : Environment) (reason : RequestReason) → LoadsTo s e names after → RequestStep s e (load names) (Err reason) → RefusesLoad s e asked reason
   last_refuses one after reason loaded step = record {
-    added = added; tried = names; rest = []; completed = whole; refused = step; final = final_of_loaded one s e after names added reason loaded step;
+    added = added;
+    tried = names;
+    rest = [];
+    completed = whole;
+    refused = step;
+    final = final_of_loaded one s e after names added reason loaded step;
   }
 
   pub last_looks : (at : Text) → RequestLooksAt s e (load names) at → AutomaticLoadLooksAt s e asked at

@@ -33,6 +33,12 @@ pub record IsWhole (s : RequestContext) (e : Environment) (asked : List Text) (p
 abbrev pub Loads : RequestContext → Environment → List Text → Environment → Type 0
 Loads s e names after = (d : Done) × RequestStep s e (load names) (Ok d) × (after ≡ d.env)
 
+-- there is a reason in the files
+abbrev pub is_reason : {R : Type 0} → Cause R → Bool
+is_reason memory = false
+is_reason device = false
+is_reason (because reason) = true
+
 -- the search finds the name, or misses it
 abbrev pub IsFoundOrMissed : RequestContext → Environment → Text → Bool → Type 0
 IsFoundOrMissed s e name true = IsFound s e name

@@ -9,9 +9,10 @@ ghost use Rattle.shelltext.specs.declared.shell.Shell.{Shell};
 ghost use Rattle.requests.specs.Looked.{SearchLooksAt};
 ghost use Rattle.requests.specs.Steps as steps;
 ghost use Rattle.requests.specs.Steps.{request_context_in};
-ghost use Rattle.autohandling.specs.Views.{AnyLooksAt, FoundAmong, IsFoundOrMissed};
+ghost use Rattle.autohandling.specs.Views.{AnyLooksAt, FoundAmong, IsFoundOrMissed, is_reason};
 
 use envvars::Env;
+use envvars::fields::copy;
 use filetree::Tree;
 use lookup::EvaluatedDefaultFiles;
 use search::{FindFault, locate};
@@ -28,6 +29,19 @@ fn modulepath(env: &Env) -> &str
     match env.get(MODULEPATH) {
         None => "",
         Some(text) => text,
+    }
+}
+
+/// Whether the fault is a reason in the files, and not want of memory or a failed device.
+fn is_reason(fault: &FindFault) -> bool
+    ensures { result ≡ is_reason (search.cause_of fault.now) }
+{
+    match fault {
+        FindFault::OutOfMemory | FindFault::Device => false,
+        FindFault::NotFound(_)
+        | FindFault::BadName(_)
+        | FindFault::BadDefaultFile(_)
+        | FindFault::NotUtf8(_) => true,
     }
 }
 
@@ -50,9 +64,13 @@ fn is_found<T: Tree>(
     let default_files = EvaluatedDefaultFiles { limits };
     match locate(alloc, tree, &default_files, modulepath(env), name) {
         Ok(_) => Ok(true),
-        Err(FindFault::OutOfMemory) => Err(FindFault::OutOfMemory),
-        Err(FindFault::Device) => Err(FindFault::Device),
-        Err(_) => Ok(false),
+        Err(fault) => {
+            if is_reason(&fault) {
+                Ok(false)
+            } else {
+                Err(fault)
+            }
+        }
     }
 }
 
@@ -76,7 +94,7 @@ pub(crate) fn first_found<T: Tree>(
 {
     for name in alternatives {
         if is_found(alloc, name.as_str(), env, tree, limits)? {
-            return Ok(Some(name.clone()?));
+            return Ok(copy(alloc, Some(name.as_str()))?);
         }
     }
     Ok(None)
