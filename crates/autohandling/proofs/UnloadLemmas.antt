@@ -17,6 +17,11 @@ pub in_front-push : (added : List Text) (needing : Text) (names : List Text) →
 in_front-push [] needing names = refl
 in_front-push (x ∷ xs) needing names = in_front-push xs needing (x ∷ names)
 
+pub longer_names : (asked added names : List Text) → names ≡ in_front added asked → (needing : Text) (added' names' : List Text) → added' ≡ added ++ needing ∷ [] → names' ≡ needing ∷ names
+    → names' ≡ in_front added' asked
+longer_names asked added names same needing added' names' back front =
+    front ∙ (ap (λ (l : List Text). needing ∷ l) same ∙ (sym (in_front-push added needing asked) ∙ ap (λ (l : List Text). in_front l asked) (sym back)))
+
 module _ (s : RequestContext) (e : Environment) (needing : Text) where
   -- which still needs something of those behind it
   pub one_more : (names added : List Text) → StillNeed s e names added → RequestStep s e (unload (in_front added names)) (Err (still_needed_by needing)) → StillNeed s e names (added ++ needing ∷ [])
@@ -56,7 +61,3 @@ module _ (s : RequestContext) (e : Environment) (asked added names : List Text) 
     pub longer_need : StillNeed s e asked added'
     longer_need =
         subst (λ (l : List Text). StillNeed s e asked l) (sym back) (one_more s e needing asked added need (subst (λ (l : List Text). RequestStep s e (unload l) (Err (still_needed_by needing))) same step))
-
-    pub longer_names : names' ≡ in_front added' asked
-    longer_names =
-        front ∙ (ap (λ (l : List Text). needing ∷ l) same ∙ (sym (in_front-push added needing asked) ∙ ap (λ (l : List Text). in_front l asked) (sym back)))

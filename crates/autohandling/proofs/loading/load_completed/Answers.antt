@@ -64,7 +64,7 @@ returns-clause-completed g c =
     let asked : List Text = map (λ (s : String Global). string_bytes s) c.args.names.now in
     let narrows = c.load.ensures.reads.narrows in
     let P : List Text → List Text → Type 0 = λ added names.
-        InEachPair (g.T.Tree.agrees c.load.new.tree) (λ files listings. Completes (request_context_in c.args.limits c.args.shell files listings) e asked added names) in
+    InEachPair (g.T.Tree.agrees c.load.new.tree) (λ files listings. Completes (request_context_in c.args.limits c.args.shell files listings) e asked added names) in
     of_names c.in_ok-plan.plan.names c.in_ok-plan.plan.added c.answer_of.result P (λ files listings a. (c.in_ok-plan.ensures.completed files listings (narrows files listings a)).completed)
     c.answer_of.ensures.names
 

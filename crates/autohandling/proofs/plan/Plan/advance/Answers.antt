@@ -36,7 +36,7 @@ returns-in-PrereqMissing-clause-advanced g c =
     let step = known_reason (cause_of c.in-Err.refusal) (prereq_missing missing) _ Step (ap cause_of c.in-PrereqMissing.is) (rw c.deref.ensures.value at c.in-Err.ensures.refused) in
     let Put : Type 0 = InEachPair agrees (λ files listings. (shell : Shell) → PutsIn (request_context_in c.args.limits shell files listings) missing old c.put_in.new.self) in
     let Whole : Type 0 = InEachPair agrees (λ files listings. (asked : List Text) → IsPlan (request_context_in c.args.limits c.args.shell files listings) e asked old
-        → IsPlan (request_context_in c.args.limits c.args.shell files listings) e asked c.put_in.new.self) in
+    → IsPlan (request_context_in c.args.limits c.args.shell files listings) e asked c.put_in.new.self) in
     on_ok c.put_in.result Put Whole
     (λ put files listings a asked plan. one_put (request_context_in c.args.limits c.args.shell files listings) e asked old c.requires plan missing c.put_in.new.self
     (step files listings (c.put_in.ensures.reads.narrows files listings a)) (put files listings a c.args.shell)) c.put_in.ensures.advanced
@@ -51,9 +51,9 @@ returns-in-PrereqMissing-clause-refused g c =
     let Step : RequestReason → Type 0 = λ r. InEachPair (g.T.Tree.agrees c.loaded.new.tree) (λ files listings. RequestStep (request_context_in c.args.limits c.args.shell files listings) e (load tried) (Err r)) in
     let step = known_reason (cause_of c.in-Err.refusal) (prereq_missing missing) _ Step (ap cause_of c.in-PrereqMissing.is) (rw c.deref.ensures.value at c.in-Err.ensures.refused) in
     let Unmet : RequestReason → Type 0 = λ reason. (reason ≡ prereq_missing missing)
-        × InEachPair agrees (λ files listings. (shell : Shell) → IsUnmet (request_context_in c.args.limits shell files listings) old.after (texts_in old.added) missing) in
+    × InEachPair agrees (λ files listings. (shell : Shell) → IsUnmet (request_context_in c.args.limits shell files listings) old.after (texts_in old.added) missing) in
     let Whole : RequestReason → Type 0 = λ reason. InEachPair agrees (λ files listings. (asked : List Text) → IsPlan (request_context_in c.args.limits c.args.shell files listings) e asked old
-        → RefusesLoad (request_context_in c.args.limits c.args.shell files listings) e asked reason) in
+    → RefusesLoad (request_context_in c.args.limits c.args.shell files listings) e asked reason) in
     if_err c.put_in.result _ _
     (λ refusal h. stands_as (cause_of refusal) _ _ Unmet Whole (λ q. omega (arith, q, c.loaded.ensures.reads.counts_failures))
     (λ reason (same, unmet) files listings a asked plan.
@@ -76,7 +76,7 @@ returns-in-PrereqMissing-clause-failed g c =
     let unfailed = known_unfailed (cause_of c.in-Err.refusal) (prereq_missing missing) start before _ (ap cause_of c.in-PrereqMissing.is) c.in-Err.ensures.failed in
     let Any : Text → Type 0 = λ at. InEachPair agrees (λ files listings. (shell : Shell) → AnyLooksAt (request_context_in c.args.limits shell files listings) old.after missing at) in
     let Whole : Text → Type 0 = λ at. InEachPair agrees (λ files listings. (asked : List Text) → IsPlan (request_context_in c.args.limits c.args.shell files listings) e asked old
-        → AutomaticLoadLooksAt (request_context_in c.args.limits c.args.shell files listings) e asked at) in
+    → AutomaticLoadLooksAt (request_context_in c.args.limits c.args.shell files listings) e asked at) in
     fails_last is_failure start before (g.T.Tree.failed c.put_in.new.tree) c.put_in.result Any Whole unfailed
     (λ at looks files listings a asked plan. need_looks (request_context_in c.args.limits c.args.shell files listings) e asked old c.requires plan missing at
     (step files listings (c.put_in.ensures.reads.narrows files listings a)) (looks files listings a c.args.shell)) c.put_in.ensures.failed
@@ -90,7 +90,7 @@ returns-in_default-clause-refused g c =
     let Step : RequestReason → Type 0 = λ r. InEachPair agrees (λ files listings. RequestStep (request_context_in c.args.limits c.args.shell files listings) e (load tried) (Err r)) in
     let Other : RequestReason → Type 0 = λ r. Step r × IsOther r in
     let Whole : RequestReason → Type 0 = λ reason. InEachPair agrees (λ files listings. (asked : List Text) → IsPlan (request_context_in c.args.limits c.args.shell files listings) e asked old
-        → RefusesLoad (request_context_in c.args.limits c.args.shell files listings) e asked reason) in
+    → RefusesLoad (request_context_in c.args.limits c.args.shell files listings) e asked reason) in
     stands_as (cause_of c.in-Err.refusal) _ _ Other Whole (λ q. q)
     (λ r (step, final) files listings a asked plan. refuses (request_context_in c.args.limits c.args.shell files listings) e asked old c.requires plan r (step files listings a)
     (λ names. final (request_context_in c.args.limits c.args.shell files listings) e (texts_in old.added) names))
@@ -106,7 +106,7 @@ returns-in_default-clause-failed g c =
     let fails = is_failure c.in-Err.refusal in
     let Here : Text → Type 0 = λ at. InEachPair agrees (λ files listings. RequestLooksAt (request_context_in c.args.limits c.args.shell files listings) e (load tried) at) in
     let Whole : Text → Type 0 = λ at. InEachPair agrees (λ files listings. (asked : List Text) → IsPlan (request_context_in c.args.limits c.args.shell files listings) e asked old
-        → AutomaticLoadLooksAt (request_context_in c.args.limits c.args.shell files listings) e asked at) in
+    → AutomaticLoadLooksAt (request_context_in c.args.limits c.args.shell files listings) e asked at) in
     fails_then fails fails start start (g.T.Tree.failed c.loaded.new.tree) Here Whole refl refl
     (λ at looks files listings a asked plan. try_looks (request_context_in c.args.limits c.args.shell files listings) e asked old c.requires plan at (looks files listings a))
     (rw c.deref.ensures.value at c.in-Err.ensures.failed)

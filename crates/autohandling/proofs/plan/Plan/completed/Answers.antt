@@ -41,7 +41,7 @@ returns-in_err-advance-clause-refused g c =
     let agrees = g.T.Tree.agrees c.advance.new.tree in
     let narrows = c.advance.ensures.reads.narrows in
     let Here : RequestReason → Type 0 = λ reason. InEachPair agrees (λ files listings. (asked' : List Text) → IsPlan (request_context_in c.args.limits c.args.shell files listings) e asked' old
-        → RefusesLoad (request_context_in c.args.limits c.args.shell files listings) e asked' reason) in
+    → RefusesLoad (request_context_in c.args.limits c.args.shell files listings) e asked' reason) in
     let Whole : RequestReason → Type 0 = λ reason. InEachPair agrees (λ files listings. RefusesLoad (request_context_in c.args.limits c.args.shell files listings) e asked reason) in
     rw (p.1, p.2) (stands_as (cause_of c.in_err-advance.field-0.0) _ _ Here Whole (λ q. omega (arith, q, c.loop-plan.invariant.reads.counts_failures))
     (λ reason h files listings a. h files listings a asked (c.loop-plan.invariant.plan files listings (narrows files listings a))) c.in_err-advance.ensures.refused)
@@ -56,7 +56,7 @@ returns-in_err-advance-clause-failed g c =
     let narrows = c.advance.ensures.reads.narrows in
     let fails = is_failure c.in_err-advance.field-0.0 in
     let Here : Text → Type 0 = λ at. InEachPair agrees (λ files listings. (asked' : List Text) → IsPlan (request_context_in c.args.limits c.args.shell files listings) e asked' old
-        → AutomaticLoadLooksAt (request_context_in c.args.limits c.args.shell files listings) e asked' at) in
+    → AutomaticLoadLooksAt (request_context_in c.args.limits c.args.shell files listings) e asked' at) in
     let Whole : Text → Type 0 = λ at. InEachPair agrees (λ files listings. AutomaticLoadLooksAt (request_context_in c.args.limits c.args.shell files listings) e asked at) in
     rw (p.1, p.2) (fails_then fails fails (g.T.Tree.failed c.args.tree.now) (g.T.Tree.failed c.loop-plan.tree) (g.T.Tree.failed c.advance.new.tree) Here Whole c.loop-plan.invariant.unfailed refl
     (λ at h files listings a. h files listings a asked (c.loop-plan.invariant.plan files listings (narrows files listings a))) c.in_err-advance.ensures.failed)

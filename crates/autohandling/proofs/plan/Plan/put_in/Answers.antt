@@ -23,8 +23,8 @@ returns-in_err-found-clause-failed g c =
     let fault = c.in_err-found.field-0.0 in
     let before = g.T.Tree.failed c.args.tree.now in
     let Looks : Text → Type 0 = λ at.
-        InEachPair (g.T.Tree.agrees c.first_found.new.tree) (λ files listings. (shell : Shell)
-        → AnyLooksAt (request_context_in c.args.limits shell files listings) c.args.self.now.after (texts_in c.args.missing.names) at) in
+    InEachPair (g.T.Tree.agrees c.first_found.new.tree) (λ files listings. (shell : Shell)
+    → AnyLooksAt (request_context_in c.args.limits shell files listings) c.args.self.now.after (texts_in c.args.missing.names) at) in
     rw (p.1, p.2) (fails_then (is_failure fault) (refused (Find fault)) before before (g.T.Tree.failed c.first_found.new.tree) Looks Looks refl (found_failure fault) (λ at h. h)
     (rw c.as_slice.ensures.value at c.in_err-found.ensures.failed))
 
@@ -33,26 +33,26 @@ returns-in_default-clause-refused g c =
     let found = rw c.as_slice.ensures.value at c.in_ok-found.ensures.found in (
       refl,
       λ files listings a shell.
-      inl (none_found (request_context_in c.args.limits shell files listings) c.args.self.now.after (texts_in c.args.missing.names) c.in_ok-found.found c.in_default.not-Some (found files listings a shell)),
+          inl (none_found (request_context_in c.args.limits shell files listings) c.args.self.now.after (texts_in c.args.missing.names) c.in_ok-found.found c.in_default.not-Some (found files listings a shell)),
     )
 
 pub returns-then-is_spent-clause-refused : goal.returns-then-is_spent-clause-refused
 returns-then-is_spent-clause-refused g c =
     let found = rw c.as_slice.ensures.value at c.in_ok-found.ensures.found in
     let spent : is_spent (string_bytes c.in-Some.name) (texts_in c.args.self.now.added) ≡ true =
-        sym (rw (c.as_str.ensures.value, c.as_slice-2.ensures.value) at c.is_spent.ensures) ∙ c.if-is_spent.true in (
+    sym (rw (c.as_str.ensures.value, c.as_slice-2.ensures.value) at c.is_spent.ensures) ∙ c.if-is_spent.true in (
       refl,
       λ files listings a shell.
-      let s = request_context_in c.args.limits shell files listings in
-      let Among : Option (String Global) → Type 0 = λ o. FoundAmong s c.args.self.now.after (texts_in c.args.missing.names) (option_map string_bytes o) in
-      inr (string_bytes c.in-Some.name, subst Among c.in-Some.is (found files listings a shell), spent),
+          let s = request_context_in c.args.limits shell files listings in
+          let Among : Option (String Global) → Type 0 = λ o. FoundAmong s c.args.self.now.after (texts_in c.args.missing.names) (option_map string_bytes o) in
+          inr (string_bytes c.in-Some.name, subst Among c.in-Some.is (found files listings a shell), spent),
     )
 
 pub returns-clause-advanced : goal.returns-clause-advanced
 returns-clause-advanced g c =
     let found = rw c.as_slice.ensures.value at c.in_ok-found.ensures.found in
     let unspent : is_spent (string_bytes c.in-Some.name) (texts_in c.args.self.now.added) ≡ false =
-        sym (rw (c.as_str.ensures.value, c.as_slice-2.ensures.value) at c.is_spent.ensures) ∙ c.if-is_spent.false in
+    sym (rw (c.as_str.ensures.value, c.as_slice-2.ensures.value) at c.is_spent.ensures) ∙ c.if-is_spent.false in
     λ files listings a shell.
     let s = request_context_in c.args.limits shell files listings in
     let Among : Option (String Global) → Type 0 = λ o. FoundAmong s c.args.self.now.after (texts_in c.args.missing.names) (option_map string_bytes o) in
