@@ -180,8 +180,8 @@ fn may_lose(name_action: NameAction, entries: &[Loaded]) -> bool
     }
 }
 
-/// Loads or unloads the module of each name in turn, where no module can lose what it needs: that isn't judged then,
-/// and the list from before isn't kept.
+/// Loads or unloads the module of each name in turn, where no module can lose what it needs: that isn't judged then, and
+/// the list from before isn't kept.
 fn change_freely<T: Tree, V: Vars>(
     alloc: Global,
     settings: EvaluationSettings,
