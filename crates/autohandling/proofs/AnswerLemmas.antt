@@ -1,5 +1,5 @@
 -- What is answered for the names whose request is accepted, and why nothing is.
-use Rattle.std.proofs.Common.{◌≡◌, List, string_bytes, String, Result, Ok, Err, IfOk, IfErr, refl, sym, subst}
+use Rattle.std.proofs.Common.{◌≡◌, List, string_bytes, String, Result, Ok, Err, IfOk, IfErr, sym, subst}
 use Rattle.std.specs.declared.alloc.Global.{Global}
 use Rattle.std.specs.declared.vec.Vec.{Vec}
 use Rattle.envvars.specs.Texts.{Text, texts_in}
@@ -13,7 +13,7 @@ use Rattle.shelltext.specs.declared.shell.Shell.{Shell}
 use Rattle.tclrules.specs.declared.limits.Limits.{Limits}
 use Rattle.requests.specs.Reasons.{RequestReason}
 use Rattle.requests.specs.Requests.{RequestedAction}
-use Rattle.requests.specs.Steps.{Done, RequestStep, request_context_in}
+use Rattle.requests.specs.Steps.{RequestStep, request_context_in}
 use Rattle.modules.specs.Answers.{cause_of}
 use Rattle.modules.specs.MoveViews.{moves_of}
 use Rattle.modules.specs.Replies.{changed_env, changed_view}

@@ -3,7 +3,6 @@ use Rattle.std.proofs.Common.{◌≡◌, List, Option, Some, None, refl}
 use Rattle.envvars.specs.Texts.{Text}
 use Rattle.envvars.specs.Environment.{Environment}
 use Rattle.filetree.specs.Causes.{Applies, Cause, memory, device, because}
-use Rattle.modulefile.specs.Files.{FileReason}
 use Rattle.modulefile.specs.Judgments.{bad_edit}
 use Rattle.search.specs.Answers as search
 use Rattle.search.specs.Reasons.{FindReason}

@@ -1,5 +1,5 @@
 -- How an automated load goes on: what a try of the next name makes of the names so far.
-use Rattle.std.proofs.Common.{◌≡◌, ℕ, ◌+◌, ◌<◌, ◌≤◌, true, false, List, [], ◌∷◌, ◌++◌, length, take, drop, get_or, Result, Ok, Err, inl, inr, refl, sym, ap, subst, ◌∙◌, arith, append-nil}
+use Rattle.std.proofs.Common.{◌≡◌, ℕ, ◌+◌, ◌<◌, ◌≤◌, true, false, List, [], ◌∷◌, ◌++◌, length, take, drop, get_or, Ok, Err, inl, inr, sym, ap, subst, ◌∙◌, arith, append-nil}
 use Rattle.std.proofs.lemmas.List.{take-append-drop, take-append-le, take_all, take_more, drop_more, length-take-le}
 use Rattle.std.specs.Prelude.{◌⊎◌, All, Contains, insert}
 use Rattle.envvars.specs.Texts.{Text}

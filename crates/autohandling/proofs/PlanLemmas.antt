@@ -1,16 +1,15 @@
 -- What a plan is after a try of its next name.
-use Rattle.std.proofs.Common.{◌≡◌, ℕ, ◌+◌, ◌<◌, ◌≤◌, true, false, List, [], ◌∷◌, ◌++◌, length, map, take, string_bytes, String, Result, Ok, Err, refl, sym, subst, arith}
+use Rattle.std.proofs.Common.{◌≡◌, ℕ, ◌+◌, ◌<◌, ◌≤◌, List, [], ◌∷◌, ◌++◌, length, map, take, string_bytes, String, Result, Ok, Err, sym, subst, arith}
 use Rattle.std.proofs.lemmas.List.{take-map, take_all, length-map}
 use Rattle.std.specs.Prelude.{insert, vec_len}
 use Rattle.std.specs.declared.alloc.Global.{Global}
 use Rattle.envvars.specs.Texts.{Text, texts_in}
 use Rattle.envvars.specs.Environment.{Environment}
-use Rattle.requests.specs.Looked.{RequestLooksAt, SearchLooksAt}
+use Rattle.requests.specs.Looked.{RequestLooksAt}
 use Rattle.requests.specs.Reasons.{RequestReason, prereq_missing}
 use Rattle.requests.specs.Requests.{load}
 use Rattle.requests.specs.Steps.{RequestContext, Done, RequestStep}
-use Rattle.autohandling.specs.Adding.{is_spent}
-use Rattle.autohandling.specs.Loads.{AutomaticLoadLooksAt, Completes, as_asked, IsFinal, IsFirstFound, IsMissed, LoadsTo, RefusesLoad}
+use Rattle.autohandling.specs.Loads.{AutomaticLoadLooksAt, Completes, as_asked, IsFinal, LoadsTo, RefusesLoad}
 use Rattle.autohandling.specs.Views.{AnyLooksAt, IsPlan, IsUnmet, IsWhole, Loads, PutsIn}
 use Rattle.autohandling.specs.declared.plan.Plan.{Plan}
 use Rattle.autohandling.proofs.LoadLemmas as tries

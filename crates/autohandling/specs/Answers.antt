@@ -1,7 +1,7 @@
 -- What an automated load or unload answers, and why there is no answer (own).
-use Rattle.std.specs.Prelude.{◌≡◌, List, Result, Ok, Err, string_bytes}
+use Rattle.std.specs.Prelude.{◌≡◌, Result, Ok, Err, string_bytes}
 use Rattle.message.specs.Refusals.{NumberedText}
-use Rattle.envvars.specs.Texts.{Text, texts_in}
+use Rattle.envvars.specs.Texts.{texts_in}
 use Rattle.envvars.specs.Environment.{Environment}
 use Rattle.filetree.specs.Agreement.{Files, Listings, InEachPair}
 use Rattle.filetree.specs.Causes.{Applies}

@@ -1,8 +1,8 @@
-use Rattle.std.proofs.Common.{◌≡◌, List, [], map, string_bytes, String, Result, Ok, Err, refl, sym, ap, subst, ◌∙◌, arith}
+use Rattle.std.proofs.Common.{◌≡◌, List, [], map, string_bytes, String, Ok, Err, refl, sym, ap, subst, arith}
 use Rattle.std.specs.declared.alloc.Global.{Global}
 use Rattle.envvars.specs.Texts.{Text, texts_in}
 use Rattle.filetree.specs.Agreement.{FailsOnlyWhere, InEachPair}
-use Rattle.filetree.proofs.FailedPaths.{fails_then, only_if, only_none}
+use Rattle.filetree.proofs.FailedPaths.{fails_then, only_if}
 use Rattle.requests.specs.Looked.{RequestLooksAt}
 use Rattle.requests.specs.Reasons.{RequestReason, prereq_missing}
 use Rattle.requests.specs.Requests.{load}
@@ -20,46 +20,31 @@ use Rattle.autohandling.proofs.ResultLemmas.{if_ok}
 use Rattle.autohandling.proofs.UnloadLemmas.{known_reason, known_unfailed}
 use Rattle.autohandling.proofs.loading.load_automatically.Goals as goal
 
-pub returns-in_err-own-clause-failed : goal.returns-in_err-own-clause-failed
-returns-in_err-own-clause-failed g c = only_none _ _ _ c.in-Ok.ensures.failed
-
-pub returns-in-Ok-clause-loaded : goal.returns-in-Ok-clause-loaded
-returns-in-Ok-clause-loaded g c =
+pub returns-in_ok-own-in-Ok-clause-loaded : goal.returns-in_ok-own-in-Ok-clause-loaded
+returns-in_ok-own-in-Ok-clause-loaded g c =
     let agrees = g.T.Tree.agrees c.load.new.tree in
     let done = changed_view c.args.env.now c.in-Ok.changed in
     let Stepped : List Text → Type 0 = λ l. InEachPair agrees (λ files listings. RequestStep (request_context_in c.args.limits c.args.shell files listings) c.args.env.now (load l) (Ok done)) in
-    answered agrees c.args.shell c.args.env.now c.in-Ok.changed c.args.limits load c.in_ok-own.own c.new.result c.answer_of.result
-    (subst Stepped (sym c.in_ok-own.ensures) c.in-Ok.ensures.over_tree) c.answer_of.ensures.said c.answer_of.ensures.done c.answer_of.ensures.names
+    answered agrees c.args.shell c.args.env.now c.in-Ok.changed c.args.limits load c.in_ok-own-in-Ok.own c.new.result c.answer_of.result
+    (subst Stepped (sym c.in_ok-own-in-Ok.ensures) c.in-Ok.ensures.over_tree) c.answer_of.ensures.said c.answer_of.ensures.done c.answer_of.ensures.names
 
-pub returns-in-Ok-clause-completed : goal.returns-in-Ok-clause-completed
-returns-in-Ok-clause-completed g c =
+pub returns-in_ok-own-in-Ok-clause-completed : goal.returns-in_ok-own-in-Ok-clause-completed
+returns-in_ok-own-in-Ok-clause-completed g c =
     let e = c.args.env.now in
     let asked : List Text = map (λ (s : String Global). string_bytes s) c.args.names.now in
     let none : texts_in c.new.result ≡ [] = ap (map (λ (s : String Global). string_bytes s)) c.new.ensures.items in
     let P : List Text → List Text → Type 0 = λ added names.
     InEachPair (g.T.Tree.agrees c.load.new.tree) (λ files listings. Completes (request_context_in c.args.limits c.args.shell files listings) e asked added names) in
-    of_names c.in_ok-own.own c.new.result c.answer_of.result P
-    (subst (λ (l : List Text). P l (texts_in c.in_ok-own.own)) (sym none) (subst (λ (l : List Text). P [] l) (sym c.in_ok-own.ensures) (λ files listings a. as_asked))) c.answer_of.ensures.names
+    of_names c.in_ok-own-in-Ok.own c.new.result c.answer_of.result P
+    (subst (λ (l : List Text). P l (texts_in c.in_ok-own-in-Ok.own)) (sym none) (subst (λ (l : List Text). P [] l) (sym c.in_ok-own-in-Ok.ensures) (λ files listings a. as_asked))) c.answer_of.ensures.names
 
-pub returns-in-Ok-clause-as_asked : goal.returns-in-Ok-clause-as_asked
-returns-in-Ok-clause-as_asked g c =
-    let e = c.args.env.now in
-    let asked : List Text = map (λ (s : String Global). string_bytes s) c.args.names.now in
-    let P : List Text → List Text → Type 0 = λ added names.
-    InEachPair (g.T.Tree.agrees c.load.new.tree) (λ files listings. (d : Done)
-    → RequestStep (request_context_in c.args.limits c.args.shell files listings) e (load asked) (Ok d) → names ≡ asked) in
-    of_names c.in_ok-own.own c.new.result c.answer_of.result P (λ files listings a d step. c.in_ok-own.ensures) c.answer_of.ensures.names
-
-pub returns-in-Ok-clause-refused : goal.returns-in-Ok-clause-refused
-returns-in-Ok-clause-refused g c =
+pub returns-in_ok-own-in-Ok-clause-refused : goal.returns-in_ok-own-in-Ok-clause-refused
+returns-in_ok-own-in-Ok-clause-refused g c =
     let e = c.args.env.now in
     let asked : List Text = map (λ (s : String Global). string_bytes s) c.args.names.now in
     let Comes : Outcomes = λ files listings. AutomaticLoad (request_context_in c.args.limits c.args.shell files listings) e asked in
     faulted (g.T.Tree.agrees c.load.new.tree) c.args.shell e c.in-Ok.changed _ Comes c.answer_of.result
     (λ files listings a. ([], asked, as_asked, c.in-Ok.ensures.over_tree files listings a)) c.answer_of.ensures.fault
-
-pub returns-in-Ok-clause-failed : goal.returns-in-Ok-clause-failed
-returns-in-Ok-clause-failed g c = only_none _ _ _ c.in-Ok.ensures.failed
 
 pub returns-in-PrereqMissing-clause-as_asked : goal.returns-in-PrereqMissing-clause-as_asked
 returns-in-PrereqMissing-clause-as_asked g c =

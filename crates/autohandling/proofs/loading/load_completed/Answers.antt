@@ -1,4 +1,4 @@
-use Rattle.std.proofs.Common.{◌≡◌, List, map, string_bytes, String, Ok, Err, refl, sym, subst, ◌∙◌, arith}
+use Rattle.std.proofs.Common.{List, map, string_bytes, String, Err, refl, ◌∙◌, arith}
 use Rattle.std.proofs.lemmas.Result.{err_from_is_err_and}
 use Rattle.std.specs.declared.alloc.Global.{Global}
 use Rattle.envvars.specs.Texts.{Text, texts_in}
@@ -9,13 +9,15 @@ use Rattle.requests.specs.Reasons.{RequestReason}
 use Rattle.requests.specs.Requests.{load}
 use Rattle.requests.specs.Steps.{RequestStep, request_context_in}
 use Rattle.modules.specs.Answers.{cause_of, is_failure}
-use Rattle.modules.specs.Replies.{changed_view}
 use Rattle.modules.proofs.StepLemmas.{stands_as}
 use Rattle.autohandling.specs.Answers.{Outcomes}
 use Rattle.autohandling.specs.Loads.{AutomaticLoad, AutomaticLoadLooksAt, Completes, RefusesLoad}
 use Rattle.autohandling.proofs.AnswerLemmas.{answered, faulted, of_names}
 use Rattle.autohandling.proofs.LoadLemmas.{last_looks, last_refuses}
 use Rattle.autohandling.proofs.loading.load_completed.Goals as goal
+
+pub returns-in_err-plan-clause-failed : goal.returns-in_err-plan-clause-failed
+returns-in_err-plan-clause-failed g c = only_if _ _ _ _ c.in_err-plan.ensures.failed
 
 pub returns-in_err-changed-clause-refused : goal.returns-in_err-changed-clause-refused
 returns-in_err-changed-clause-refused g c =

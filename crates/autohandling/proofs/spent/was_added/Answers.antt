@@ -1,4 +1,4 @@
-use Rattle.std.proofs.Common.{rules, tests, map, string_bytes, bytes_eq, String, ◌∙◌}
+use Rattle.std.proofs.Common.{rules, tests, string_bytes, bytes_eq, String, ◌∙◌}
 use Rattle.std.specs.declared.alloc.Global.{Global}
 use Rattle.std.proofs.lemmas.Iterator.Search.{any_from_yields_List}
 use Rattle.std.proofs.lemmas.Iterator.{YieldsList-from_slice}

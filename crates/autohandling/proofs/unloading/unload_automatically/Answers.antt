@@ -1,5 +1,4 @@
-use Rattle.std.proofs.Common.{◌≡◌, List, [], map, string_bytes, String, Ok, Err, refl, sym, ap, subst, ◌∙◌, arith}
-use Rattle.std.proofs.lemmas.Result.{err_from_is_err_and}
+use Rattle.std.proofs.Common.{◌≡◌, List, [], map, string_bytes, String, Err, refl, sym, ap, subst, ◌∙◌}
 use Rattle.std.specs.declared.alloc.Global.{Global}
 use Rattle.envvars.specs.Texts.{Text, texts_in}
 use Rattle.filetree.specs.Agreement.{InEachPair}
@@ -10,18 +9,17 @@ use Rattle.requests.specs.Requests.{unload}
 use Rattle.requests.specs.Steps.{RequestStep, request_context_in}
 use Rattle.modules.specs.Answers.{cause_of, is_failure}
 use Rattle.modules.specs.Replies.{changed_view}
-use Rattle.modules.proofs.StepLemmas.{stands_as}
 use Rattle.modules.proofs.TreeAnswers.{reads_both, same_tree}
 use Rattle.autohandling.specs.Answers.{Outcomes}
-use Rattle.autohandling.specs.Unloads.{AutomaticUnload, AutomaticUnloadLooksAt, RefusesUnload, StillNeed, in_front}
+use Rattle.autohandling.specs.Unloads.{AutomaticUnload, AutomaticUnloadLooksAt, StillNeed, in_front}
 use Rattle.autohandling.proofs.AnswerLemmas.{answered, faulted, of_names}
-use Rattle.autohandling.proofs.UnloadLemmas.{known_reason, known_unfailed, longer_names, longer_need, looks, not_put, refuses, unloads}
+use Rattle.autohandling.proofs.UnloadLemmas.{known_reason, known_unfailed, longer_names, longer_need, looks, unloads}
 use Rattle.autohandling.proofs.unloading.unload_automatically.Goals as goal
 
 pub loop-changed-init : goal.loop-changed-init
 loop-changed-init g c =
     let asked : List Text = map (λ (s : String Global). string_bytes s) c.args.asked.now in
-    let none : texts_in c.new.result ≡ [] = ap (map (λ (s : String Global). string_bytes s)) c.new.ensures.items in
+    let none : texts_in c.new-added.result ≡ [] = ap (map (λ (s : String Global). string_bytes s)) c.new-added.ensures.items in
     record {
       reads = same_tree c.args.tree.now;
       unfailed = refl;
@@ -37,7 +35,7 @@ loop-changed-preserved g c =
     let names = texts_in c.loop-changed.names in
     let invariant = c.loop-changed.invariant in
     let narrows = c.unload.ensures.reads.narrows in
-    let put = c.in_ok-put_in_front.ensures.put in
+    let put = c.in_ok-put_in_front-in-Err.ensures.put in
     let start = g.T.Tree.failed c.loop-changed.tree in
     let Step : RequestReason → Type 0 = λ r.
     InEachPair (g.T.Tree.agrees c.unload.new.tree) (λ files listings. RequestStep (request_context_in c.args.limits c.args.shell files listings) e (unload names) (Err r)) in
@@ -86,26 +84,8 @@ returns-in-Ok-clause-refused g c =
 pub returns-in-Ok-clause-failed : goal.returns-in-Ok-clause-failed
 returns-in-Ok-clause-failed g c = only_none _ _ _ (c.in-Ok.ensures.failed ∙ c.loop-changed.invariant.unfailed)
 
-pub returns-in_err-put_in_front-clause-refused : goal.returns-in_err-put_in_front-clause-refused
-returns-in_err-put_in_front-clause-refused g c =
-    let p = err_from_is_err_and c.from_residual-in_err-put_in_front.result c.from_residual-in_err-put_in_front.ensures.1 in
-    let e = c.args.env.now in
-    let asked : List Text = map (λ (s : String Global). string_bytes s) c.args.asked.now in
-    let added = texts_in c.loop-changed.added in
-    let names = texts_in c.loop-changed.names in
-    let invariant = c.loop-changed.invariant in
-    let agrees = g.T.Tree.agrees c.unload.new.tree in
-    let narrows = c.unload.ensures.reads.narrows in
-    let Here : RequestReason → Type 0 = λ r. InEachPair agrees (λ files listings. RequestStep (request_context_in c.args.limits c.args.shell files listings) e (unload names) (Err r)) in
-    let Whole : RequestReason → Type 0 = λ r. InEachPair agrees (λ files listings. RefusesUnload (request_context_in c.args.limits c.args.shell files listings) e asked r) in
-    rw (p.1, p.2) (stands_as (cause_of c.in_err-put_in_front.field-0.0) _ _ Whole Whole (λ q. omega (arith, q, invariant.reads.counts_failures)) (λ r k. k)
-    (not_put (cause_of c.in-Err.refusal) (cause_of c.in_err-put_in_front.field-0.0) added _ Here Whole c.in_err-put_in_front.ensures.refused
-    (λ r step final files listings a. refuses (request_context_in c.args.limits c.args.shell files listings) e asked added names invariant.names
-    (invariant.needing files listings (narrows files listings a)) r (step files listings a) final)
-    (rw c.as_slice.ensures.value at c.in-Err.ensures.over_tree)))
-
-pub returns-in_err-put_in_front-clause-failed : goal.returns-in_err-put_in_front-clause-failed
-returns-in_err-put_in_front-clause-failed g c =
+pub returns-in_err-put_in_front-in-Err-clause-failed : goal.returns-in_err-put_in_front-in-Err-clause-failed
+returns-in_err-put_in_front-in-Err-clause-failed g c =
     let e = c.args.env.now in
     let asked : List Text = map (λ (s : String Global). string_bytes s) c.args.asked.now in
     let added = texts_in c.loop-changed.added in

@@ -1,4 +1,4 @@
-use Rattle.std.proofs.Common.{◌≡◌, ◌+◌, ◌<◌, List, map, take, string_bytes, String, Err, refl, sym, ap, subst, arith}
+use Rattle.std.proofs.Common.{◌≡◌, ◌+◌, List, map, take, string_bytes, String, Err, refl, sym, ap, subst, arith}
 use Rattle.std.specs.declared.alloc.Global.{Global}
 use Rattle.envvars.specs.Texts.{Text, texts_in}
 use Rattle.filetree.specs.Agreement.{InEachPair}
@@ -9,7 +9,6 @@ use Rattle.requests.specs.Reasons.{RequestReason, prereq_missing}
 use Rattle.requests.specs.Requests.{load}
 use Rattle.requests.specs.Steps.{RequestStep, request_context_in}
 use Rattle.modules.specs.Answers.{cause_of, is_failure}
-use Rattle.modules.specs.declared.refusal.Refusal.{Refusal}
 use Rattle.modules.proofs.StepLemmas.{stands_as}
 use Rattle.autohandling.specs.Loads.{AutomaticLoadLooksAt, RefusesLoad}
 use Rattle.autohandling.specs.Views.{AnyLooksAt, IsPlan, IsUnmet, PutsIn}

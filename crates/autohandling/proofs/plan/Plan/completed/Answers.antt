@@ -1,7 +1,7 @@
-use Rattle.std.proofs.Common.{◌≡◌, List, [], map, string_bytes, String, refl, sym, ap, subst, ◌∙◌, arith}
+use Rattle.std.proofs.Common.{List, map, string_bytes, String, refl, ap, ◌∙◌, arith}
 use Rattle.std.proofs.lemmas.Result.{err_from_is_err_and}
 use Rattle.std.specs.declared.alloc.Global.{Global}
-use Rattle.envvars.specs.Texts.{Text, texts_in}
+use Rattle.envvars.specs.Texts.{Text}
 use Rattle.filetree.specs.Agreement.{InEachPair}
 use Rattle.filetree.proofs.FailedPaths.{fails_then}
 use Rattle.requests.specs.Reasons.{RequestReason}

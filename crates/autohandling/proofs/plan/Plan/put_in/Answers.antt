@@ -1,4 +1,4 @@
-use Rattle.std.proofs.Common.{◌≡◌, true, false, List, [], ◌∷◌, ◌++◌, map, string_bytes, String, Option, Some, inl, inr, refl, sym, ap, subst, ◌∙◌}
+use Rattle.std.proofs.Common.{◌≡◌, true, false, [], ◌∷◌, ◌++◌, map, string_bytes, String, Option, inl, inr, refl, sym, ap, subst, ◌∙◌}
 use Rattle.std.proofs.lemmas.Result.{err_from_is_err_and}
 use Rattle.std.specs.Option.{option_map}
 use Rattle.std.specs.declared.alloc.Global.{Global}
@@ -12,7 +12,6 @@ use Rattle.modules.specs.Answers.{is_failure as refused}
 use Rattle.modules.specs.declared.refusal.Refusal.TheVariants.{Find}
 use Rattle.modules.proofs.FailureLemmas.{found_failure}
 use Rattle.autohandling.specs.Adding.{is_spent}
-use Rattle.autohandling.specs.Loads.{IsFirstFound}
 use Rattle.autohandling.specs.Views.{AnyLooksAt, FoundAmong}
 use Rattle.autohandling.proofs.FindLemmas.{none_found, texts_insert, texts_push}
 use Rattle.autohandling.proofs.plan.Plan.put_in.Goals as goal
