@@ -125,16 +125,3 @@ pub fn file_text(alloc: Global, bytes: &[u8]) -> Result<FileText, AllocError>
         returns,
     })
 }
-
-#[test]
-fn texts_as_they_come(rt: HostRuntime) {
-    let file = file_text(rt.alloc(), b"\xef\xbb\xbfa\r\nb\rc\r").unwrap();
-    assert!(rt; file.text.as_slice() == b"a\nb\rc\r".as_slice());
-    assert!(rt; file.mark && file.returns && !file.latin);
-    let file = file_text(rt.alloc(), b"caf\xe9\r\r\n").unwrap();
-    assert!(rt; file.text.as_slice() == b"caf\xc3\xa9\r\n".as_slice());
-    assert!(rt; !file.mark && file.returns && file.latin);
-    let file = file_text(rt.alloc(), b"caf\xc3\xa9\n").unwrap();
-    assert!(rt; file.text.as_slice() == b"caf\xc3\xa9\n".as_slice());
-    assert!(rt; !file.mark && !file.returns && !file.latin);
-}

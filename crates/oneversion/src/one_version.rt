@@ -125,27 +125,3 @@ pub fn with_one_version(alloc: Global, text: &str, name: &str) -> Result<Option<
         Err(_) => Err(TextFault::OutOfMemory),
     }
 }
-
-#[test]
-fn conflicts_are_added(rt: HostRuntime) {
-    let given = "# gcc\n\nprereq zlib\nconflict g++\n";
-    let text = with_one_version(rt.alloc(), given, "gcc").unwrap().unwrap();
-    assert!(rt;
-        text.as_slice() == b"# gcc\n\nconflict gcc\nprereq zlib\nconflict g++\n".as_slice()
-    );
-    assert!(rt;
-        with_one_version(rt.alloc(), "conflict a \"gcc\" b", "gcc")
-            .unwrap()
-            .is_none()
-    );
-    assert!(rt;
-        with_one_version(rt.alloc(), "# nothing", "gcc")
-            .unwrap()
-            .is_none()
-    );
-    assert!(rt;
-        with_one_version(rt.alloc(), "setenv A 1", "g cc")
-            .unwrap()
-            .is_none()
-    );
-}
