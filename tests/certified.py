@@ -17,7 +17,6 @@ is loaded.
 """
 
 import json
-import os
 import subprocess
 
 import pytest
@@ -41,7 +40,6 @@ class Site:
     def __init__(self, tree, modulepath):
         self.tree = tree
         self.modulepath = modulepath
-        self.directories = standings.site_directories(modulepath, self.modules_in)
         self.modules = standings.site_modules(modulepath, self.modules_in)
         self.certified = standings.certified(self.modules)
         self.uses = standings.certificate(self.modules)
@@ -240,8 +238,6 @@ def differs(found, site):
     pairs = {
         "the modules": (sorted(modules), sorted(wanted)),
         "the certificate": (uses_in(found["certificate"]), set(site.uses)),
-        "the missing directories": (found["missing_directories"], standings.missing(site.directories, os.path.isdir)),
-        "the files that are no modulefiles": (found["no_modulefiles"], []),
         "the counts": ((found["certified"], found["count"]), (len(site.certified), len(site.modules))),
     }
     return next((f"{what}: {one!r}, by the model {other!r}" for what, (one, other) in pairs.items() if one != other), None)

@@ -157,23 +157,9 @@ count_fields modules =
 abbrev pub certificate_field : List UsedVariable → Field
 certificate_field certificate = (codes "certificate", array_of (map used_value certificate))
 
--- the directories that aren't there
-abbrev pub missing_field : List (String Global) → Field
-missing_field dirs = texts_field (codes "missing_directories") dirs
-
--- the paths of the files that are no modulefiles
-abbrev pub no_modulefiles_field : List (String Global) → Field
-no_modulefiles_field paths = texts_field (codes "no_modulefiles") paths
-
 -- the paths of the default files that have a fault
 abbrev pub bad_files_field : List (String Global) → Field
 bad_files_field paths = texts_field (codes "bad_default_files") paths
-
--- the directories that aren't there, and the files that are no modulefiles or have a fault
-abbrev pub file_fields : SiteAudit → List Field
-file_fields found =
-    missing_field found.missing_directories.items ∷ no_modulefiles_field found.no_modulefiles.items
-    ∷ bad_files_field found.bad_default_files.items ∷ []
 
 -- the names that mean no module of the site, and where the environment at hand doesn't agree with the certificate
 abbrev pub rest_fields : List UnknownNames → List Disagreement → List Field
@@ -185,8 +171,8 @@ rest_fields unknowns reasons =
 abbrev pub document : Selection → SiteAudit → Json
 document selection found =
     object_of (modules_field selection found.modules.items ∷ count_fields found.modules.items
-    ++ certificate_field found.certificate.items ∷ file_fields found
-    ++ rest_fields found.unknown_names.items found.disagreements.items)
+    ++ certificate_field found.certificate.items ∷ bad_files_field found.bad_default_files.items
+    ∷ rest_fields found.unknown_names.items found.disagreements.items)
 
 -- its text, on a line of its own
 abbrev pub document_text : Selection → SiteAudit → Text

@@ -273,23 +273,6 @@ fn write_rest(
     writer.end_array()
 }
 
-/// Writes the directories that aren't there, and the files that are no modulefiles or have a fault, as members.
-fn write_paths(writer: &mut Writer, found: &SiteAudit) -> Result<(), AllocError>
-    ensures { OnOk result (AddsTokens writer.old writer.new (fields_tokens (spec.file_fields found.now))) }
-{
-    write_text_array(
-        writer,
-        "missing_directories",
-        found.missing_directories.as_slice(),
-    )?;
-    write_text_array(writer, "no_modulefiles", found.no_modulefiles.as_slice())?;
-    write_text_array(
-        writer,
-        "bad_default_files",
-        found.bad_default_files.as_slice(),
-    )
-}
-
 /// Writes the whole document.
 fn write_document(
     alloc: Global,
@@ -303,7 +286,11 @@ fn write_document(
     write_modules(alloc, writer, selection, found.modules.as_slice())?;
     write_counts(writer, found.modules.as_slice())?;
     write_certificate(alloc, writer, found.certificate.as_slice())?;
-    write_paths(writer, found)?;
+    write_text_array(
+        writer,
+        "bad_default_files",
+        found.bad_default_files.as_slice(),
+    )?;
     write_rest(
         alloc,
         writer,
