@@ -1,0 +1,4 @@
+pub mod PartLemmas
+pub mod HidingLemmas
+pub mod RememberLemmas
+pub mod ReadableLemmas

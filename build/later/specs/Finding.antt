@@ -1,0 +1,33 @@
+-- Whether the search finds a module for one of some names (module(1), is-avail).
+use Rattle.std.specs.Prelude.{◌≡◌, ◌⊎◌, Bool, true, false, List, [], ◌∷◌, Option, Ok, Err}
+use Rattle.message.specs.Messages.{Text}
+use Rattle.filetree.specs.Agreement.{Files, Listings}
+use Rattle.search.specs.DefaultFiles.{DefaultFileResult}
+use Rattle.search.specs.Looked.{LooksAt}
+use Rattle.search.specs.Reasons.{FindReason}
+use Rattle.lookup.specs.Located.{Located, LocatedModule}
+
+-- the search finds a module that the name means; or it finds none, for a reason
+abbrev pub IsFound : (Text → Text → Option DefaultFileResult → Type 0) → Files → Listings → Text → Text → Bool → Type 0
+IsFound results files folders modulepath name true =
+    (found : LocatedModule) × Located results files folders modulepath name (Ok found)
+IsFound results files folders modulepath name false =
+    (reason : FindReason) × Located results files folders modulepath name (Err reason)
+
+-- It finds one for the first of the names, or for one of the others. For no name it finds one.
+abbrev pub IsOneFound : (Text → Text → Option DefaultFileResult → Type 0) → Files → Listings → Text → List Text → Bool
+    → Type 0
+IsOneFound results files folders modulepath [] answer = answer ≡ false
+IsOneFound results files folders modulepath (name ∷ names) answer =
+    (IsFound results files folders modulepath name true × (answer ≡ true))
+    ⊎ (IsFound results files folders modulepath name false × IsOneFound results files folders modulepath names answer)
+
+-- the paths that are looked at for names in turn: those of the search for the first, and those for the others where it
+-- means none
+abbrev pub SearchesLookAt : (Text → Text → Option DefaultFileResult → Type 0) → Files → Listings → Text → List Text
+    → Text → Type 0
+SearchesLookAt results files folders modulepath [] at = ⊥
+SearchesLookAt results files folders modulepath (name ∷ names) at =
+    LooksAt results files folders modulepath name at
+    ⊎ (IsFound results files folders modulepath name false
+    × SearchesLookAt results files folders modulepath names at)

@@ -1,0 +1,11 @@
+-- The definitions of `avail`, `list` and `is-avail` (module(1)).
+pub mod Faults
+pub mod Options
+pub mod Texts
+pub mod Finding
+pub mod Hidden
+pub mod Chosen
+pub mod Reports
+pub mod Available
+-- for this crate's own contracts alone
+pub mod Views
