@@ -1,0 +1,1 @@
+-- Where a request failed, and what to do.
