@@ -1,1 +1,2 @@
--- Where a request failed, and what to do.
+-- Which command of a modulefile failed in a request.
+pub mod Cuts

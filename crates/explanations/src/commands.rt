@@ -1,4 +1,6 @@
 //! The commands of a script that stands in a text, by their places.
+ghost use Rattle.std.specs.Prelude.{◌≡◌, IfOk, vec_items};
+ghost use Rattle.explanations.specs.Cuts as cuts;
 
 use std::alloc::{AllocError, Global};
 use tclchars::TextFault;
@@ -83,17 +85,28 @@ pub(crate) fn places_of(
     Ok(places)
 }
 
+/// A byte that stands at an index, or a space in its place.
+fn byte_at(begin: usize, end: usize, index: usize, byte: u8) -> u8
+    ensures { result ≡ cuts.byte_at begin end index byte }
+{
+    if begin <= index && index < end {
+        b' '
+    } else {
+        byte
+    }
+}
+
 /// The text with a space for each byte from one offset up to another.
 pub(crate) fn blanked(
     alloc: Global,
     text: &[u8],
     begin: usize,
     end: usize,
-) -> Result<Vec<u8>, AllocError> {
-    let mut blank = Vec::with_capacity(alloc, text.len())?;
-    for (index, byte) in text.iter().enumerate() {
-        let is_kept = index < begin || end <= index;
-        blank.push(if is_kept { *byte } else { b' ' })?;
-    }
-    Ok(blank)
+) -> Result<Vec<u8>, AllocError>
+    ensures { IfOk result (λ v. vec_items v ≡ cuts.blanked text.now begin end) }
+{
+    text.iter()
+        .enumerate()
+        .map(|(index, byte)| byte_at(begin, end, index, *byte))
+        .collect(alloc)
 }

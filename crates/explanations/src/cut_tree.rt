@@ -1,5 +1,5 @@
 //! A tree that answers one path with another text.
-ghost use Rattle.std.specs.Prelude.{◌≡◌, ◌×◌};
+ghost use Rattle.std.specs.Prelude.{◌≡◌, refl};
 ghost use Rattle.filetree.specs.Agreement.{Files, with_at};
 
 use filetree::{Tree, TreeFault};

@@ -1,4 +1,6 @@
 //! Texts as they are shown in one line.
+ghost use Rattle.std.specs.Prelude.{◌≡◌};
+ghost use Rattle.explanations.specs.Cuts as cuts;
 
 use std::alloc::{AllocError, Global};
 
@@ -38,10 +40,12 @@ pub(crate) fn shortened(alloc: Global, command: &str) -> Result<String, AllocErr
 }
 
 /// The number of the line, from 1, in which the byte at this offset stands.
-pub(crate) fn line_of(text: &[u8], offset: usize) -> usize {
+pub(crate) fn line_of(text: &[u8], offset: usize) -> usize
+    ensures { result ≡ cuts.line_of text.now offset }
+{
     let before = match text.get(..offset) {
         Some(before) => before,
         None => text,
     };
-    before.iter().filter(|byte| **byte == b'\n').count().saturating_add(1)
+    before.iter().filter(|byte| **byte == b'\n').count() + 1
 }

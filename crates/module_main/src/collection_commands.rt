@@ -19,7 +19,7 @@ use tclrules::Limits;
 const OWN_NAME: &str = "/libexec/module";
 
 /// How much every modulefile may use, as with `modulecmd`: commands, evaluations within one another, bytes in a value.
-const STANDARD: Limits = Limits {
+pub const STANDARD: Limits = Limits {
     commands: 100_000,
     depth: 200,
     value_bytes: 1_048_576,

@@ -4,11 +4,13 @@
 #![tactic(auto)]
 
 mod collection_commands;
+mod explaining;
 mod given;
 mod missing;
 mod refusal;
 
 use collection_commands::do_collection_command;
+use explaining::do_explain;
 use functioncommand::{FunctionOutput, function_output};
 use given::Given;
 use message::{Message, RefusalKind};
@@ -37,6 +39,9 @@ fn main(rt: HostRuntime) -> ExitCode {
         Err(refusal) => return refused(&rt, refusal.message),
     };
     if let Some(status) = do_collection_command(&rt, &given) {
+        return status;
+    }
+    if let Some(status) = do_explain(&rt, &given) {
         return status;
     }
     let working = match &given.working {
