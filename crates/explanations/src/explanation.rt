@@ -60,7 +60,10 @@ pub fn explain<T: Tree>(
                 env,
                 limits,
             };
-            let file = explain_file(alloc, &wanted, env, tree, limits)?;
+            let file = match &refusal {
+                Refusal::Run(fault) => explain_file(alloc, &wanted, fault, env, tree, limits)?,
+                _ => None,
+            };
             let advice = advice_for(refused, tree, &refusal)?;
             Ok(Explanation { file, advice })
         }

@@ -5,21 +5,18 @@
 mod advice;
 mod alike;
 mod bodies;
-mod candidates;
 mod commands;
-mod cut_tree;
+mod evaluated_files;
 mod explanation;
-mod failed_path;
+mod failures;
 mod left_out;
 mod lines;
 mod location;
-mod parts;
 mod refusal_words;
 mod shown;
 mod trials;
 
-pub use cut_tree::CutTree;
 pub use explanation::{Explanation, explain};
-pub use failed_path::failed_path;
+pub use failures::failed_path;
 pub use lines::{log_line, user_line};
 pub use location::{FileExplanation, explain_file};

@@ -1,20 +1,25 @@
 //! Which command of which file failed.
+ghost use Rattle.std.specs.Prelude.{IfOk, IfSome};
+ghost use Rattle.envvars.specs.Texts.{Text};
+ghost use Rattle.explanations.specs.Failing.{HasFailed};
+ghost use Rattle.explanations.specs.Views.{HasFailedWithin, IsInwards, context_in, place_view, words_view};
 
 use crate::bodies::bodies_of;
-use crate::candidates::{ModulePath, candidates};
 use crate::commands::{CommandPlace, Part, blanked, places_of, script_of};
-use crate::parts::{RefusedPart, refused_part};
+use crate::evaluated_files::{EvaluatedFile, evaluated_files};
 use crate::refusal_words::RefusalWords;
 use crate::shown::{line_of, shortened};
-use crate::trials::{MOST_TRIALS, RefusedFile, failed_one, run_over};
+use crate::trials::{MOST_TRIALS, RefusedFile, failed_one, is_refused_so, run_text};
 use envvars::Env;
 use filetree::Tree;
-use modules::{Refusal, Request, script_at};
+use modulerun::FileContext;
+use modules::{FindFault, Refusal, Request, RunFault, script_at};
+use shelltext::Shell;
 use std::alloc::{AllocError, Global};
 use tclrules::Limits;
 
 /// So deep is a command looked for in the bodies of others.
-const DEEPEST: usize = 12;
+const DEEPEST: u32 = 12;
 
 /// Where a modulefile failed.
 #[derive(Debug, Drop)]
@@ -33,147 +38,201 @@ pub struct FileExplanation {
 
 /// A command that failed, in the text in which it is shown to have.
 #[derive(Drop)]
-struct FailedCommand {
-    text: Vec<u8>,
-    place: CommandPlace,
+pub(crate) struct FailedCommand {
+    pub(crate) text: Vec<u8>,
+    pub(crate) place: CommandPlace,
 }
 
 /// The command that failed in the part of a text, if one is shown to have.
-fn failed_in<T: Tree>(
+fn failed_in(
     refused: RefusedFile<'_>,
-    tree: &mut T,
     left: &mut u32,
     text: &[u8],
     part: Part,
-) -> Result<Option<CommandPlace>, Refusal> {
+) -> Result<Option<CommandPlace>, AllocError>
+    ensures { IfOk result (λ o. IfSome o (λ place. HasFailed refused.entry.limits (context_in refused.entry)
+        (words_view refused.entry.words.now) text.now (place_view place))) }
+{
     let Ok(script) = script_of(refused.alloc, text, part) else {
         return Ok(None);
     };
     let places = places_of(refused.alloc, &script, part)?;
-    failed_one(refused, tree, left, text, places.as_slice())
+    failed_one(refused, left, text, places.as_slice())
 }
 
 /// The command that failed in one of these parts of a text, if one is shown to have.
-fn failed_in_one<T: Tree>(
+fn failed_in_one(
     refused: RefusedFile<'_>,
-    tree: &mut T,
     left: &mut u32,
     text: &[u8],
     parts: &[Part],
-) -> Result<Option<CommandPlace>, Refusal> {
+) -> Result<Option<CommandPlace>, AllocError>
+    ensures { IfOk result (λ o. IfSome o (λ place. HasFailed refused.entry.limits (context_in refused.entry)
+        (words_view refused.entry.words.now) text.now (place_view place))) }
+{
     for part in parts {
-        if let Some(place) = failed_in(refused, tree, left, text, *part)? {
+        if let Some(place) = failed_in(refused, left, text, *part)? {
             return Ok(Some(place));
         }
     }
     Ok(None)
 }
 
-/// The innermost command that is shown to have failed, from the file's own command inwards.
-fn innermost<T: Tree>(
+/// The command that failed in a body of a command that failed, if one is shown to have.
+fn inwards(
     refused: RefusedFile<'_>,
-    tree: &mut T,
-    outer: FailedCommand,
-) -> Result<FailedCommand, Refusal> {
-    let mut left = MOST_TRIALS;
-    let mut failed = outer;
-    for _ in 0..DEEPEST {
-        let place = failed.place;
-        let text = blanked(refused.alloc, failed.text.as_slice(), place.end, place.script_end)?;
-        let bodies = bodies_of(refused.alloc, text.as_slice(), place)?;
-        let inner = failed_in_one(refused, tree, &mut left, text.as_slice(), bodies.as_slice())?;
-        let Some(place) = inner else {
-            break;
-        };
-        failed = FailedCommand { text, place };
+    left: &mut u32,
+    failed: &FailedCommand,
+) -> Result<Option<FailedCommand>, AllocError>
+    ensures { IfOk result (λ o. IfSome o (IsInwards refused.entry failed.now)) }
+{
+    let place = failed.place;
+    let text = blanked(refused.alloc, failed.text.as_slice(), place.end, place.script_end)?;
+    let bodies = bodies_of(refused.alloc, text.as_slice(), place)?;
+    match failed_in_one(refused, left, text.as_slice(), bodies.as_slice())? {
+        Some(place) => Ok(Some(FailedCommand { text, place })),
+        None => Ok(None),
     }
-    Ok(failed)
+}
+
+/// The innermost command that is shown to have failed, from this one inwards.
+fn innermost(
+    refused: RefusedFile<'_>,
+    left: &mut u32,
+    depth: u32,
+    failed: FailedCommand,
+) -> Result<FailedCommand, AllocError>
+    ensures { (file : Text) → HasFailedWithin refused.entry file failed
+        → IfOk result (HasFailedWithin refused.entry file) }
+{
+    if depth == 0 {
+        return Ok(failed);
+    }
+    match inwards(refused, left, &failed)? {
+        Some(inner) => innermost(refused, left, depth - 1, inner),
+        None => Ok(failed),
+    }
+}
+
+/// The innermost command of a file that is shown to have failed, if one is.
+fn failed_command(
+    refused: RefusedFile<'_>,
+    file: &[u8],
+) -> Result<Option<FailedCommand>, AllocError>
+    ensures { IfOk result (λ o. IfSome o (HasFailedWithin refused.entry file.now)) }
+{
+    let mut left = MOST_TRIALS;
+    match failed_in(refused, &mut left, file, Part::whole(file))? {
+        Some(place) => {
+            let text = file.to_vec(refused.alloc)?;
+            let failed = FailedCommand { text, place };
+            Ok(Some(innermost(refused, &mut left, DEEPEST, failed)?))
+        }
+        None => Ok(None),
+    }
 }
 
 /// The messages of the file before the command that failed; none where that can't be said.
-fn messages_before<T: Tree>(
-    refused: RefusedFile<'_>,
-    tree: &mut T,
-    failed: &FailedCommand,
-) -> Result<Vec<String>, AllocError> {
+fn messages_before(refused: RefusedFile<'_>, failed: &FailedCommand) -> Result<Vec<String>, AllocError> {
     let place = failed.place;
     let text = blanked(refused.alloc, failed.text.as_slice(), place.begin, place.script_end)?;
-    match run_over(refused, tree, text.as_slice()) {
-        Ok(changes) => Ok(changes.done.messages),
+    let Ok(text) = str::from_utf8(text.as_slice()) else {
+        return Ok(Vec::new(refused.alloc));
+    };
+    match run_text(refused, text) {
+        Ok(ran) => Ok(ran.messages),
         Err(_) => Ok(Vec::new(refused.alloc)),
     }
 }
 
-/// Where the file of a module failed, if it is shown to have.
-fn explain_module<T: Tree>(
+/// Where this file failed, if it is shown to have, by its text.
+fn explain_text(
     refused: RefusedFile<'_>,
-    tree: &mut T,
-    module: &ModulePath,
-) -> Result<Option<FileExplanation>, Refusal> {
+    file: &EvaluatedFile,
+    text: &str,
+) -> Result<Option<FileExplanation>, AllocError> {
     let alloc = refused.alloc;
-    let Ok(text) = script_at(alloc, tree, refused.path) else {
+    if !is_refused_so(refused, text)? {
+        return Ok(None);
+    }
+    let Some(failed) = failed_command(refused, text.as_bytes())? else {
         return Ok(None);
     };
-    let text = text.as_bytes().to_vec(alloc)?;
-    let mut left = MOST_TRIALS;
-    let whole = Part::whole(text.as_slice());
-    let Some(place) = failed_in(refused, tree, &mut left, text.as_slice(), whole)? else {
-        return Ok(None);
-    };
-    let failed = innermost(refused, tree, FailedCommand { text, place })?;
+    let place = failed.place;
     let part = Part {
-        begin: failed.place.begin,
-        end: failed.place.end,
+        begin: place.begin,
+        end: place.end,
     };
     Ok(Some(FileExplanation {
-        module: String::from_str(alloc, module.name.as_str())?,
-        path: String::from_str(alloc, module.path.as_str())?,
-        line: line_of(failed.text.as_slice(), failed.place.begin),
-        command: shortened(alloc, part.of(failed.text.as_slice()))?,
-        messages: messages_before(refused, tree, &failed)?,
+        module: file.module.clone()?,
+        path: file.path.clone()?,
+        line: line_of(text.as_bytes(), place.begin),
+        command: shortened(alloc, part.of(text.as_bytes()))?,
+        messages: messages_before(refused, &failed)?,
     }))
 }
 
-/// Where a file failed in a part of a request, if one is shown to have.
-fn explain_part<T: Tree>(
+/// The script at a path, if there is one.
+fn script_if_there<T: Tree>(
     alloc: Global,
-    part: &RefusedPart,
+    tree: &mut T,
+    path: &str,
+) -> Result<Option<String>, AllocError> {
+    match script_at(alloc, tree, path) {
+        Ok(text) => Ok(Some(text)),
+        Err(Refusal::OutOfMemory | Refusal::Find(FindFault::OutOfMemory)) => Err(AllocError),
+        Err(_) => Ok(None),
+    }
+}
+
+/// Where this file failed, if it is shown to have.
+fn explain_in<T: Tree>(
+    alloc: Global,
+    shell: Shell,
+    words: &RefusalWords,
+    file: &EvaluatedFile,
+    tree: &mut T,
+    limits: Limits,
+) -> Result<Option<FileExplanation>, AllocError> {
+    let Some(text) = script_if_there(alloc, tree, file.path.as_str())? else {
+        return Ok(None);
+    };
+    let context = FileContext {
+        mode: file.mode,
+        in_switch: file.in_switch,
+        name: file.module.as_str(),
+        path: file.path.as_str(),
+        shell,
+        typed: file.typed.as_str(),
+        loaded: file.loaded.as_slice(),
+    };
+    let refused = RefusedFile {
+        alloc,
+        limits,
+        context: &context,
+        env: &file.env,
+        words,
+    };
+    explain_text(refused, file, text.as_str())
+}
+
+/// Where a modulefile failed, if the request is refused for this fault of one that is shown to have.
+///
+/// It fails for want of memory, or where the loaded modules are inconsistent.
+pub fn explain_file<T: Tree>(
+    alloc: Global,
+    request: &Request,
+    fault: &RunFault,
+    env: &Env,
     tree: &mut T,
     limits: Limits,
 ) -> Result<Option<FileExplanation>, Refusal> {
-    let words = RefusalWords::of(alloc, &part.refusal)?;
-    for module in candidates(alloc, &part.request, &part.env, tree, limits)? {
-        let refused = RefusedFile {
-            alloc,
-            request: &part.request,
-            env: &part.env,
-            limits,
-            path: module.path.as_str(),
-            words: &words,
-        };
-        let explained = explain_module(refused, tree, &module)?;
+    let words = RefusalWords::of(alloc, fault)?;
+    for file in &evaluated_files(alloc, request, env, tree, limits)? {
+        let explained = explain_in(alloc, request.shell, &words, file, tree, limits)?;
         if explained.is_some() {
             return Ok(explained);
         }
     }
     Ok(None)
-}
-
-/// Where a modulefile failed, if a request is refused for one that is shown to have.
-///
-/// It fails for want of memory, or by 43 where the device failed.
-pub fn explain_file<T: Tree>(
-    alloc: Global,
-    request: &Request,
-    env: &Env,
-    tree: &mut T,
-    limits: Limits,
-) -> Result<Option<FileExplanation>, Refusal> {
-    let Some(part) = refused_part(alloc, request, env, tree, limits)? else {
-        return Ok(None);
-    };
-    match &part.refusal {
-        Refusal::Run(_) => explain_part(alloc, &part, tree, limits),
-        _ => Ok(None),
-    }
 }

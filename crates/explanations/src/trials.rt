@@ -1,135 +1,198 @@
-//! A request over a tree in which a modulefile has another text.
+//! A modulefile evaluated once more, with another text.
+ghost use Rattle.std.specs.Prelude.{◌≡◌, true, is_none, IfOk, IfSome};
+ghost use Rattle.envvars.specs.Reasons.{reason_of};
+ghost use Rattle.modulefile.specs.RecordViews.{fault_reason};
+ghost use Rattle.modulerun.specs.Running.{eval_reason, file_reason_of};
+ghost use Rattle.explanations.specs.Cuts as cuts;
+ghost use Rattle.explanations.specs.Failing.{HasFailed, IsRefusedSo};
+ghost use Rattle.explanations.specs.Views.{RunsText, context_in, place_view, words_view};
 
 use crate::commands::{CommandPlace, blanked};
-use crate::cut_tree::CutTree;
-use crate::refusal_words::{RefusalWords, is_given_up};
-use envvars::Env;
-use filetree::Tree;
-use modules::{Refusal, Request, RequestChanges, run_changes};
+use crate::refusal_words::RefusalWords;
+use envvars::{Env, WorkingCopy};
+use modulerun::{FileContext, FileRun, run_file};
+use modules::{EnvFault, EvalFault, RecordFault, RunFault};
 use std::alloc::{AllocError, Global};
 use tclrules::Limits;
 
 /// So many trials are made to find one command.
-pub(crate) const MOST_TRIALS: u32 = 96;
+pub(crate) const MOST_TRIALS: u32 = 64;
 
-/// A request that is refused for the file at this path, and in these words.
+/// A file that is refused in these words, with what it is evaluated under.
 #[derive(Clone, Copy)]
 pub(crate) struct RefusedFile<'a> {
     pub(crate) alloc: Global,
-    pub(crate) request: &'a Request,
-    pub(crate) env: &'a Env,
     pub(crate) limits: Limits,
-    pub(crate) path: &'a str,
+    pub(crate) context: &'a FileContext<'a>,
+    pub(crate) env: &'a Env,
     pub(crate) words: &'a RefusalWords,
 }
 
-/// Runs the request over the tree in which the file has this text.
-pub(crate) fn run_over<T: Tree>(
-    refused: RefusedFile<'_>,
-    tree: &mut T,
-    text: &[u8],
-) -> Result<RequestChanges, Refusal> {
-    let mut cut = CutTree {
-        tree,
-        alloc: refused.alloc,
-        path: refused.path,
-        text,
-    };
-    run_changes(
-        refused.alloc,
-        refused.request,
-        refused.env,
-        &mut cut,
-        refused.limits,
-    )
+/// Evaluates this text as that of the file. The environment doesn't change.
+pub(crate) fn run_text(refused: RefusedFile<'_>, text: &str) -> Result<FileRun, RunFault>
+    ensures { RunsText refused.entry.limits (context_in refused.entry) text.now result }
+{
+    let mut working = WorkingCopy::over(refused.env);
+    run_file(refused.alloc, refused.context, text, &mut working, refused.limits)
 }
 
-/// Whether the request is refused in the same words where the file has this text.
+/// Whether memory ran out in an edit.
+fn edit_wants_memory(fault: &EnvFault) -> bool
+    ensures { result ≡ is_none (reason_of fault.now) }
+{
+    match fault {
+        EnvFault::OutOfMemory => true,
+        EnvFault::BadVariable(_)
+        | EnvFault::Protected(_)
+        | EnvFault::CounterFull(_)
+        | EnvFault::Inconsistent
+        | EnvFault::BadStack(_)
+        | EnvFault::BadValue(_) => false,
+    }
+}
+
+/// Whether memory ran out in a record.
+fn record_wants_memory(fault: &RecordFault) -> bool
+    ensures { result ≡ is_none (fault_reason fault.now) }
+{
+    match fault {
+        RecordFault::Env(fault) => edit_wants_memory(fault),
+        RecordFault::BadModuleName(_) => false,
+    }
+}
+
+/// Whether memory ran out in the evaluation.
+fn evaluation_wants_memory(fault: &EvalFault) -> bool
+    ensures { result ≡ is_none (eval_reason fault.now None) }
+{
+    match fault {
+        EvalFault::OutOfMemory => true,
+        EvalFault::Text(_)
+        | EvalFault::TclError(_, _)
+        | EvalFault::TooManyCommands
+        | EvalFault::TooDeep
+        | EvalFault::ValueTooLong
+        | EvalFault::NumberTooLarge
+        | EvalFault::FractionOperand
+        | EvalFault::LeftOut(_)
+        | EvalFault::Stopped
+        | EvalFault::Host(_) => false,
+    }
+}
+
+/// Whether a file was refused for want of memory.
+fn wants_memory(fault: &RunFault) -> bool
+    ensures { result ≡ is_none (file_reason_of fault.now) }
+{
+    match fault {
+        RunFault::OutOfMemory => true,
+        RunFault::Eval(fault) => evaluation_wants_memory(fault),
+        RunFault::BadArguments => false,
+        RunFault::BadRecord(fault) => record_wants_memory(fault),
+    }
+}
+
+/// Whether a text is refused in the same words.
 ///
-/// It fails where that can't be said: for want of memory, or by 43.
-pub(crate) fn is_refused_so<T: Tree>(
-    refused: RefusedFile<'_>,
-    tree: &mut T,
-    text: &[u8],
-) -> Result<bool, Refusal> {
-    match run_over(refused, tree, text) {
+/// It fails for want of memory, in the evaluation too.
+pub(crate) fn is_refused_so(refused: RefusedFile<'_>, text: &str) -> Result<bool, AllocError>
+    ensures { IfOk result (IsRefusedSo refused.entry.limits (context_in refused.entry) text.now
+        (words_view refused.entry.words.now)) }
+{
+    match run_text(refused, text) {
         Ok(_) => Ok(false),
-        Err(refusal) => {
-            if is_given_up(&refusal) {
-                return Err(refusal);
+        Err(fault) => {
+            if wants_memory(&fault) {
+                return Err(AllocError);
             }
-            let words = RefusalWords::of(refused.alloc, &refusal)?;
+            let words = RefusalWords::of(refused.alloc, &fault)?;
             Ok(words.are(refused.words))
         }
     }
 }
 
-/// Whether the request is refused so where the text is cut from this offset to the end of the command's script.
-fn is_refused_cut<T: Tree>(
+/// Whether the text with spaces from one offset up to another is refused in the same words; nothing where these would
+/// part a character.
+fn is_refused_cut(
     refused: RefusedFile<'_>,
-    tree: &mut T,
     text: &[u8],
     begin: usize,
-    script_end: usize,
-) -> Result<bool, Refusal> {
-    let cut = blanked(refused.alloc, text, begin, script_end)?;
-    is_refused_so(refused, tree, cut.as_slice())
+    end: usize,
+) -> Result<Option<bool>, AllocError>
+    ensures { IfOk result (λ o. IfSome o (IsRefusedSo refused.entry.limits (context_in refused.entry)
+        (cuts.blanked text.now begin end) (words_view refused.entry.words.now))) }
+{
+    let cut = blanked(refused.alloc, text, begin, end)?;
+    let Ok(cut) = str::from_utf8(cut.as_slice()) else {
+        return Ok(None);
+    };
+    Ok(Some(is_refused_so(refused, cut)?))
 }
 
-/// Whether this command is the one that failed: cut behind it the text is refused so, and cut before it isn't.
-pub(crate) fn has_failed<T: Tree>(
+/// Whether this command is shown to be the one that failed: cut behind it the text is refused so, and cut before it it
+/// isn't.
+fn has_failed(
     refused: RefusedFile<'_>,
-    tree: &mut T,
     text: &[u8],
     place: CommandPlace,
-) -> Result<bool, Refusal> {
-    let behind = is_refused_cut(refused, tree, text, place.end, place.script_end)?;
-    let before = is_refused_cut(refused, tree, text, place.begin, place.script_end)?;
+) -> Result<bool, AllocError>
+    ensures { IfOk result (λ b. b ≡ true → HasFailed refused.entry.limits (context_in refused.entry)
+        (words_view refused.entry.words.now) text.now (place_view place)) }
+{
+    let Some(behind) = is_refused_cut(refused, text, place.end, place.script_end)? else {
+        return Ok(false);
+    };
+    let Some(before) = is_refused_cut(refused, text, place.begin, place.script_end)? else {
+        return Ok(false);
+    };
     Ok(behind && !before)
 }
 
-/// The index of the last command before which the text can be cut without being refused so, if these are ordered by
-/// that; 0 where there is none, or no trial is left.
-fn last_needed<T: Tree>(
+/// The index of the first command that the text can't be cut behind without being refused otherwise, by halves; what it
+/// says is only a guess.
+fn likely_one(
     refused: RefusedFile<'_>,
-    tree: &mut T,
     left: &mut u32,
     text: &[u8],
     places: &[CommandPlace],
-) -> Result<usize, Refusal> {
+) -> Result<usize, AllocError> {
     let mut low = 0;
-    let mut high = places.len();
-    while high - low > 1 && *left > 0 {
+    let mut rest = places;
+    while rest.len() > 1 && *left > 0 {
         *left -= 1;
-        let middle = low + (high - low) / 2;
-        let place = places[middle];
-        if is_refused_cut(refused, tree, text, place.begin, place.script_end)? {
-            high = middle;
+        let half = rest.len() / 2;
+        let (front, back) = rest.split_at(half);
+        let is_before = match back.first() {
+            Some(place) => is_refused_cut(refused, text, place.begin, place.script_end)?,
+            None => None,
+        };
+        if is_before == Some(true) {
+            rest = front;
         } else {
-            low = middle;
+            low += half;
+            rest = back;
         }
     }
     Ok(low)
 }
 
 /// The command of a script that failed, if one of these is shown to be it.
-pub(crate) fn failed_one<T: Tree>(
+pub(crate) fn failed_one(
     refused: RefusedFile<'_>,
-    tree: &mut T,
     left: &mut u32,
     text: &[u8],
     places: &[CommandPlace],
-) -> Result<Option<CommandPlace>, Refusal> {
-    let index = last_needed(refused, tree, left, text, places)?;
+) -> Result<Option<CommandPlace>, AllocError>
+    ensures { IfOk result (λ o. IfSome o (λ place. HasFailed refused.entry.limits (context_in refused.entry)
+        (words_view refused.entry.words.now) text.now (place_view place))) }
+{
+    let index = likely_one(refused, left, text, places)?;
     let Some(place) = places.get(index) else {
         return Ok(None);
     };
-    if *left == 0 {
-        return Ok(None);
-    }
-    *left -= 1;
-    if has_failed(refused, tree, text, *place)? {
-        Ok(Some(*place))
+    let place = *place;
+    if has_failed(refused, text, place)? {
+        Ok(Some(place))
     } else {
         Ok(None)
     }
