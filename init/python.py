@@ -82,6 +82,9 @@ def module(*words):
         return subprocess.run([f"{_PREFIX}/{program}", "sh", *words], check=False).returncode == 0
     text, status = _run(program, "sh", *words)
     if status != 0:
+        if program == "bin/modulecmd":
+            # Says where a modulefile failed, and what to do.
+            _run("libexec/module", "sh", "explain", *words)
         return False
     # The whole text is read before anything is changed.
     for name, value in list(_changes(text)):

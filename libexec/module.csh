@@ -114,7 +114,8 @@ default:
             ( "@prefix@/etc/after" $_module_words:q < /dev/null >& /dev/null & )
         endif
     else if ( "$_module_way" == "bin/modulecmd" ) then
-        "@prefix@/libexec/suggest" $_module_status $_module_program:q $_module_words:q
+        # Says where a modulefile failed, and what to do.
+        "@prefix@/libexec/module" $_module_words[1] explain $_module_words[2-]:q
     endif
     breaksw
 endsw

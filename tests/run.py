@@ -56,6 +56,7 @@ SUITES = (
     "modport.py",
     "site.py",
     "function.py",
+    "explanations.py",
     "saving.py",
     "plain.py",
     "memory.py",

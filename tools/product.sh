@@ -52,7 +52,7 @@ examples='clang/17 gcc/13.2.0 greeting/1 hdf5/1.14 openmpi/4.1.6 plugins/2.3 pro
 for file in $examples; do
     files="$files share/examples/$file"
 done
-runs='libexec/usage libexec/modulespath libexec/names libexec/report libexec/suggest'
+runs='libexec/usage libexec/modulespath libexec/names libexec/report'
 programs='bin/modulecmd bin/modcheck bin/modaudit bin/modport libexec/module'
 folders='bin init libexec completion etc share/man/man1 share/man/man5 share/man share/doc'
 for file in $examples; do

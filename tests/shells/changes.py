@@ -90,7 +90,7 @@ def under(request):
 
 
 # What the programs of libexec are made of.
-SCRIPTS = ("report", "suggest")
+SCRIPTS = ("report",)
 
 
 # What no collection is, and what is said of it.

@@ -39,7 +39,6 @@ FILES = [
     "libexec/modulespath",
     "libexec/names",
     "libexec/report",
-    "libexec/suggest",
     "libexec/usage",
     "share/doc/SITES.md",
     "share/doc/USERS.md",
@@ -60,7 +59,6 @@ SCRIPTS = (
     "libexec/names",
     "libexec/modulespath",
     "libexec/report",
-    "libexec/suggest",
     "demo/demo.sh",
     ".ci/run",
 )
