@@ -96,7 +96,6 @@ fn push_switch(
         return Ok(());
     };
     let list = part.within(range);
-    bodies.push(list)?;
     match script_of(alloc, text, list) {
         Ok(script) => push_alternatives(bodies, &script, list),
         Err(_) => Ok(()),
@@ -127,7 +126,8 @@ fn push_procedures(
     Ok(())
 }
 
-/// The bodies in which the command at this place may run others.
+/// The bodies in which the command at this place may run others, the last first: what `for` runs first would else seem
+/// to have failed where it is only needed.
 pub(crate) fn bodies_of(
     alloc: Global,
     text: &[u8],
@@ -151,5 +151,6 @@ pub(crate) fn bodies_of(
         push_switch(alloc, &mut bodies, command, text, part)?;
     }
     push_procedures(alloc, &mut bodies, name, text)?;
+    bodies.reverse();
     Ok(bodies)
 }

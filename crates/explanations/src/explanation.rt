@@ -4,7 +4,7 @@ use crate::advice::{RefusedRequest, advice_for, usage_of};
 use crate::location::{FileExplanation, explain_file};
 use envvars::Env;
 use filetree::Tree;
-use modules::{Refusal, request, run_changes};
+use modules::{FindFault, Refusal, request, run_changes};
 use shelltext::Shell;
 use std::alloc::{AllocError, Global};
 use tclrules::Limits;
@@ -53,6 +53,7 @@ pub fn explain<T: Tree>(
             file: None,
             advice: None,
         }),
+        Err(Refusal::Find(FindFault::Device)) => Err(Refusal::Find(FindFault::Device)),
         Err(refusal) => {
             let refused = RefusedRequest {
                 alloc,
@@ -60,11 +61,11 @@ pub fn explain<T: Tree>(
                 env,
                 limits,
             };
+            let advice = advice_for(refused, tree, &refusal)?;
             let file = match &refusal {
                 Refusal::Run(fault) => explain_file(alloc, &wanted, fault, env, tree, limits)?,
                 _ => None,
             };
-            let advice = advice_for(refused, tree, &refusal)?;
             Ok(Explanation { file, advice })
         }
     }

@@ -3,7 +3,7 @@
 use envvars::Env;
 use filetree::{SeenPath, Tree, TreeFault};
 use modules::{Request, run_changes};
-use std::alloc::{AllocError, Global};
+use std::alloc::Global;
 use tclrules::Limits;
 
 /// A tree over another, which keeps the path at which the device failed last.
@@ -14,17 +14,9 @@ struct WatchedTree<'a, T> {
     failed: Option<String>,
 }
 
-/// Keeps the path where this is a failure of the device.
-fn keep<X: Drop>(
-    alloc: Global,
-    failed: &mut Option<String>,
-    path: &str,
-    answer: Result<X, TreeFault>,
-) -> Result<X, TreeFault> {
-    if let Err(TreeFault::Device) = &answer {
-        *failed = Some(String::from_str(alloc, path)?);
-    }
-    answer
+/// A copy of the path, where there is memory for it.
+fn kept(alloc: Global, path: &str) -> Option<String> {
+    String::from_str(alloc, path).ok()
 }
 
 impl<T: Tree> Tree for WatchedTree<'_, T> {
@@ -34,12 +26,18 @@ impl<T: Tree> Tree for WatchedTree<'_, T> {
 
     fn read(&mut self, path: &str) -> Result<Option<Vec<u8>>, TreeFault> {
         let answer = self.tree.read(path);
-        keep(self.alloc, &mut self.failed, path, answer)
+        if let Err(TreeFault::Device) = &answer {
+            self.failed = kept(self.alloc, path);
+        }
+        answer
     }
 
     fn begins_with(&mut self, path: &str, prefix: &[u8]) -> Result<bool, TreeFault> {
         let answer = self.tree.begins_with(path, prefix);
-        keep(self.alloc, &mut self.failed, path, answer)
+        if let Err(TreeFault::Device) = &answer {
+            self.failed = kept(self.alloc, path);
+        }
+        answer
     }
 
     fn may_list(&self, path: &str) -> bool {
@@ -48,12 +46,18 @@ impl<T: Tree> Tree for WatchedTree<'_, T> {
 
     fn see(&mut self, path: &str, prefix: &[u8]) -> Result<SeenPath, TreeFault> {
         let answer = self.tree.see(path, prefix);
-        keep(self.alloc, &mut self.failed, path, answer)
+        if let Err(TreeFault::Device) = &answer {
+            self.failed = kept(self.alloc, path);
+        }
+        answer
     }
 
     fn entries(&mut self, dir: &str) -> Result<Option<Vec<String>>, TreeFault> {
         let answer = self.tree.entries(dir);
-        keep(self.alloc, &mut self.failed, dir, answer)
+        if let Err(TreeFault::Device) = &answer {
+            self.failed = kept(self.alloc, dir);
+        }
+        answer
     }
 
     ghost satisfiable = { λ t. T.satisfiable t.tree.now };

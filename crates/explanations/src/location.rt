@@ -1,7 +1,9 @@
 //! Which command of which file failed.
-ghost use Rattle.std.specs.Prelude.{IfOk, IfSome};
+ghost use Rattle.std.specs.Prelude.{◌≡◌, IfOk, IfSome, string_bytes};
 ghost use Rattle.envvars.specs.Texts.{Text};
-ghost use Rattle.explanations.specs.Failing.{HasFailed};
+ghost use Rattle.explanations.specs.Cuts.{line_of};
+ghost use Rattle.explanations.specs.Failing.{HasFailed, words_of};
+ghost use Rattle.explanations.specs.Locations.{IsLocation, IsThere, Locates};
 ghost use Rattle.explanations.specs.Views.{HasFailedWithin, IsInwards, context_in, place_view, words_view};
 
 use crate::bodies::bodies_of;
@@ -145,31 +147,46 @@ fn messages_before(refused: RefusedFile<'_>, failed: &FailedCommand) -> Result<V
     }
 }
 
+/// The explanation by the place of the command that failed.
+fn located(
+    refused: RefusedFile<'_>,
+    text: &str,
+    place: CommandPlace,
+    messages: Vec<String>,
+) -> Result<FileExplanation, AllocError>
+    ensures module { IfOk result (λ x. string_bytes x.module ≡ refused.entry.context.now.name.now) }
+    ensures path { IfOk result (λ x. string_bytes x.path ≡ refused.entry.context.now.path.now) }
+    ensures line { IfOk result (λ x. x.line ≡ line_of text.now place.begin) }
+{
+    let part = Part {
+        begin: place.begin,
+        end: place.end,
+    };
+    Ok(FileExplanation {
+        module: String::from_str(refused.alloc, refused.context.name)?,
+        path: String::from_str(refused.alloc, refused.context.path)?,
+        line: line_of(text.as_bytes(), place.begin),
+        command: shortened(refused.alloc, part.of(text.as_bytes()))?,
+        messages,
+    })
+}
+
 /// Where this file failed, if it is shown to have, by its text.
 fn explain_text(
     refused: RefusedFile<'_>,
-    file: &EvaluatedFile,
     text: &str,
-) -> Result<Option<FileExplanation>, AllocError> {
-    let alloc = refused.alloc;
+) -> Result<Option<FileExplanation>, AllocError>
+    ensures { IfOk result (λ o. IfSome o (IsLocation refused.entry.limits (context_in refused.entry)
+        (words_view refused.entry.words.now) text.now)) }
+{
     if !is_refused_so(refused, text)? {
         return Ok(None);
     }
     let Some(failed) = failed_command(refused, text.as_bytes())? else {
         return Ok(None);
     };
-    let place = failed.place;
-    let part = Part {
-        begin: place.begin,
-        end: place.end,
-    };
-    Ok(Some(FileExplanation {
-        module: file.module.clone()?,
-        path: file.path.clone()?,
-        line: line_of(text.as_bytes(), place.begin),
-        command: shortened(alloc, part.of(text.as_bytes()))?,
-        messages: messages_before(refused, &failed)?,
-    }))
+    let messages = messages_before(refused, &failed)?;
+    Ok(Some(located(refused, text, failed.place, messages)?))
 }
 
 /// The script at a path, if there is one.
@@ -177,7 +194,9 @@ fn script_if_there<T: Tree>(
     alloc: Global,
     tree: &mut T,
     path: &str,
-) -> Result<Option<String>, AllocError> {
+) -> Result<Option<String>, AllocError>
+    ensures { IfOk result (λ o. IfSome o (λ text. IsThere (T.agrees tree.new) path.now (string_bytes text))) }
+{
     match script_at(alloc, tree, path) {
         Ok(text) => Ok(Some(text)),
         Err(Refusal::OutOfMemory | Refusal::Find(FindFault::OutOfMemory)) => Err(AllocError),
@@ -193,7 +212,9 @@ fn explain_in<T: Tree>(
     file: &EvaluatedFile,
     tree: &mut T,
     limits: Limits,
-) -> Result<Option<FileExplanation>, AllocError> {
+) -> Result<Option<FileExplanation>, AllocError>
+    ensures { IfOk result (λ o. IfSome o (Locates (T.agrees tree.new) limits (words_view words.now))) }
+{
     let Some(text) = script_if_there(alloc, tree, file.path.as_str())? else {
         return Ok(None);
     };
@@ -213,10 +234,31 @@ fn explain_in<T: Tree>(
         env: &file.env,
         words,
     };
-    explain_text(refused, file, text.as_str())
+    explain_text(refused, text.as_str())
 }
 
-/// Where a modulefile failed, if the request is refused for this fault of one that is shown to have.
+/// Where one of these files failed, if it is shown to have.
+fn explain_one<T: Tree>(
+    alloc: Global,
+    shell: Shell,
+    words: &RefusalWords,
+    files: &[EvaluatedFile],
+    tree: &mut T,
+    limits: Limits,
+) -> Result<Option<FileExplanation>, AllocError>
+    ensures { IfOk result (λ o. IfSome o (Locates (T.agrees tree.new) limits (words_view words.now))) }
+{
+    for file in files {
+        if let Some(explained) = explain_in(alloc, shell, words, file, tree, limits)? {
+            return Ok(Some(explained));
+        }
+    }
+    Ok(None)
+}
+
+/// Where a modulefile failed, if the request is refused for this fault of one that is shown to have: the file at the
+/// path is refused in the words of the fault, and so it is where it is cut behind the command, and not where it is cut
+/// before it, within each command around it.
 ///
 /// It fails for want of memory, or where the loaded modules are inconsistent.
 pub fn explain_file<T: Tree>(
@@ -226,13 +268,10 @@ pub fn explain_file<T: Tree>(
     env: &Env,
     tree: &mut T,
     limits: Limits,
-) -> Result<Option<FileExplanation>, Refusal> {
+) -> Result<Option<FileExplanation>, Refusal>
+    ensures { IfOk result (λ o. IfSome o (Locates (T.agrees tree.new) limits (words_of fault.now))) }
+{
     let words = RefusalWords::of(alloc, fault)?;
-    for file in &evaluated_files(alloc, request, env, tree, limits)? {
-        let explained = explain_in(alloc, request.shell, &words, file, tree, limits)?;
-        if explained.is_some() {
-            return Ok(explained);
-        }
-    }
-    Ok(None)
+    let files = evaluated_files(alloc, request, env, tree, limits)?;
+    Ok(explain_one(alloc, request.shell, &words, files.as_slice(), tree, limits)?)
 }

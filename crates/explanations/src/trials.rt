@@ -148,32 +148,24 @@ fn has_failed(
     Ok(behind && !before)
 }
 
-/// The index of the first command that the text can't be cut behind without being refused otherwise, by halves; what it
-/// says is only a guess.
+/// The last command before which the text can be cut without being refused so, by halves; what it says is only a guess.
 fn likely_one(
     refused: RefusedFile<'_>,
     left: &mut u32,
     text: &[u8],
     places: &[CommandPlace],
-) -> Result<usize, AllocError> {
-    let mut low = 0;
+) -> Result<Option<CommandPlace>, AllocError> {
     let mut rest = places;
     while rest.len() > 1 && *left > 0 {
         *left -= 1;
-        let half = rest.len() / 2;
-        let (front, back) = rest.split_at(half);
+        let (front, back) = rest.split_at(rest.len() / 2);
         let is_before = match back.first() {
             Some(place) => is_refused_cut(refused, text, place.begin, place.script_end)?,
             None => None,
         };
-        if is_before == Some(true) {
-            rest = front;
-        } else {
-            low += half;
-            rest = back;
-        }
+        rest = if is_before == Some(true) { front } else { back };
     }
-    Ok(low)
+    Ok(rest.first().copied())
 }
 
 /// The command of a script that failed, if one of these is shown to be it.
@@ -186,11 +178,9 @@ pub(crate) fn failed_one(
     ensures { IfOk result (λ o. IfSome o (λ place. HasFailed refused.entry.limits (context_in refused.entry)
         (words_view refused.entry.words.now) text.now (place_view place))) }
 {
-    let index = likely_one(refused, left, text, places)?;
-    let Some(place) = places.get(index) else {
+    let Some(place) = likely_one(refused, left, text, places)? else {
         return Ok(None);
     };
-    let place = *place;
     if has_failed(refused, text, place)? {
         Ok(Some(place))
     } else {
