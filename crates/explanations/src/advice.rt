@@ -7,7 +7,9 @@ use envvars::Env;
 use filetree::Tree;
 use lookup::locate;
 use message::texts::copies;
-use modules::{Action, EvalFault, FindFault, MissingNames, Refusal, Request, RunFault, run_changes};
+use modules::{
+    Action, EvalFault, FindFault, MissingNames, Refusal, Request, RunFault, run_changes,
+};
 use shelltext::Shell;
 use std::alloc::{AllocError, Global};
 use tclrules::Limits;
@@ -54,7 +56,10 @@ fn try_line(alloc: Global, subcommand: &str, names: &[String]) -> Result<String,
 
 /// A list of two texts.
 fn pair(alloc: Global, one: &str, other: &str) -> Result<Vec<String>, AllocError> {
-    Ok(vec![in alloc; String::from_str(alloc, one)?, String::from_str(alloc, other)?]?)
+    Ok(vec![in alloc;
+        String::from_str(alloc, one)?,
+        String::from_str(alloc, other)?,
+    ]?)
 }
 
 /// For a conflict: a switch from the loaded module to the one of the same folder that was to be loaded, where that is
@@ -70,7 +75,13 @@ fn for_conflict<T: Tree>(
     }
     if let Action::Load(names) = &refused.request.action {
         for name in names {
-            let Ok(found) = locate(alloc, tree, refused.modulepath(), name.as_str(), refused.limits) else {
+            let Ok(found) = locate(
+                alloc,
+                tree,
+                refused.modulepath(),
+                name.as_str(),
+                refused.limits,
+            ) else {
                 continue;
             };
             if folder_of(found.name.as_str()) == folder_of(other) && found.name.as_str() != other {
@@ -86,7 +97,10 @@ fn for_conflict<T: Tree>(
         }
     }
     let names = vec![in alloc; String::from_str(alloc, other)?]?;
-    if refused.outcome(tree, Action::Unload(copies(alloc, names.as_slice())?)).is_ok() {
+    if refused
+        .outcome(tree, Action::Unload(copies(alloc, names.as_slice())?))
+        .is_ok()
+    {
         return Ok(Some(try_line(alloc, "unload", names.as_slice())?));
     }
     Ok(None)
@@ -115,7 +129,15 @@ fn for_need<T: Tree>(
     let mut is_one_found = false;
     for alternative in &missing.names {
         let modulepath = refused.modulepath();
-        if locate(alloc, tree, modulepath, alternative.as_str(), refused.limits).is_ok() {
+        if locate(
+            alloc,
+            tree,
+            modulepath,
+            alternative.as_str(),
+            refused.limits,
+        )
+        .is_ok()
+        {
             is_one_found = true;
             let names = with_first(alloc, alternative.as_str(), asked.as_slice())?;
             let action = Action::Load(copies(alloc, names.as_slice())?);

@@ -27,7 +27,8 @@ pub(crate) fn folder_of(name: &str) -> &str {
 
 /// Whether the first text begins with the second, or differs from it by one character, both in small letters.
 fn is_like(name: &str, typed: &str) -> bool {
-    name.as_bytes().starts_with(typed.as_bytes()) || differ_by_one(typed.as_bytes(), name.as_bytes())
+    name.as_bytes().starts_with(typed.as_bytes())
+        || differ_by_one(typed.as_bytes(), name.as_bytes())
 }
 
 /// The name of a module, or of its folder, where that is like what was typed, which is in small letters.

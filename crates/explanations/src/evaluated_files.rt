@@ -201,7 +201,15 @@ pub(crate) fn evaluated_files<T: Tree>(
         Action::Purge => {
             let mut names = loaded_names(alloc, env)?;
             names.reverse();
-            files_for(alloc, shell, Mode::Unload, names.as_slice(), env, tree, limits)
+            files_for(
+                alloc,
+                shell,
+                Mode::Unload,
+                names.as_slice(),
+                env,
+                tree,
+                limits,
+            )
         }
         Action::Switch(old, new) => {
             let old = old_name(old.as_deref(), new.as_str());

@@ -89,7 +89,12 @@ fn inwards(
     ensures { IfOk result (λ o. IfSome o (IsInwards refused.entry failed.now)) }
 {
     let place = failed.place;
-    let text = blanked(refused.alloc, failed.text.as_slice(), place.end, place.script_end)?;
+    let text = blanked(
+        refused.alloc,
+        failed.text.as_slice(),
+        place.end,
+        place.script_end,
+    )?;
     let bodies = bodies_of(refused.alloc, text.as_slice(), place)?;
     match failed_in_one(refused, left, text.as_slice(), bodies.as_slice())? {
         Some(place) => Ok(Some(FailedCommand { text, place })),
@@ -135,9 +140,17 @@ fn failed_command(
 }
 
 /// The messages of the file before the command that failed; none where that can't be said.
-fn messages_before(refused: RefusedFile<'_>, failed: &FailedCommand) -> Result<Vec<String>, AllocError> {
+fn messages_before(
+    refused: RefusedFile<'_>,
+    failed: &FailedCommand,
+) -> Result<Vec<String>, AllocError> {
     let place = failed.place;
-    let text = blanked(refused.alloc, failed.text.as_slice(), place.begin, place.script_end)?;
+    let text = blanked(
+        refused.alloc,
+        failed.text.as_slice(),
+        place.begin,
+        place.script_end,
+    )?;
     let Ok(text) = str::from_utf8(text.as_slice()) else {
         return Ok(Vec::new(refused.alloc));
     };
@@ -172,10 +185,7 @@ fn located(
 }
 
 /// Where this file failed, if it is shown to have, by its text.
-fn explain_text(
-    refused: RefusedFile<'_>,
-    text: &str,
-) -> Result<Option<FileExplanation>, AllocError>
+fn explain_text(refused: RefusedFile<'_>, text: &str) -> Result<Option<FileExplanation>, AllocError>
     ensures { IfOk result (λ o. IfSome o (IsLocation refused.entry.limits (context_in refused.entry)
         (words_view refused.entry.words.now) text.now)) }
 {

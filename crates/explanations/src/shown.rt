@@ -9,7 +9,8 @@ const WIDTH: usize = 60;
 
 /// Whether the character is shown as it is: no control character, and none that turns the direction of others.
 fn is_shown(c: char) -> bool {
-    !c.is_control() && !matches!(c, '\u{202a}'..='\u{202e}' | '\u{2066}'..='\u{2069}' | '\u{200e}' | '\u{200f}')
+    !c.is_control()
+        && !matches!(c, '\u{202a}'..='\u{202e}' | '\u{2066}'..='\u{2069}' | '\u{200e}' | '\u{200f}')
 }
 
 /// The text with `?` for each character that isn't shown as it is.

@@ -33,7 +33,13 @@ pub(crate) fn run_text(refused: RefusedFile<'_>, text: &str) -> Result<FileRun, 
     ensures { RunsText refused.entry.limits (context_in refused.entry) text.now result }
 {
     let mut working = WorkingCopy::over(refused.env);
-    run_file(refused.alloc, refused.context, text, &mut working, refused.limits)
+    run_file(
+        refused.alloc,
+        refused.context,
+        text,
+        &mut working,
+        refused.limits,
+    )
 }
 
 /// Whether memory ran out in an edit.
