@@ -111,8 +111,8 @@ def test_the_file_of_several(program, site):
     site("one/1", "setenv A b\n")
     path = site("two/1", "setenv B c\nbogus\n")
     site("three/1", "bogus\n")
-    for words in (["load", "one", "two", "three"], ["show", "one", "two"], ["whatis", "one", "two/1"], ["switch", "two"]):
-        same(explained(program, words, env), f"  in {path}, line 3\n", f"{words}")
+    for command in ("load one two three", "show one two", "whatis one two/1", "switch two"):
+        same(explained(program, command.split(), env), f"  in {path}, line 3\n", command)
 
 
 def test_a_directory_that_a_module_before_it_adds(program, site, tmp_path):

@@ -115,7 +115,7 @@ fn with_first(alloc: Global, first: &str, others: &[String]) -> Result<Vec<Strin
     Ok(names)
 }
 
-/// For a need: the load with the first of the alternatives before it with which it is accepted; or else by itself, where
+/// For a need: the load with the first of the alternatives in front with which it is accepted; or else by itself, where
 /// one of them is found.
 fn for_need<T: Tree>(
     refused: RefusedRequest<'_>,

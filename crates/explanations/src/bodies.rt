@@ -35,7 +35,7 @@ fn is_body(name: &str, number: usize, count: usize, before: &str) -> bool {
         "foreach" | "while" => number.saturating_add(1) == count,
         "for" => number != 2,
         "catch" => number == 1,
-        "switch" => number > 2 && number.saturating_add(1) < count,
+        "switch" => number > 2,
         _ => false,
     }
 }
@@ -79,6 +79,18 @@ fn push_alternatives(
         }
     }
     Ok(())
+}
+
+/// Whether `switch` has one word behind its options and its value, which is then a list of patterns and bodies.
+fn has_list(command: &Command<ByteRange>, script: &str) -> bool {
+    let mut options: usize = 0;
+    for word in command.words.iter().skip(1) {
+        if !text_of(word, script).starts_with('-') {
+            break;
+        }
+        options = options.saturating_add(1);
+    }
+    command.words.len() == options.saturating_add(3)
 }
 
 /// Adds the bodies of `switch`, where its last word is a list of patterns and bodies.
@@ -146,9 +158,10 @@ pub(crate) fn bodies_of(
     };
     let source = part.of(text);
     let name = word_at(command, 0, source);
-    push_bodies(&mut bodies, command, source, part)?;
-    if name == "switch" {
+    if name == "switch" && has_list(command, source) {
         push_switch(alloc, &mut bodies, command, text, part)?;
+    } else {
+        push_bodies(&mut bodies, command, source, part)?;
     }
     push_procedures(alloc, &mut bodies, name, text)?;
     bodies.reverse();
