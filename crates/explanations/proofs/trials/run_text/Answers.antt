@@ -1,5 +1,6 @@
-use Rattle.explanations.proofs.trials.run_text.Given as goal
-use Rattle.explanations.proofs.TrialLemmas.{runs_text}
+use Rattle.explanations.proofs.TrialLemmas.{runs_over}
+use Rattle.explanations.proofs.trials.run_text.Goals as goal
 
-returns : goal.returns
-returns c = runs_text _ _ _ _ _ c.run_file.ensures.runs
+pub returns : goal.returns
+returns c =
+    runs_over _ _ _ c.run_file.result c.args.refused.env.now _ _ c.over-working.ensures.new c.run_file.ensures.runs
