@@ -61,9 +61,6 @@ def test_completes(scripted, shell, start):
         same(scripted.stand_in.words()[number], [shell.init, *words], f"the words of {keys!r}")
         at.settle(0.1)
     same(os.listdir(at.place), ["ready"], "the files that completion makes")
-    at.types_completing("module avail fo\t")
-    asked, wanted = os.path.join(scripted.stand_in.path, "asked"), f"{shell.init} avail foo/1.0\n".encode()
-    at.until(lambda: content(asked).endswith(wanted), "the words of a completed avail")
 
 
 def completes_behind(scripted, start, name, rows):
