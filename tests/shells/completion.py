@@ -113,9 +113,9 @@ def test_completes_nothing_and_says_nothing_where_the_program_refuses_avail(scri
     scripted.stand_in.answer()
     at.settle(0.2)
     at.seen = b""
-    at.types_completing("module load \t")
+    at.types_completing("module show \t")
     at.until(scripted.words, "the command")
-    same(scripted.stand_in.words(), [[shell.init, "load"]], "the words")
+    same(scripted.stand_in.words(), [[shell.init, "show"]], "the words")
     true(b"ERROR" not in at.seen and b"modulecmd" not in at.seen, f"nothing is said: {at.seen!r}")
 
 
