@@ -17,6 +17,7 @@ is loaded.
 """
 
 import json
+import os
 import subprocess
 
 import pytest
@@ -40,6 +41,7 @@ class Site:
     def __init__(self, tree, modulepath):
         self.tree = tree
         self.modulepath = modulepath
+        self.directories = standings.site_directories(modulepath, self.modules_in)
         self.modules = standings.site_modules(modulepath, self.modules_in)
         self.certified = standings.certified(self.modules)
         self.uses = standings.certificate(self.modules)
@@ -238,6 +240,7 @@ def differs(found, site):
     pairs = {
         "the modules": (sorted(modules), sorted(wanted)),
         "the certificate": (uses_in(found["certificate"]), set(site.uses)),
+        "the missing directories": (found["missing_directories"], standings.missing(site.directories, os.path.isdir)),
         "the counts": ((found["certified"], found["count"]), (len(site.certified), len(site.modules))),
     }
     return next((f"{what}: {one!r}, by the model {other!r}" for what, (one, other) in pairs.items() if one != other), None)

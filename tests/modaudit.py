@@ -245,7 +245,11 @@ ROWS = {
         {"/m/a/1": "prepend-path MODULEPATH /n\n", "/n/b/1": "prepend-path MODULEPATH /o:/m\n", "/o/c/1": "getenv X\n"},
         [("a/1", "certified", ""), ("b/1", "certified", ""), ("c/1", "asks", "getenv X")],
     ),
-    "a directory that isn't there": ({"/m/a/1": "append-path MODULEPATH /o\n"}, [("a/1", "certified", "")]),
+    "a directory that isn't there": (
+        {"/m/a/1": "append-path MODULEPATH /o\n"},
+        [("a/1", "certified", "")],
+        ["# no directory: /o"],
+    ),
     # Names.
     "a plain module with a default by module-version": (
         {"/m/a/1": "setenv V x\n", "/m/a/2": "setenv W x\n", "/m/a/.modulerc": "module-version a/1 default\n"},
@@ -344,6 +348,26 @@ def test_remarks_on_default_files_and_names(folder):
     ]
     files["/m/c/1"] = files["/m/c/1"].replace(" {}", "")
     Site(folder, files).says(lines, status=1)
+
+
+def test_remarks_on_directories_that_are_not_there(folder):
+    """Those of MODULEPATH and those that modules add, each once, in the order of the walk. A file is no directory."""
+    files = {
+        "/m/a/1": "append-path MODULEPATH /o:/n:/o/p\n",
+        "/m/a/2": "append-path MODULEPATH /m/a/1\nprepend-path MODULEPATH /m/q\n",
+        "/m/b/1": "append-path MODULEPATH /r\ngetenv HOME\n",
+        "/n/c/1": "prepend-path MODULEPATH /o/p:/m/none\n",
+    }
+    missing = ["/m/none", "/o", "/o/p", "/m/a/1", "/m/q"]
+    site = Site(folder, files, "/m/none:/m:/m/b")
+    lines = [f"a/{number}\tcertified\t\t/m/a/{number}" for number in (1, 2)]
+    lines += ["b/1\tasks\tgetenv HOME\t/m/b/1", "1\tasks\tgetenv HOME\t/m/b/1", "c/1\tcertified\t\t/n/c/1"]
+    site.says([*lines, "# 3 certified of 5", "# 2 asks", *[f"# no directory: {path}" for path in missing]])
+    same(site.document()["missing_directories"], [os.fsdecode(real(folder, path)) for path in missing], "the document")
+    site.clear()
+    done = Site(folder, {}, "/m:/n").run()
+    gone = real(folder, "# 0 certified of 0\n# no directory: /m\n# no directory: /n\n")
+    same((done.stdout, done.stderr, done.returncode), (gone, b"", 0), "a MODULEPATH of which nothing is there")
 
 
 def test_remarks_on_the_environment_at_hand(folder):
@@ -556,6 +580,7 @@ def test_the_document_says_the_same(folder):
             {"variable": "S", "use": "stack"},
             {"variable": "E", "use": "stack"},
         ],
+        "missing_directories": [],
         "bad_default_files": [f"{there}/a/.version"],
         "unknown_names": [
             {"name": "a/1", "path": f"{there}/a/1", "command": "conflict", "names": ["q"]},
@@ -661,7 +686,8 @@ def test_the_most_directories_of_a_site(folder):
         added = ":".join(f"/x{number}" for number in range(1, count))
         return Site(folder, {"/m/a/1": f"append-path MODULEPATH {added}\n"})
 
-    site(MOST_DIRECTORIES).says(["a/1\tcertified\t\t/m/a/1", "# 1 certified of 1"])
+    missing = [f"# no directory: /x{number}" for number in range(1, MOST_DIRECTORIES)]
+    site(MOST_DIRECTORIES).says(["a/1\tcertified\t\t/m/a/1", "# 1 certified of 1", *missing])
     site(MOST_DIRECTORIES + 1).refuses("Too many directories")
 
 

@@ -198,6 +198,11 @@ def site_directories(modulepath, modules_in):
     return found
 
 
+def missing(directories_of_site, is_there):
+    """The directories of a site that aren't there. `is_there` says whether one is."""
+    return [one for one in directories_of_site if not is_there(one)]
+
+
 def site_modules(modulepath, modules_in):
     return [module for one in site_directories(modulepath, modules_in) for module in modules_in(one)]
 

@@ -1,4 +1,4 @@
--- The parts of an audit, by the evaluations of a walk over a site, are an audit of the site.
+-- The parts of an audit, by a walk over a site, are an audit of the site.
 use Rattle.std.proofs.Common.{◌≡◌, List, map, filter, ap, sym, ◌∙◌, subst}
 use Rattle.std.specs.Prelude.{flat_map}
 use Rattle.envvars.specs.Texts.{Text, texts_in}
@@ -87,6 +87,7 @@ parts_are_audits laws site walk found (outs, w, h) parts =
         modules = right.files;
         standing = right.standing;
         certificate = right.uses;
+        missing_directories = parts.missing_directories;
         bad_default_files = subst (λ (l : List SiteModule). AreBadDefaultFiles site.limits site.files site.listings l (texts_in found.bad_default_files)) (same_files es outs h)
             parts.bad_default_files;
         unknown = parts.unknown_names ∙ mentioned_alike es outs h;

@@ -15,5 +15,6 @@ mod OnceEach
 mod Unknown
 mod BadFiles
 mod BadDefaults
+mod MissingLemmas
 mod Looked
 mod Audited

@@ -1,16 +1,17 @@
--- Where the searches for the folders of evaluated modules look.
-use Rattle.std.proofs.Common.{map, refl, inr}
+-- Where what follows a walk over a site looks: at its directories, and where the searches for folders do.
+use Rattle.std.proofs.Common.{map, refl, inl, inr}
 use Rattle.envvars.specs.Texts.{Text}
 use Rattle.sitelaws.specs.Sites.{Site, Evaluated, AreEvaluated}
 use Rattle.sitelaws.specs.Laws.{ModulesFound}
 use Rattle.siteaudit.specs.Walks.{IsWalkAnswer}
 use Rattle.siteaudit.specs.declared.walk.SiteWalk.{SiteWalk}
 use Rattle.siteaudit.specs.Folders.{EvaluatedLookAt}
+use Rattle.siteaudit.specs.Parts.{WalkedLookAt}
 use Rattle.siteaudit.specs.Looked.{AuditLooksAt}
 use Rattle.siteaudit.proofs.BadFiles.{folder_there}
 
 -- those are folders of the site
-pub of_folders : ModulesFound → (site : Site) (walk : SiteWalk) (at : Text) → IsWalkAnswer site walk → EvaluatedLookAt site.limits site.files site.listings walk.evaluations.items at
+of_folders : ModulesFound → (site : Site) (walk : SiteWalk) (at : Text) → IsWalkAnswer site walk → EvaluatedLookAt site.limits site.files site.listings walk.evaluations.items at
     → AuditLooksAt site at
 of_folders found site walk at (outs, w, h) (folder, holds, searched) =
     let all : AreEvaluated site outs = record { modules = λ m. found site _ (map (λ (o : Evaluated). o.0) outs) w.directories w.modules m; evaluated = w.evaluated } in
@@ -22,3 +23,7 @@ of_folders found site walk at (outs, w, h) (folder, holds, searched) =
       module_there = (holds.2.1.version, holds.2.1.single, (there.1, refl));
       searched = searched;
     })
+
+pub of_walk : ModulesFound → (site : Site) (walk : SiteWalk) (at : Text) → IsWalkAnswer site walk → WalkedLookAt site.limits site.files site.listings walk at → AuditLooksAt site at
+of_walk found site walk at (outs, w, h) (inl among) = inl (at, (w.directories at).0 among, inl refl)
+of_walk found site walk at answer (inr looks) = of_folders found site walk at answer looks

@@ -2,6 +2,7 @@ pub mod Walks
 pub mod WalkLooked
 pub mod Audits
 pub mod Looked
+pub mod Missing
 pub mod Folders
 -- for the contracts of private functions
 pub mod WalkParts

@@ -1,33 +1,44 @@
--- The parts of an audit, by the evaluations of a walk: for this crate's own contracts alone.
-use Rattle.std.specs.Prelude.{◌≡◌, ◌↔◌, List, [], map, flat_map}
-use Rattle.envvars.specs.Texts.{texts_in}
+-- The parts of an audit, by the directories and the evaluations of a walk: for this crate's own contracts alone.
+use Rattle.std.specs.Prelude.{◌≡◌, ◌⊎◌, ◌↔◌, [], map, flat_map}
+use Rattle.envvars.specs.Texts.{Text, texts_in}
+use Rattle.tclrules.specs.declared.limits.Limits.{Limits}
+use Rattle.filetree.specs.Agreement.{Files, Listings}
+use Rattle.sitecertificate.specs.RecordUses.{IsAmong}
 use Rattle.sitecertificate.specs.Certificates.{AgreesWith}
 use Rattle.sitecertificate.specs.UseViews.{used_view}
 use Rattle.sitecertificate.specs.Disagreements.{AreDisagreements}
 use Rattle.sitecertificate.specs.DisagreementViews.{disagreement_view}
 use Rattle.sitelaws.specs.Sites.{Site}
 use Rattle.siteaudit.specs.Walks.{IsWalkAnswer}
-use Rattle.siteaudit.specs.declared.walk.Evaluation.{Evaluation}
 use Rattle.siteaudit.specs.declared.walk.SiteWalk.{SiteWalk}
 use Rattle.siteaudit.specs.Audits.{mention_of, IsAudit, CertificateStands}
 use Rattle.siteaudit.specs.Findings.{evaluated_file, AreStandings}
-use Rattle.siteaudit.specs.Folders.{AreBadDefaultFiles}
+use Rattle.siteaudit.specs.Folders.{AreBadDefaultFiles, EvaluatedLookAt}
+use Rattle.siteaudit.specs.Missing.{missing_among}
 use Rattle.siteaudit.specs.Mentions.{is_known, unknown_after}
 use Rattle.siteaudit.specs.declared.auditing.SiteAudit.{SiteAudit}
 
--- What was found are the parts of an audit, by these evaluations.
-pub record AreParts (site : Site) (evaluations : List Evaluation) (found : SiteAudit) : Type 0 where
-  pub standings : AreStandings evaluations found.modules.items (map used_view found.certificate.items)
-  pub bad_default_files : AreBadDefaultFiles site.limits site.files site.listings (map evaluated_file evaluations)
-      (texts_in found.bad_default_files)
-  pub unknown_names : map mention_of found.unknown_names.items ≡ flat_map (unknown_after (is_known evaluations))
-      evaluations
+-- What was found are the parts of an audit, by this walk.
+pub record AreParts (site : Site) (walk : SiteWalk) (found : SiteAudit) : Type 0 where
+  pub standings : AreStandings walk.evaluations.items found.modules.items (map used_view found.certificate.items)
+  pub missing_directories : texts_in found.missing_directories
+      ≡ missing_among site.listings (texts_in walk.directories)
+  pub bad_default_files : AreBadDefaultFiles site.limits site.files site.listings
+      (map evaluated_file walk.evaluations.items) (texts_in found.bad_default_files)
+  pub unknown_names : map mention_of found.unknown_names.items
+      ≡ flat_map (unknown_after (is_known walk.evaluations.items)) walk.evaluations.items
   pub agrees : (found.disagreements.items ≡ []) ↔ AgreesWith (map used_view found.certificate.items) site.env
   pub disagreements : AreDisagreements (map used_view found.certificate.items) site.env
       (map disagreement_view found.disagreements.items)
 
--- The parts, by the evaluations of a walk over a site, are an audit of the site, and its certificate stands.
+-- The parts, by a walk over a site, are an audit of the site, and its certificate stands.
 abbrev pub PartsAreAudits : Type 0
 PartsAreAudits =
     (site : Site) (walk : SiteWalk) (found : SiteAudit) → IsWalkAnswer site walk
-    → AreParts site walk.evaluations.items found → IsAudit site found × CertificateStands site found
+    → AreParts site walk found → IsAudit site found × CertificateStands site found
+
+-- What looks for the parts looks at this path: at a directory of the walk, or where the search for the folder of a
+-- module does.
+abbrev pub WalkedLookAt : Limits → Files → Listings → SiteWalk → Text → Type 0
+WalkedLookAt limits files listings walk at =
+    IsAmong at (texts_in walk.directories) ⊎ EvaluatedLookAt limits files listings walk.evaluations.items at

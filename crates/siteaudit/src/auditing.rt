@@ -7,17 +7,17 @@ ghost use Rattle.modules.specs.Answers.{cause_of};
 ghost use Rattle.sitelaws.specs.Sites.{site_of};
 ghost use Rattle.siteaudit.specs.Walks.{HasCause};
 ghost use Rattle.siteaudit.specs.Audits.{IsAudit, CertificateStands};
-ghost use Rattle.siteaudit.specs.Folders.{EvaluatedLookAt};
 ghost use Rattle.siteaudit.specs.Looked.{AuditLooksAt, is_failure};
-ghost use Rattle.siteaudit.specs.Parts.{AreParts, PartsAreAudits};
+ghost use Rattle.siteaudit.specs.Parts.{AreParts, PartsAreAudits, WalkedLookAt};
 
 use crate::defaults::bad_default_files;
 use crate::fault::WalkFault;
 use crate::judgement::{SiteStandings, judge_modules};
+use crate::missing::missing_among;
 use crate::names::unknown_names;
 use crate::progress::WalkProgress;
 use crate::standing::Standing;
-use crate::walk::{Evaluation, SiteWalk, walk_site};
+use crate::walk::{SiteWalk, walk_site};
 use envvars::Env;
 use filetree::Tree;
 use modules::Refusal;
@@ -56,6 +56,8 @@ pub struct SiteAudit {
     pub modules: Vec<AuditedModule>,
     /// What the certified modules use.
     pub certificate: Vec<UsedVariable>,
+    /// The directories of the site that aren't there, in the order of the walk.
+    pub missing_directories: Vec<String>,
     /// The paths of the default files that have a fault, so that a search for their folder is refused.
     pub bad_default_files: Vec<String>,
     /// Conflicts and prereqs that name no module of the site.
@@ -64,7 +66,7 @@ pub struct SiteAudit {
     pub disagreements: Vec<Disagreement>,
 }
 
-/// The parts of an audit, by the evaluations of a walk, are an audit.
+/// The parts of an audit, by the directories and the evaluations of a walk, are an audit.
 fn parts_are_audits()
     ensures { PartsAreAudits }
 {
@@ -73,23 +75,28 @@ fn parts_are_audits()
     sitelaws::laws::sessions_return();
 }
 
-/// The parts of an audit, by the evaluations of a walk.
-fn audit_evaluations<T: Tree>(
+/// The parts of an audit, by the directories and the evaluations of a walk.
+fn audit_walk<T: Tree>(
     alloc: Global,
     env: &Env,
     tree: &mut T,
     limits: Limits,
-    evaluations: Vec<Evaluation>,
+    walk: SiteWalk,
 ) -> Result<SiteAudit, Refusal>
     ensures reads { ReadsOn T.agrees T.failures tree.old tree.new }
     ensures parts { IfOk result (λ found. InEachPair (T.agrees tree.new) (λ files listings.
-        AreParts (site_of limits env.now files listings) evaluations.items found)) }
+        AreParts (site_of limits env.now files listings) walk found)) }
     ensures cause { IfErr result (λ refusal.
         Applies (cause_of refusal) (T.failures tree.old < T.failures tree.new) (λ reason. ⊥)) }
     ensures failed { FailsWhere steps.is_failure T.agrees T.failed tree.old tree.new result (λ files listings.
-        EvaluatedLookAt limits files listings evaluations.items) }
+        WalkedLookAt limits files listings walk) }
 {
+    let SiteWalk {
+        directories,
+        evaluations,
+    } = walk;
     let unknown_names = unknown_names(alloc, evaluations.as_slice())?;
+    let missing_directories = missing_among(alloc, tree, directories)?;
     let bad_default_files = bad_default_files(alloc, tree, limits, evaluations.as_slice())?;
     let SiteStandings {
         modules,
@@ -99,6 +106,7 @@ fn audit_evaluations<T: Tree>(
     Ok(SiteAudit {
         modules,
         certificate,
+        missing_directories,
         bad_default_files,
         unknown_names,
         disagreements,
@@ -132,9 +140,6 @@ pub fn audit<T: Tree, P: WalkProgress>(
 {
     parts_are_audits();
     sitelaws::laws::walks();
-    let SiteWalk {
-        directories: _,
-        evaluations,
-    } = walk_site(alloc, env, tree, limits, progress)?;
-    Ok(audit_evaluations(alloc, env, tree, limits, evaluations)?)
+    let walk = walk_site(alloc, env, tree, limits, progress)?;
+    Ok(audit_walk(alloc, env, tree, limits, walk)?)
 }

@@ -13,6 +13,7 @@ mod files;
 mod folders;
 mod given_up;
 mod judgement;
+mod missing;
 mod names;
 mod plain;
 mod progress;

@@ -157,6 +157,10 @@ count_fields modules =
 abbrev pub certificate_field : List UsedVariable → Field
 certificate_field certificate = (codes "certificate", array_of (map used_value certificate))
 
+-- the directories that aren't there
+abbrev pub missing_field : List (String Global) → Field
+missing_field dirs = texts_field (codes "missing_directories") dirs
+
 -- the paths of the default files that have a fault
 abbrev pub bad_files_field : List (String Global) → Field
 bad_files_field paths = texts_field (codes "bad_default_files") paths
@@ -171,8 +175,8 @@ rest_fields unknowns reasons =
 abbrev pub document : Selection → SiteAudit → Json
 document selection found =
     object_of (modules_field selection found.modules.items ∷ count_fields found.modules.items
-    ++ certificate_field found.certificate.items ∷ bad_files_field found.bad_default_files.items
-    ∷ rest_fields found.unknown_names.items found.disagreements.items)
+    ++ certificate_field found.certificate.items ∷ missing_field found.missing_directories.items
+    ∷ bad_files_field found.bad_default_files.items ∷ rest_fields found.unknown_names.items found.disagreements.items)
 
 -- its text, on a line of its own
 abbrev pub document_text : Selection → SiteAudit → Text

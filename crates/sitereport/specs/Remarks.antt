@@ -13,6 +13,14 @@ use Rattle.sitecertificate.specs.declared.disagreement.Disagreement.TheVariants.
 use Rattle.siteaudit.specs.declared.auditing.UnknownNames.{UnknownNames}
 use Rattle.sitereport.specs.Words.{spelled}
 
+-- the line of a directory that isn't there, by its path
+unfoldable pub missing : Text → Text
+missing dir = codes "# no directory: " ++ (spelled dir ++ codes "\n")
+
+-- the same by the path as the code has it
+abbrev pub missing_line : String Global → Text
+missing_line dir = missing (string_bytes dir)
+
 -- the line of a default file with a fault, by its path
 unfoldable pub bad_file : Text → Text
 bad_file path = codes "# bad default file: " ++ (spelled path ++ codes "\n")

@@ -288,6 +288,11 @@ fn write_document(
     write_certificate(alloc, writer, found.certificate.as_slice())?;
     write_text_array(
         writer,
+        "missing_directories",
+        found.missing_directories.as_slice(),
+    )?;
+    write_text_array(
+        writer,
         "bad_default_files",
         found.bad_default_files.as_slice(),
     )?;

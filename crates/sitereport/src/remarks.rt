@@ -1,4 +1,4 @@
-//! The remarks after the lines of the modules: on default files, on names, on the environment at hand.
+//! The remarks after the lines of the modules: on directories, on default files, on names, on the environment at hand.
 ghost use Rattle.std.specs.Prelude.{◌≡◌, ◌++◌, OnOk, IfOk, map, string_bytes, flat_map};
 ghost use Rattle.sitereport.specs.Remarks as spec;
 
@@ -8,6 +8,25 @@ use modulefile::Delimiter;
 use siteaudit::UnknownNames;
 use sitecertificate::Disagreement;
 use std::alloc::{AllocError, Global};
+
+/// Adds a line for each directory that isn't there.
+pub(crate) fn push_missing(report: &mut Vec<u8>, dirs: &[String]) -> Result<(), AllocError>
+    ensures { OnOk result (report.new.items ≡ report.old.items ++ flat_map spec.missing_line dirs.now) }
+{
+    for dir in dirs {
+        push_missing_directory(report, dir.as_str())?;
+    }
+    Ok(())
+}
+
+/// Adds the line of a directory that isn't there.
+fn push_missing_directory(report: &mut Vec<u8>, dir: &str) -> Result<(), AllocError>
+    ensures { OnOk result (report.new.items ≡ report.old.items ++ spec.missing dir.now) }
+{
+    push_text(report, "# no directory: ")?;
+    push_field(report, dir)?;
+    push_text(report, "\n")
+}
 
 /// Adds a line for each default file that has a fault.
 pub(crate) fn push_bad_files(report: &mut Vec<u8>, paths: &[String]) -> Result<(), AllocError>

@@ -1,0 +1,24 @@
+-- Directories that aren't there.
+use Rattle.std.proofs.Common.{◌≡◌, ◌++◌, ◌∷◌, ℕ, List, Option, Some, None, refl, subst, string_bytes, map, ap, ◌∙◌, sym, inl}
+use Rattle.std.specs.Prelude.{is_none}
+use Rattle.std.proofs.lemmas.List.{map-append}
+use Rattle.std.specs.declared.alloc.Global.{Global}
+use Rattle.std.specs.declared.string.String.{String}
+use Rattle.std.specs.declared.vec.Vec.{Vec}
+use Rattle.envvars.specs.Texts.{Text}
+use Rattle.filetree.specs.Agreement.{listing_answer}
+use Rattle.sitecertificate.specs.RecordUses.{IsAmong}
+use Rattle.sitecertificate.proofs.UsedLemmas.{among_right}
+use Rattle.siteaudit.proofs.AmongLemmas.{among_map}
+
+-- no answer is no listing
+pub none_listed : (names : Option (Vec (String Global) Global)) → is_none (listing_answer names) ≡ is_none names
+none_listed None = refl
+none_listed (Some names) = refl
+
+-- one in the middle of some texts is among them
+pub in_the_middle : (all done rest : List (String Global)) (x : String Global) → done ++ x ∷ rest ≡ all
+    → IsAmong (string_bytes x) (map string_bytes all)
+in_the_middle all done rest x e =
+    among_map (λ (s : String Global). string_bytes s) x all
+    (subst (λ (l : List (String Global)). IsAmong x l) e (among_right x done (x ∷ rest) (inl refl)))
