@@ -88,6 +88,7 @@ parts_are_audits laws site walk found (outs, w, h) parts =
         standing = right.standing;
         certificate = right.uses;
         missing_directories = parts.missing_directories;
+        no_modulefiles = parts.no_modulefiles;
         bad_default_files = subst (λ (l : List SiteModule). AreBadDefaultFiles site.limits site.files site.listings l (texts_in found.bad_default_files)) (same_files es outs h)
             parts.bad_default_files;
         unknown = parts.unknown_names ∙ mentioned_alike es outs h;

@@ -15,6 +15,8 @@ mod OnceEach
 mod Unknown
 mod BadFiles
 mod BadDefaults
+mod PathSets
+mod FilesBelow
 mod MissingLemmas
 mod Looked
 mod Audited

@@ -8,7 +8,9 @@ use Rattle.siteaudit.specs.declared.walk.SiteWalk.{SiteWalk}
 use Rattle.siteaudit.specs.Folders.{EvaluatedLookAt}
 use Rattle.siteaudit.specs.Parts.{WalkedLookAt}
 use Rattle.siteaudit.specs.Looked.{AuditLooksAt}
+use Rattle.lookup.specs.DefaultFileResults.{HasResult}
 use Rattle.siteaudit.proofs.BadFiles.{folder_there}
+use Rattle.siteaudit.proofs.FilesBelow.{of_listing}
 
 -- those are folders of the site
 of_folders : ModulesFound → (site : Site) (walk : SiteWalk) (at : Text) → IsWalkAnswer site walk → EvaluatedLookAt site.limits site.files site.listings walk.evaluations.items at
@@ -25,5 +27,5 @@ of_folders found site walk at (outs, w, h) (folder, holds, searched) =
     })
 
 pub of_walk : ModulesFound → (site : Site) (walk : SiteWalk) (at : Text) → IsWalkAnswer site walk → WalkedLookAt site.limits site.files site.listings walk at → AuditLooksAt site at
-of_walk found site walk at (outs, w, h) (inl among) = inl (at, (w.directories at).0 among, inl refl)
+of_walk found site walk at (outs, w, h) (inl (dir, among, looks)) = inl (dir, (w.directories dir).0 among, of_listing (HasResult site.limits) site.files site.listings dir at looks)
 of_walk found site walk at answer (inr looks) = of_folders found site walk at answer looks

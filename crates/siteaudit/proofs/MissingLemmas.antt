@@ -1,6 +1,6 @@
 -- Directories that aren't there.
 use Rattle.std.proofs.Common.{◌≡◌, ◌++◌, ◌∷◌, ℕ, List, Option, Some, None, refl, subst, string_bytes, map, ap, ◌∙◌, sym, inl}
-use Rattle.std.specs.Prelude.{is_none}
+use Rattle.std.specs.Prelude.{is_none, is_some, not}
 use Rattle.std.proofs.lemmas.List.{map-append}
 use Rattle.std.specs.declared.alloc.Global.{Global}
 use Rattle.std.specs.declared.string.String.{String}
@@ -12,7 +12,7 @@ use Rattle.sitecertificate.proofs.UsedLemmas.{among_right}
 use Rattle.siteaudit.proofs.AmongLemmas.{among_map}
 
 -- no answer is no listing
-pub none_listed : (names : Option (Vec (String Global) Global)) → is_none (listing_answer names) ≡ is_none names
+pub none_listed : (names : Option (Vec (String Global) Global)) → is_none (listing_answer names) ≡ not (is_some names)
 none_listed None = refl
 none_listed (Some names) = refl
 

@@ -27,6 +27,7 @@ use Rattle.sitelaws.specs.Laws.{CertificateHolds}
 use Rattle.siteaudit.specs.Walks.{IsWalk}
 use Rattle.siteaudit.specs.Folders.{AreBadDefaultFiles}
 use Rattle.siteaudit.specs.Missing.{missing_among}
+use Rattle.siteaudit.specs.NoModulefiles.{AreNoModulefiles}
 use Rattle.siteaudit.specs.declared.standing.Standing.{Standing}
 use Rattle.siteaudit.specs.declared.standing.Standing.TheVariants.{Certified, Asks, OneWay, OutOfStep, Clashes, Refused}
 use Rattle.siteaudit.specs.declared.auditing.AuditedModule.{AuditedModule}
@@ -141,8 +142,8 @@ plain_among outcomes = filter_map plain_of outcomes
 
 -- What was found is an audit of the site: a walk over it has these directories and these outcomes. It has each module of
 -- the walk, in its order, with how it stands; the certificate of its plain modules, each use once; those of its
--- directories that aren't there, in their order; the bad default files of the modules in turn, each once; the names that
--- mean no module; and the reasons for which the environment at hand doesn't agree with the certificate, use after use.
+-- directories that aren't there, in their order; the files in the places of modules that are no modulefiles; the bad
+-- default files of the modules in turn, each once; the names that mean no module; and the reasons for which the environment at hand doesn't agree with the certificate, use after use.
 pub record IsAudit (site : Site) (found : SiteAudit) : Type 0 where
   pub dirs : List Text
   pub outcomes : List Evaluated
@@ -152,6 +153,7 @@ pub record IsAudit (site : Site) (found : SiteAudit) : Type 0 where
   pub standing : AllStand site (plain_among outcomes) found.modules.items
   pub certificate : map used_view found.certificate.items ≡ each_once (certificate (plain_among outcomes))
   pub missing_directories : texts_in found.missing_directories ≡ missing_among site.listings dirs
+  pub no_modulefiles : AreNoModulefiles site.files site.listings dirs (texts_in found.no_modulefiles)
   pub bad_default_files : AreBadDefaultFiles site.limits site.files site.listings (map (λ outcome. outcome.0) outcomes)
       (texts_in found.bad_default_files)
   pub unknown : map mention_of found.unknown_names.items ≡ unknown_names outcomes

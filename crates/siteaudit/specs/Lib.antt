@@ -3,9 +3,11 @@ pub mod WalkLooked
 pub mod Audits
 pub mod Looked
 pub mod Missing
+pub mod NoModulefiles
 pub mod Folders
 -- for the contracts of private functions
 pub mod WalkParts
 pub mod Findings
 pub mod Mentions
+pub mod FilesBelow
 pub mod Parts

@@ -3,7 +3,6 @@ use Rattle.std.specs.Prelude.{◌≡◌, ◌⊎◌, ◌↔◌, [], map, flat_map
 use Rattle.envvars.specs.Texts.{Text, texts_in}
 use Rattle.tclrules.specs.declared.limits.Limits.{Limits}
 use Rattle.filetree.specs.Agreement.{Files, Listings}
-use Rattle.sitecertificate.specs.RecordUses.{IsAmong}
 use Rattle.sitecertificate.specs.Certificates.{AgreesWith}
 use Rattle.sitecertificate.specs.UseViews.{used_view}
 use Rattle.sitecertificate.specs.Disagreements.{AreDisagreements}
@@ -15,6 +14,8 @@ use Rattle.siteaudit.specs.Audits.{mention_of, IsAudit, CertificateStands}
 use Rattle.siteaudit.specs.Findings.{evaluated_file, AreStandings}
 use Rattle.siteaudit.specs.Folders.{AreBadDefaultFiles, EvaluatedLookAt}
 use Rattle.siteaudit.specs.Missing.{missing_among}
+use Rattle.siteaudit.specs.NoModulefiles.{AreNoModulefiles}
+use Rattle.siteaudit.specs.FilesBelow.{LooksAtAny}
 use Rattle.siteaudit.specs.Mentions.{is_known, unknown_after}
 use Rattle.siteaudit.specs.declared.auditing.SiteAudit.{SiteAudit}
 
@@ -23,6 +24,8 @@ pub record AreParts (site : Site) (walk : SiteWalk) (found : SiteAudit) : Type 0
   pub standings : AreStandings walk.evaluations.items found.modules.items (map used_view found.certificate.items)
   pub missing_directories : texts_in found.missing_directories
       ≡ missing_among site.listings (texts_in walk.directories)
+  pub no_modulefiles : AreNoModulefiles site.files site.listings (texts_in walk.directories)
+      (texts_in found.no_modulefiles)
   pub bad_default_files : AreBadDefaultFiles site.limits site.files site.listings
       (map evaluated_file walk.evaluations.items) (texts_in found.bad_default_files)
   pub unknown_names : map mention_of found.unknown_names.items
@@ -37,8 +40,8 @@ PartsAreAudits =
     (site : Site) (walk : SiteWalk) (found : SiteAudit) → IsWalkAnswer site walk
     → AreParts site walk found → IsAudit site found × CertificateStands site found
 
--- What looks for the parts looks at this path: at a directory of the walk, or where the search for the folder of a
--- module does.
+-- What looks for the parts looks at this path: at a directory of the walk, or at what is below one; or where the search
+-- for the folder of a module does.
 abbrev pub WalkedLookAt : Limits → Files → Listings → SiteWalk → Text → Type 0
 WalkedLookAt limits files listings walk at =
-    IsAmong at (texts_in walk.directories) ⊎ EvaluatedLookAt limits files listings walk.evaluations.items at
+    LooksAtAny listings (texts_in walk.directories) at ⊎ EvaluatedLookAt limits files listings walk.evaluations.items at

@@ -15,6 +15,7 @@ use crate::fault::WalkFault;
 use crate::judgement::{SiteStandings, judge_modules};
 use crate::missing::missing_among;
 use crate::names::unknown_names;
+use crate::no_modulefiles::no_modulefiles;
 use crate::progress::WalkProgress;
 use crate::standing::Standing;
 use crate::walk::{SiteWalk, walk_site};
@@ -58,6 +59,8 @@ pub struct SiteAudit {
     pub certificate: Vec<UsedVariable>,
     /// The directories of the site that aren't there, in the order of the walk.
     pub missing_directories: Vec<String>,
+    /// The paths of the files in the places of modules that don't begin with the cookie, in the order of their bytes.
+    pub no_modulefiles: Vec<String>,
     /// The paths of the default files that have a fault, so that a search for their folder is refused.
     pub bad_default_files: Vec<String>,
     /// Conflicts and prereqs that name no module of the site.
@@ -96,6 +99,7 @@ fn audit_walk<T: Tree>(
         evaluations,
     } = walk;
     let unknown_names = unknown_names(alloc, evaluations.as_slice())?;
+    let no_modulefiles = no_modulefiles(alloc, tree, directories.as_slice())?;
     let missing_directories = missing_among(alloc, tree, directories)?;
     let bad_default_files = bad_default_files(alloc, tree, limits, evaluations.as_slice())?;
     let SiteStandings {
@@ -107,6 +111,7 @@ fn audit_walk<T: Tree>(
         modules,
         certificate,
         missing_directories,
+        no_modulefiles,
         bad_default_files,
         unknown_names,
         disagreements,

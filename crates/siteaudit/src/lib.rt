@@ -15,6 +15,7 @@ mod given_up;
 mod judgement;
 mod missing;
 mod names;
+mod no_modulefiles;
 mod plain;
 mod progress;
 mod standing;

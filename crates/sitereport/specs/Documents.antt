@@ -161,6 +161,10 @@ certificate_field certificate = (codes "certificate", array_of (map used_value c
 abbrev pub missing_field : List (String Global) → Field
 missing_field dirs = texts_field (codes "missing_directories") dirs
 
+-- the paths of the files that are no modulefiles
+abbrev pub no_modulefiles_field : List (String Global) → Field
+no_modulefiles_field paths = texts_field (codes "no_modulefiles") paths
+
 -- the paths of the default files that have a fault
 abbrev pub bad_files_field : List (String Global) → Field
 bad_files_field paths = texts_field (codes "bad_default_files") paths
@@ -176,7 +180,8 @@ abbrev pub document : Selection → SiteAudit → Json
 document selection found =
     object_of (modules_field selection found.modules.items ∷ count_fields found.modules.items
     ++ certificate_field found.certificate.items ∷ missing_field found.missing_directories.items
-    ∷ bad_files_field found.bad_default_files.items ∷ rest_fields found.unknown_names.items found.disagreements.items)
+    ∷ no_modulefiles_field found.no_modulefiles.items ∷ bad_files_field found.bad_default_files.items
+    ∷ rest_fields found.unknown_names.items found.disagreements.items)
 
 -- its text, on a line of its own
 abbrev pub document_text : Selection → SiteAudit → Text

@@ -21,6 +21,14 @@ missing dir = codes "# no directory: " ++ (spelled dir ++ codes "\n")
 abbrev pub missing_line : String Global → Text
 missing_line dir = missing (string_bytes dir)
 
+-- the line of a file that is no modulefile, by its path
+unfoldable pub no_modulefile : Text → Text
+no_modulefile path = codes "# no modulefile: " ++ (spelled path ++ codes "\n")
+
+-- the same by the path as the code has it
+abbrev pub no_modulefile_line : String Global → Text
+no_modulefile_line path = no_modulefile (string_bytes path)
+
 -- the line of a default file with a fault, by its path
 unfoldable pub bad_file : Text → Text
 bad_file path = codes "# bad default file: " ++ (spelled path ++ codes "\n")

@@ -5,7 +5,8 @@ use Rattle.siteaudit.specs.declared.auditing.AuditedModule.{AuditedModule}
 use Rattle.siteaudit.specs.declared.auditing.SiteAudit.{SiteAudit}
 use Rattle.sitereport.specs.declared.selection.Selection.{Selection}
 use Rattle.sitereport.specs.Words.{spelled, standing_word, reason, is_named, certified_count, standing_count}
-use Rattle.sitereport.specs.Remarks.{missing_line, bad_file_line, conflict_lines, prereq_line, environment_lines}
+use Rattle.sitereport.specs.Remarks.{missing_line, no_modulefile_line, bad_file_line, conflict_lines, prereq_line}
+use Rattle.sitereport.specs.Remarks.{environment_lines}
 
 -- the line of a module: its name, its standing in one word, the reason and its path, parted by tabs
 unfoldable pub module_line : AuditedModule → Text
@@ -42,5 +43,6 @@ abbrev pub report_of : Selection → SiteAudit → Text
 report_of selection found =
     flat_map (named_line selection) found.modules.items ++ (count_line found.modules.items
     ++ (sum_lines found.modules.items ++ (flat_map missing_line found.missing_directories.items
-    ++ (flat_map bad_file_line found.bad_default_files.items ++ (conflict_lines found.unknown_names.items
-    ++ (flat_map prereq_line found.unknown_names.items ++ environment_lines found.disagreements.items))))))
+    ++ (flat_map no_modulefile_line found.no_modulefiles.items ++ (flat_map bad_file_line found.bad_default_files.items
+    ++ (conflict_lines found.unknown_names.items ++ (flat_map prereq_line found.unknown_names.items
+    ++ environment_lines found.disagreements.items)))))))

@@ -291,6 +291,7 @@ fn write_document(
         "missing_directories",
         found.missing_directories.as_slice(),
     )?;
+    write_text_array(writer, "no_modulefiles", found.no_modulefiles.as_slice())?;
     write_text_array(
         writer,
         "bad_default_files",

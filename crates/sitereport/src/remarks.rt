@@ -1,4 +1,4 @@
-//! The remarks after the lines of the modules: on directories, on default files, on names, on the environment at hand.
+//! The remarks after the lines of the modules: on directories, on files, on default files, on names, on the environment at hand.
 ghost use Rattle.std.specs.Prelude.{◌≡◌, ◌++◌, OnOk, IfOk, map, string_bytes, flat_map};
 ghost use Rattle.sitereport.specs.Remarks as spec;
 
@@ -25,6 +25,25 @@ fn push_missing_directory(report: &mut Vec<u8>, dir: &str) -> Result<(), AllocEr
 {
     push_text(report, "# no directory: ")?;
     push_field(report, dir)?;
+    push_text(report, "\n")
+}
+
+/// Adds a line for each file that is no modulefile.
+pub(crate) fn push_no_modulefiles(report: &mut Vec<u8>, paths: &[String]) -> Result<(), AllocError>
+    ensures { OnOk result (report.new.items ≡ report.old.items ++ flat_map spec.no_modulefile_line paths.now) }
+{
+    for path in paths {
+        push_no_modulefile(report, path.as_str())?;
+    }
+    Ok(())
+}
+
+/// Adds the line of a file that is no modulefile.
+fn push_no_modulefile(report: &mut Vec<u8>, path: &str) -> Result<(), AllocError>
+    ensures { OnOk result (report.new.items ≡ report.old.items ++ spec.no_modulefile path.now) }
+{
+    push_text(report, "# no modulefile: ")?;
+    push_field(report, path)?;
     push_text(report, "\n")
 }
 

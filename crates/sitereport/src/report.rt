@@ -4,7 +4,9 @@ ghost use Rattle.sitereport.specs.Reports as spec;
 
 use crate::conflicts::push_conflicts;
 use crate::fields::{push_field, push_text};
-use crate::remarks::{push_bad_files, push_disagreements, push_missing, push_prereqs};
+use crate::remarks::{
+    push_bad_files, push_disagreements, push_missing, push_no_modulefiles, push_prereqs,
+};
 use crate::selection::{Selection, certified_count, standing_count};
 use crate::words::{reason, standing_word};
 use siteaudit::{AuditedModule, SiteAudit};
@@ -127,6 +129,7 @@ pub fn line_report(
     push_count(alloc, &mut report, found.modules.as_slice())?;
     push_sums(alloc, &mut report, found.modules.as_slice())?;
     push_missing(&mut report, found.missing_directories.as_slice())?;
+    push_no_modulefiles(&mut report, found.no_modulefiles.as_slice())?;
     push_bad_files(&mut report, found.bad_default_files.as_slice())?;
     push_conflicts(alloc, &mut report, found.unknown_names.as_slice())?;
     push_prereqs(&mut report, found.unknown_names.as_slice())?;
