@@ -241,6 +241,7 @@ def differs(found, site):
         "the modules": (sorted(modules), sorted(wanted)),
         "the certificate": (uses_in(found["certificate"]), set(site.uses)),
         "the missing directories": (found["missing_directories"], standings.missing(site.directories, os.path.isdir)),
+        "the files that are no modulefiles": (found["no_modulefiles"], []),
         "the counts": ((found["certified"], found["count"]), (len(site.certified), len(site.modules))),
     }
     return next((f"{what}: {one!r}, by the model {other!r}" for what, (one, other) in pairs.items() if one != other), None)

@@ -20,7 +20,7 @@ from hypothesis import given
 from hypothesis import strategies as st
 from instructions import instructions
 
-from tests import certified, losses, sentence
+from tests import certified, losses, sentence, standings
 from tests.harness import HERE, SECONDS, refuses_each, same, true
 from tests.properties import examples
 from tests.worked import FOLDER, real, write
@@ -370,6 +370,70 @@ def test_remarks_on_directories_that_are_not_there(folder):
     same((done.stdout, done.stderr, done.returncode), (gone, b"", 0), "a MODULEPATH of which nothing is there")
 
 
+def put(folder, files):
+    """Writes files as they are, without the cookie that modulefiles have."""
+    for path, text in files.items():
+        path = real(folder, path)
+        os.makedirs(os.path.dirname(path), exist_ok=True)
+        with open(path, "wb") as file:
+            file.write(text)
+
+
+def test_remarks_on_files_that_are_no_modulefiles(folder):
+    """Those in the places of modules without the cookie, each once, in the order of the bytes of their paths."""
+    site = Site(folder, {"/m/a/1": "append-path MODULEPATH /n\n", "/m/a/b/1": "setenv V x\n"}, "/m:/m/a")
+    put(
+        folder,
+        {
+            "/m/a/2.lua": b"help([[x]])\n",
+            "/m/a/3": b"\xef\xbb\xbf#%Module\n",
+            "/m/a/4": b"",
+            "/m/a/5~": b"#%module\n",
+            "/m/c": b"#%Modul",
+            "/m/d/e/f/g": b"x",
+            "/n/README": b"\xff",
+            # Hidden names, those that no module has, and what has more parts than a name.
+            "/m/a/.6": b"",
+            "/m/.g/1": b"",
+            "/m/a/7 8": b"",
+            "/m/a/x@y": b"",
+            "/m/d/e/f/g2/h": b"",
+            "/m/a/.version": b"set ModulesVersion 1\n",
+            "/m/a/9": b"#%Module5.3",
+            "/o/a/1": b"",
+        },
+    )
+    lines = ["a/1\tcertified\t\t/m/a/1", "a/9\tcertified\t\t/m/a/9", "a/b/1\tcertified\t\t/m/a/b/1"]
+    lines += ["1\tcertified\t\t/m/a/1", "9\tcertified\t\t/m/a/9", "b/1\tcertified\t\t/m/a/b/1"]
+    wanted = ["/m/a/2.lua", "/m/a/3", "/m/a/4", "/m/a/5~", "/m/c", "/m/d/e/f/g", "/n/README"]
+    done = site.run("--quiet")
+    remarks = [line for line in done.stdout.decode().splitlines() if "no modulefile" in line]
+    same(remarks, [f"# no modulefile: {os.fsdecode(real(folder, path))}" for path in wanted], "what isn't one")
+    same(done.stderr, b"", "standard error")
+    same(site.document()["no_modulefiles"], [os.fsdecode(real(folder, path)) for path in wanted], "the document")
+
+
+PARTS = st.sampled_from(["a", "b", "1.0", "1.lua", "1~", ".x", ".modulerc", "x y", "x@", "README", "\u00e9"])
+CONTENTS = st.sampled_from([b"", b"#%Module", b"#%Module\n", b"#%Modul", b"#%module\n", b" #%Module\n", b"-- Lua\n", b"\xff"])
+
+
+@st.composite
+def places(draw):
+    return "/".join(["", draw(st.sampled_from("mn")), *draw(st.lists(PARTS, min_size=1, max_size=5))])
+
+
+@examples(100)
+@given(files=st.dictionaries(places(), CONTENTS, max_size=12))
+def test_random_files_by_the_model(folder, files):
+    """Files at whose paths there is no folder of another one."""
+    files = {path: text for path, text in files.items() if not any(other.startswith(f"{path}/") for other in files)}
+    site = Site(folder, {}, "/m:/n:/m/a")
+    site.clear()
+    put(folder, files)
+    wanted = standings.no_modulefiles(["/m", "/n", "/m/a"], files)
+    same(site.document()["no_modulefiles"], [os.fsdecode(real(folder, path)) for path in wanted], f"of {files}")
+
+
 def test_remarks_on_the_environment_at_hand(folder):
     files = {
         "/m/a/1": "setenv V x\nunsetenv W y\nappend-path P /b\nappend-path -d , Q /b\npushenv S z\n",
@@ -581,6 +645,7 @@ def test_the_document_says_the_same(folder):
             {"variable": "E", "use": "stack"},
         ],
         "missing_directories": [],
+        "no_modulefiles": [],
         "bad_default_files": [f"{there}/a/.version"],
         "unknown_names": [
             {"name": "a/1", "path": f"{there}/a/1", "command": "conflict", "names": ["q"]},

@@ -203,6 +203,22 @@ def missing(directories_of_site, is_there):
     return [one for one in directories_of_site if not is_there(one)]
 
 
+def is_part(text):
+    """The text can be a part of a module's name."""
+    return text != "" and not text.startswith(".") and not any(c in "\0 \t\n\v\f\r:&|\\@" for c in text)
+
+
+def no_modulefiles(directories_of_site, files):
+    """The paths of files without the cookie, in the places of modules, in the order of their bytes."""
+    found = set()
+    for path, text in files.items():
+        for directory in directories_of_site:
+            parts = path.removeprefix(f"{directory}/").split("/")
+            if path.startswith(f"{directory}/") and len(parts) <= 4 and all(map(is_part, parts)):
+                found |= set() if text.startswith(b"#%Module") else {path}
+    return sorted(found, key=str.encode)
+
+
 def site_modules(modulepath, modules_in):
     return [module for one in site_directories(modulepath, modules_in) for module in modules_in(one)]
 

@@ -1,5 +1,5 @@
 -- Directories that aren't there.
-use Rattle.std.proofs.Common.{◌≡◌, ◌++◌, ◌∷◌, ℕ, List, Option, Some, None, refl, subst, string_bytes, map, ap, ◌∙◌, sym, inl}
+use Rattle.std.proofs.Common.{◌≡◌, Bool, true, false, ◌++◌, ◌∷◌, ℕ, List, Option, Some, None, refl, subst, string_bytes, map, ap, ◌∙◌, sym, inl}
 use Rattle.std.specs.Prelude.{is_none, is_some, not}
 use Rattle.std.proofs.lemmas.List.{map-append}
 use Rattle.std.specs.declared.alloc.Global.{Global}
@@ -12,9 +12,11 @@ use Rattle.sitecertificate.proofs.UsedLemmas.{among_right}
 use Rattle.siteaudit.proofs.AmongLemmas.{among_map}
 
 -- no answer is no listing
-pub none_listed : (names : Option (Vec (String Global) Global)) → is_none (listing_answer names) ≡ not (is_some names)
-none_listed None = refl
-none_listed (Some names) = refl
+pub none_listed : (names : Option (Vec (String Global) Global)) (none : Bool) → is_some names ≡ not none → is_none (listing_answer names) ≡ none
+none_listed None true h = refl
+none_listed None false h = absurd (cc)
+none_listed (Some names) true h = absurd (cc)
+none_listed (Some names) false h = refl
 
 -- one in the middle of some texts is among them
 pub in_the_middle : (all done rest : List (String Global)) (x : String Global) → done ++ x ∷ rest ≡ all

@@ -1,4 +1,4 @@
-use Rattle.std.proofs.Common.{◌≡◌, refl, sym, ap, ◌∙◌}
+use Rattle.std.proofs.Common.{refl, ap, ◌∙◌}
 use Rattle.std.specs.Prelude.{is_none}
 use Rattle.std.proofs.lemmas.Result.{err_from_is_err_and}
 use Rattle.filetree.specs.Agreement.{is_device}
@@ -18,4 +18,4 @@ returns-in_err-names-clause-failed g c =
 
 pub returns-clause-answer : goal.returns-clause-answer
 returns-clause-answer g c = λ files listings k.
-    ap is_none (c.in_ok-names.ensures.answer files listings k) ∙ (none_listed c.in_ok-names.names ∙ sym c.is_none.ensures)
+    ap is_none (c.in_ok-names.ensures.answer files listings k) ∙ none_listed c.in_ok-names.names c.is_none.result c.is_none.ensures
