@@ -1,8 +1,8 @@
 -- What is below a folder, and below one of several paths.
-use Rattle.std.proofs.Common.{◌≡◌, ◌≢◌, ◌⊎◌, inl, inr, ℕ, zero, suc, ◌+◌, ◌-◌, ◌<◌, ◌≤◌, Bool, true, false, ◌&&◌, cond, List, []}
+use Rattle.std.proofs.Common.{◌≡◌, ◌≢◌, ◌⊎◌, inl, inr, ℕ, zero, suc, ◌+◌, ◌-◌, ◌<◌, ◌≤◌, Bool, true, false, cond, List, []}
 use Rattle.std.proofs.Common.{◌∷◌, ◌++◌, length, map, flat_map, take, get_or, string_bytes, String, Global, refl, sym, ap}
-use Rattle.std.proofs.Common.{◌∙◌, subst, arith, Option, Some, None, append-nil}
-use Rattle.std.specs.Prelude.{◌↔◌, bytes_eq, nat_le, ◌==◌}
+use Rattle.std.proofs.Common.{◌∙◌, subst, arith, Option, Some, None}
+use Rattle.std.specs.Prelude.{◌↔◌, bytes_eq, nat_le}
 use Rattle.std.specs.List.{list_any, list_all}
 use Rattle.std.specs.BTreeSet.{BTreeSet}
 use Rattle.std.proofs.lemmas.Bool.{false≢true, and_parts, and_from, or_left, or_right, or_cases}
@@ -20,7 +20,7 @@ use Rattle.search.specs.BelowFolder.{ReachesThrough}
 use Rattle.search.proofs.PartLemmas.{parts-single, parts-path, parts-some, cut, path-assoc}
 use Rattle.sitecertificate.specs.RecordUses.{IsAmong}
 use Rattle.siteaudit.specs.NoModulefiles.{IsNoModulefile}
-use Rattle.siteaudit.specs.FilesBelow.{lacks_cookie, lacks_cookie_at, is_part_name, names_of, path_by, path_by_entry, paths_in}
+use Rattle.siteaudit.specs.FilesBelow.{lacks_cookie, is_part_name, names_of, path_by, path_by_entry, paths_in}
 use Rattle.siteaudit.specs.FilesBelow.{IsBelowBy, IsInBy, IsFoundBelow, LooksAtBelow, Has, Adds}
 use Rattle.std.proofs.lemmas.List.{take_all}
 use Rattle.siteaudit.proofs.PathSets.{by_cases, keys_are, nothing_in}

@@ -1,11 +1,9 @@
 -- Directories that aren't there.
-use Rattle.std.proofs.Common.{◌≡◌, Bool, true, false, ◌++◌, ◌∷◌, ℕ, List, Option, Some, None, refl, subst, string_bytes, map, ap, ◌∙◌, sym, inl}
+use Rattle.std.proofs.Common.{◌≡◌, Bool, true, false, ◌++◌, ◌∷◌, List, Option, Some, None, refl, subst, string_bytes, map, inl}
 use Rattle.std.specs.Prelude.{is_none, is_some, not}
-use Rattle.std.proofs.lemmas.List.{map-append}
 use Rattle.std.specs.declared.alloc.Global.{Global}
 use Rattle.std.specs.declared.string.String.{String}
 use Rattle.std.specs.declared.vec.Vec.{Vec}
-use Rattle.envvars.specs.Texts.{Text}
 use Rattle.filetree.specs.Agreement.{listing_answer}
 use Rattle.sitecertificate.specs.RecordUses.{IsAmong}
 use Rattle.sitecertificate.proofs.UsedLemmas.{among_right}

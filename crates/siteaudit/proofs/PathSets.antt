@@ -1,6 +1,6 @@
 -- Sets of paths.
-use Rattle.std.proofs.Common.{◌≡◌, ◌⊎◌, inl, inr, Bool, true, false, cond, ◌||◌, List, [], ◌∷◌, map, string_bytes, String}
-use Rattle.std.proofs.Common.{Global, refl, sym, ap, ◌∙◌, subst, ◌++◌}
+use Rattle.std.proofs.Common.{◌≡◌, ◌⊎◌, inl, inr, Bool, true, false, cond, List, [], ◌∷◌, map, string_bytes, String}
+use Rattle.std.proofs.Common.{Global, refl, sym, ap, ◌∙◌, subst}
 use Rattle.std.specs.Prelude.{◌↔◌, bytes_eq}
 use Rattle.std.specs.BTreeSet.{BTreeSet, contains_text}
 use Rattle.std.specs.Cmp.Lexicographic.{slice_cmp}

@@ -1,6 +1,6 @@
-use Rattle.std.proofs.Common.{◌≡◌, map, flat_map, subst, List, refl, inl, inr, ◌∙◌, ap, String, Global, string_bytes}
+use Rattle.std.proofs.Common.{◌≡◌, map, flat_map, subst, List, refl, inl, inr, ◌∙◌, String, Global, string_bytes}
 use Rattle.std.proofs.lemmas.Result.{err_from_is_err_and}
-use Rattle.envvars.specs.Texts.{Text, texts_in}
+use Rattle.envvars.specs.Texts.{texts_in}
 use Rattle.filetree.specs.Agreement.{InEachPair, is_device}
 use Rattle.filetree.proofs.FailedPaths.{fails_then}
 use Rattle.modules.specs.Answers.{is_failure, refused_read}

@@ -1,4 +1,4 @@
-use Rattle.std.proofs.Common.{◌≡◌, ◌⊎◌, ◌+◌, ◌-◌, true, List, [], map, take, string_bytes, String, Global, refl, sym, ap, ◌∙◌, inl, inr}
+use Rattle.std.proofs.Common.{◌≡◌, ◌⊎◌, ◌+◌, ◌-◌, true, List, [], map, take, string_bytes, String, Global, refl, ap, ◌∙◌, inl}
 use Rattle.std.proofs.Common.{subst, arith, rules}
 use Rattle.std.proofs.lemmas.List.{take_all}
 use Rattle.std.proofs.lemmas.Result.{err_from_is_err_and}
@@ -6,7 +6,7 @@ use Rattle.modulename.specs.ModuleName.{Text}
 use Rattle.filetree.specs.Agreement.{InEachPair, is_device}
 use Rattle.filetree.proofs.FailedPaths.{fails_then}
 use Rattle.siteaudit.specs.FilesBelow.{lacks_cookie_at, Adds, IsBelowBy, IsInBy, IsFoundBelow, LooksAtBelow, paths_in}
-use Rattle.siteaudit.proofs.PathSets.{by_cases, adds_none, adds_same, adds_more}
+use Rattle.siteaudit.proofs.PathSets.{adds_none, adds_same, adds_more}
 use Rattle.siteaudit.proofs.FilesBelow.{in_next, in_none, below_are, found_nowhere, at_next, looks_next}
 use Rattle.siteaudit.proofs.no_modulefiles.+add_below.Goals as goal
 

@@ -1,12 +1,10 @@
-use Rattle.std.proofs.Common.{◌≡◌, ◌+◌, List, map, take, string_bytes, String, Global, refl, sym, ap, ◌∙◌, subst, arith}
-use Rattle.std.specs.Prelude.{◌↔◌}
-use Rattle.std.proofs.lemmas.List.{take_all}
+use Rattle.std.proofs.Common.{◌≡◌, map, string_bytes, refl, ◌∙◌, subst, arith}
 use Rattle.std.proofs.lemmas.Result.{err_from_is_err_and}
 use Rattle.modulename.specs.ModuleName.{Text}
 use Rattle.filetree.specs.Agreement.{InEachPair, is_device}
 use Rattle.filetree.proofs.FailedPaths.{fails_then}
 use Rattle.siteaudit.specs.FilesBelow.{IsFoundBelow, LooksAtAny, LooksAtBelow, Adds}
-use Rattle.siteaudit.proofs.PathSets.{keys_are, sorted_bytes, nothing_in}
+use Rattle.siteaudit.proofs.PathSets.{sorted_bytes}
 use Rattle.siteaudit.proofs.FilesBelow.{among_at, begun, directory_more, whole_are}
 use Rattle.siteaudit.proofs.no_modulefiles.no_modulefiles.Goals as goal
 

@@ -1,6 +1,5 @@
 use Rattle.std.proofs.Common.{◌≡◌, true}
 use Rattle.std.specs.Prelude.{OnOk, Result, Ok, Err}
-use Rattle.modulename.specs.ModuleName.{Text}
 use Rattle.siteaudit.specs.FilesBelow.{Adds}
 use Rattle.siteaudit.proofs.PathSets.{adds_same}
 use Rattle.siteaudit.proofs.no_modulefiles.put_if.Goals as goal
