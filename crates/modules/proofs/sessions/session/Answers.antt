@@ -1,7 +1,5 @@
 use Rattle.std.proofs.Common.{◌≡◌, ◌+◌, ◌≤◌, List, [], ◌∷◌, ◌++◌, map, drop, sym, subst}
 use Rattle.std.proofs.Math.ListN.{drop_of_length-le}
-use Rattle.envvars.specs.Environment.{Environment}
-use Rattle.envvars.specs.Texts.{Text}
 use Rattle.filetree.proofs.FailedPaths.{only_if, only_wider_in_each}
 use Rattle.shelltext.specs.declared.shell.Shell.TheVariants.{Sh}
 use Rattle.requests.specs.RequestViews.{request_view}
