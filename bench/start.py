@@ -30,8 +30,9 @@ def print_start(folder, null, program):
     foo = module(folder, "start/1.0", "setenv FOO on\nprepend-path PATH /opt/foo/bin\n")
     env, words = environment(folder), ["sh", "load", "start/1.0"]
     commands = [("native, reads one file", [null, foo]), ("installed: load 1", [program, *words])]
-    if os.path.exists(f"{program}-dynamic"):
-        commands.append(("linked dynamically: load 1", [f"{program}-dynamic", *words]))
+    beside = os.path.join(os.path.dirname(program), "dynamic", os.path.basename(program))
+    if os.path.exists(beside):
+        commands.append(("linked dynamically: load 1", [beside, *words]))
     print("\nThe start of a process:\n")
     print(f"{'':30}{'outside main':>14}{'in main':>12}{'system calls':>14}{'page faults':>13}")
     for title, command in commands:

@@ -102,7 +102,7 @@ def refuses_each(shim, run, is_refused, what):
 
 def dynamic(program):
     """The program of the same object that is linked dynamically, if it stands beside."""
-    beside = f"{program}{DYNAMIC}"
+    beside = os.path.join(os.path.dirname(program), DYNAMIC, os.path.basename(program))
     return beside if os.path.isfile(beside) else program
 
 

@@ -29,8 +29,6 @@ NOT_RUN = "not run: "
 PROGRAMS = {
     "modulecmd": ("modulecmd_main", "modulecmd_main"),
     "modcheck": ("modcheck", "modcheck"),
-    "modaudit": ("modaudit", "modaudit"),
-    "modport": ("modport", "modport"),
     "module": ("module_main", "module_main"),
     "cases_tcl": ("cases_tcl", "cases_tcl"),
     "cases_environment": ("cases_environment", "cases_environment"),

@@ -11,10 +11,13 @@ import struct
 import subprocess
 
 # The programs of the product, by the names that they are installed by, and the folder of each below the prefix.
-PRODUCT = {"modulecmd": "bin", "modcheck": "bin", "modaudit": "bin", "modport": "bin", "module": "libexec"}
+PRODUCT = {"modulecmd": "bin", "modcheck": "bin", "module": "libexec"}
 
-# What stands behind the name of the dynamically linked program.
-DYNAMIC = "-dynamic"
+# Other names of a program, by which it does something else: links to it.
+ALIASES = {"modaudit": "module", "modport": "module"}
+
+# The folder beside a program where the dynamically linked one stands.
+DYNAMIC = "dynamic"
 
 # How the system's compiler links statically.
 FLAGS = ("-static", "-Wl,--gc-sections", "-Wl,-z,relro,-z,now,-z,noexecstack")
@@ -71,18 +74,30 @@ def is_made_of(kit, linked, made, room):
 
 
 def leave(kit, linked, made, folder, name):
-    """Puts a program into a folder: linked statically, and the kit's link of the same object beside it. Where one can't
-    be linked so, or there is no object, the kit's link takes its place, and a line says why."""
-    os.makedirs(folder, exist_ok=True)
+    """Puts a program into a folder, with its other names: linked statically, and the kit's link of the same object in a
+    folder of it. Where one can't be linked so, or there is no object, the kit's link takes its place, and a line says
+    why."""
+    beside = os.path.join(folder, DYNAMIC)
+    os.makedirs(beside, exist_ok=True)
     place = os.path.join(folder, name)
     new = f"{place}.new"
-    shutil.copy(linked, f"{place}{DYNAMIC}.new")
-    os.replace(f"{place}{DYNAMIC}.new", f"{place}{DYNAMIC}")
+    shutil.copy(linked, os.path.join(beside, f"{name}.new"))
+    os.replace(os.path.join(beside, f"{name}.new"), os.path.join(beside, name))
     why = link_statically(kit, made, new) if made and os.path.exists(made) else "its object isn't there"
     if why:
         shutil.copy(linked, new)
         print(f"{name} is linked dynamically: {why}", flush=True)
     os.replace(new, place)
+    for alias in [it for it, named in ALIASES.items() if named == name]:
+        for at in (folder, beside):
+            name_too(at, name, alias)
+
+
+def name_too(folder, name, alias):
+    """Gives a program in a folder another name."""
+    new = os.path.join(folder, f"{alias}.new")
+    os.symlink(name, new)
+    os.replace(new, os.path.join(folder, alias))
 
 
 def kept_object(top, name):

@@ -53,7 +53,9 @@ for file in $examples; do
     files="$files share/examples/$file"
 done
 runs='libexec/usage libexec/modulespath libexec/names libexec/report libexec/suggest'
-programs='bin/modulecmd bin/modcheck bin/modaudit bin/modport libexec/module'
+programs='bin/modulecmd bin/modcheck libexec/module'
+# Other names of the program `module`, by which it is another one.
+aliases='bin/modaudit bin/modport'
 folders='bin init libexec completion etc share/man/man1 share/man/man5 share/man share/doc'
 for file in $examples; do
     folders="$folders share/examples/${file%/*}"
@@ -148,6 +150,20 @@ make_program() {
         /*) make_file 755 "$top/$folder/${1##*/}" cat "$1" ;;
         *) make_file 755 "$top/$folder/${1##*/}" cat "$start/$1" ;;
     esac
+    if test "${1##*/}" = module; then
+        for file in $aliases; do
+            make_link ../libexec/module "$top/$file"
+        done
+    fi
+}
+
+# Makes a link beside its place: make_link TARGET PLACE.
+make_link() {
+    test ! -d "$2" || refuse "Nothing is installed: a folder is in the place of $2"
+    new_files="$new_files$2
+"
+    rm -f -- "$2.new"
+    ln -s -- "$1" "$2.new" || refuse "Nothing is installed: $2 can't be made"
 }
 
 # Each file is put in place whole: shells of users may read the one that was there.
@@ -173,7 +189,7 @@ case $action in
         if cmp -s "$top/etc/modulespath" "$top/etc/modulespath.example"; then
             rm -f "$top/etc/modulespath"
         fi
-        for file in $programs $runs $files; do
+        for file in $programs $aliases $runs $files; do
             rm -f "$top/$file"
         done
         for folder in $folders; do

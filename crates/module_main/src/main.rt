@@ -1,6 +1,6 @@
 //! The program `module SHELL SUBCOMMAND [WORD...]`: what the function `module` does beside `modulecmd`.
 //! Touches its arguments, environment, working directory and standard streams, reads files, and writes collections.
-//! Nothing stands above it; it has no clause, so it has little code.
+//! Its file is `modaudit` and `modport` too, by these names. It has no clause, so it has little code.
 #![tactic(auto)]
 
 mod automatic_commands;
@@ -9,6 +9,7 @@ mod description_commands;
 mod given;
 mod listing_commands;
 mod missing;
+mod program;
 mod refusal;
 
 use automatic_commands::do_automatic_command;
@@ -19,6 +20,7 @@ use given::Given;
 use listing_commands::do_listing_command;
 use message::{Message, RefusalKind};
 use missing::MissingDirectories;
+use program::{Program, called_as};
 use std::io::Write;
 use std::process::ExitCode;
 
@@ -36,36 +38,45 @@ fn print(rt: &HostRuntime, output: &FunctionOutput) -> ExitCode {
     ExitCode::from(output.status)
 }
 
-/// Does the command of the process's arguments, and ends with its status.
-fn main(rt: HostRuntime) -> ExitCode {
-    let given = match Given::read(&rt) {
+/// Does the command of the process's arguments, and gives the status with which the process ends.
+fn run_module(rt: &HostRuntime) -> ExitCode {
+    let given = match Given::read(rt) {
         Ok(given) => given,
-        Err(refusal) => return refused(&rt, refusal.message),
+        Err(refusal) => return refused(rt, refusal.message),
     };
-    if let Some(status) = do_collection_command(&rt, &given) {
+    if let Some(status) = do_collection_command(rt, &given) {
         return status;
     }
-    if let Some(status) = do_automatic_command(&rt, &given) {
+    if let Some(status) = do_automatic_command(rt, &given) {
         return status;
     }
-    if let Some(status) = do_description_command(&rt, &given) {
+    if let Some(status) = do_description_command(rt, &given) {
         return status;
     }
-    if let Some(status) = do_listing_command(&rt, &given) {
+    if let Some(status) = do_listing_command(rt, &given) {
         return status;
     }
     let working = match &given.working {
         Some(place) => Some(place.as_str()),
         None => None,
     };
-    let mut missing = MissingDirectories::new(&rt);
+    let mut missing = MissingDirectories::new(rt);
     let arguments = given.arguments.as_slice();
     match function_output(rt.alloc(), arguments, &given.env, working, &mut missing) {
         Ok(output) => {
             // A command that is refused says nothing but its reason.
             missing.tell();
-            print(&rt, &output)
+            print(rt, &output)
         }
-        Err(fault) => refused(&rt, fault.message()),
+        Err(fault) => refused(rt, fault.message()),
+    }
+}
+
+/// Runs the program that the process is called as, and ends with its status.
+fn main(rt: HostRuntime) -> ExitCode {
+    match called_as(&rt) {
+        Program::Module => run_module(&rt),
+        Program::Modaudit => modaudit::run(rt),
+        Program::Modport => modport::run(rt),
     }
 }

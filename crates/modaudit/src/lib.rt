@@ -1,6 +1,6 @@
 //! The program `modaudit [--quiet] [--json] [DIR...]`: says how each module of a site stands (modaudit(1)).
 //! Touches its arguments, its environment, the standard streams and the clock, and reads files and directories.
-//! Nothing stands above it; it has no clause, so it has little code.
+//! It is one of the names of the program `module`; it has no clause, so it has little code.
 #![tactic(auto)]
 
 mod progress_line;
@@ -16,8 +16,8 @@ fn refused(rt: &HostRuntime, fault: &CommandFault) -> ExitCode {
     ExitCode::from(AuditExit::Reported.status())
 }
 
-/// Audits a site, and ends with the status of the audit.
-fn main(rt: HostRuntime) -> ExitCode {
+/// Audits a site by what the process is given, and gives the status of the audit, with which the process has to end.
+pub fn run(rt: HostRuntime) -> ExitCode {
     let ProcessInput { arguments, env } = match process_input(&rt) {
         Ok(given) => given,
         Err(fault) => return refused(&rt, &fault),

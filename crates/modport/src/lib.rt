@@ -1,6 +1,6 @@
 //! The program `modport FILE`, `--stdin` or `FROM TO`: translates modulefiles into the profile (modport(1)).
 //! Touches its arguments and the standard streams, reads files and directories, and writes new ones.
-//! Nothing stands above it; it has no clause, so it has little code.
+//! It is one of the names of the program `module`; it has no clause, so it has little code.
 #![tactic(auto)]
 
 mod arguments;
@@ -64,7 +64,8 @@ fn port(rt: &HostRuntime) -> Result<Status, PortFault> {
     }
 }
 
-fn main(rt: HostRuntime) -> ExitCode {
+/// Translates what the process's arguments name, and gives the status, with which the process has to end.
+pub fn run(rt: HostRuntime) -> ExitCode {
     match port(&rt) {
         Ok(status) => ExitCode::from(status.number()),
         Err(fault) => {
