@@ -2,6 +2,7 @@
 pub mod Mentions
 pub mod Written
 pub mod Descriptions
+pub mod Readable
 pub mod Helps
 -- for this crate's own contracts alone
 pub mod Views

@@ -7,16 +7,16 @@ use Rattle.modules.specs.Messages.{message_of}
 use Rattle.modules.specs.declared.done.RequestResults.{RequestResults}
 use Rattle.modules.specs.declared.sessions.Outcome.{Outcome}
 use Rattle.modules.specs.declared.sessions.Outcome.TheVariants.{Accepted, Refused}
-use Rattle.descriptions.specs.Mentions.{in_small_letters, stands_in}
+use Rattle.descriptions.specs.Mentions.{in_small_letters, is_mentioned}
 
 -- what `whatis NAME` writes: the messages of the file, and then the report
 abbrev pub written : RequestResults → Text
 written done = flat_map (λ message. message) (texts_in done.messages) ++ string_bytes done.report
 
--- A text that is sought, given in small letters, stands in the report; without one every report is wanted.
+-- A text that is sought, given in small letters, is mentioned in the report; without one every report is wanted.
 abbrev pub is_wanted : Option Text → Text → Bool
 is_wanted None report = true
-is_wanted (Some small) report = stands_in small (in_small_letters report)
+is_wanted (Some small) report = is_mentioned small (in_small_letters report)
 
 -- what is shown of an outcome: of an accepted one what is written, where its report is wanted
 abbrev pub shown : Option Text → Outcome → Text

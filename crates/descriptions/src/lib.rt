@@ -7,7 +7,9 @@ mod describing;
 mod helping;
 mod left_out;
 mod mentions;
+mod readable;
 mod written;
 
 pub use describing::{Description, describe};
 pub use helping::{HelpText, help};
+pub use readable::describe_readable;

@@ -1,3 +1,4 @@
 pub mod PartLemmas
 pub mod ListLemmas
 pub mod FaultLemmas
+pub mod HiddenLemmas

@@ -1,28 +1,42 @@
--- The report of `avail` over a tree (module(1)).
-use Rattle.std.specs.Prelude.{◌≡◌, List, Option, Ok}
+-- The report of `avail` over a tree (module(1)): what can't be read is left out, and named.
+use Rattle.std.specs.Prelude.{◌≡◌, ◌⊎◌, ◌<◌, ◌≤◌, ℕ, List, [], length, Option, Ok}
 use Rattle.message.specs.Messages.{Text}
 use Rattle.envvars.specs.Environment.{Environment}
-use Rattle.filetree.specs.Agreement.{Files, Listings}
+use Rattle.filetree.specs.Agreement.{Files, Listings, InEachPair}
+use Rattle.hidingtree.specs.Hidden.{without}
 use Rattle.search.specs.DefaultFiles.{DefaultFileResult}
 use Rattle.search.specs.Listed.{Listing, Listed}
 use Rattle.requests.specs.Steps.{modulepath}
 use Rattle.listings.specs.Chosen.{chosen}
 use Rattle.listings.specs.Options.{Words, avail_words, no_options}
-use Rattle.listings.specs.Reports.{loaded_or_none, modules_text}
+use Rattle.listings.specs.Reports.{available_text, loaded_or_none}
 use Rattle.listings.specs.Texts.{searched_texts}
 use Rattle.listings.specs.declared.terminal.Terminal.{Terminal}
 
--- The text is the report of `avail` with these options and texts: it names what they mean of the modules along
--- MODULEPATH.
-abbrev pub ReportsModules : (Text → Text → Option DefaultFileResult → Type 0) → Files → Listings → Option Terminal
-    → Environment → Words → Text → Type 0
-ReportsModules results files folders terminal e words text = (listings : List Listing)
-    × Listed results files folders (searched_texts words.0 words.1) (modulepath e) listings
-    × (text ≡ modules_text terminal words.0.lines (loaded_or_none e) (chosen words.0 words.1 listings))
+-- the modules along a MODULEPATH that texts select, of what stands elsewhere than at these paths
+abbrev pub ListedWithout : (Text → Text → Option DefaultFileResult → Type 0) → List Text → Files → Listings → List Text
+    → Text → List Listing → Type 0
+ListedWithout results paths files folders texts modulepath listings =
+    Listed results (without paths files) (without paths folders) texts modulepath listings
 
--- The same with the options and texts that these words are.
-abbrev pub ReportsAvailable : (Text → Text → Option DefaultFileResult → Type 0) → Files → Listings → Option Terminal
-    → Environment → List Text → Text → Type 0
-ReportsAvailable results files folders terminal e given text =
-    (words : Words) × (avail_words no_options given ≡ Ok words)
-    × ReportsModules results files folders terminal e words text
+-- The text is the report of `avail` with these options and texts: it names what they mean of the modules along
+-- MODULEPATH that stand elsewhere than at these paths, and then the paths.
+abbrev pub ReportsModules : (Text → Text → Option DefaultFileResult → Type 0) → List Text → Files → Listings
+    → Option Terminal → Environment → Words → Text → Type 0
+ReportsModules results paths files folders terminal e words text = (listings : List Listing)
+    × ListedWithout results paths files folders (searched_texts words.0 words.1) (modulepath e) listings
+    × (text ≡ available_text terminal words.0.lines (loaded_or_none e) (chosen words.0 words.1 listings) paths)
+
+-- The text is this with the options and texts that the given words are, in each pair of maps that agrees. The numbers
+-- are those of the device's failures before and after: in between it has failed where there are such paths, and these
+-- are no more than its failures.
+pub record ReportsAvailable (results : Text → Text → Option DefaultFileResult → Type 0)
+    (agrees : Files → Listings → Type 0) (before now : ℕ) (terminal : Option Terminal) (e : Environment)
+    (given : List Text) (text : Text) : Type 0 where
+  pub words : Words
+  pub meaning : avail_words no_options given ≡ Ok words
+  pub unreadable : List Text
+  pub cause : (unreadable ≡ []) ⊎ (before < now)
+  pub counted : length unreadable ≤ now
+  pub reports : InEachPair agrees (λ files folders.
+      ReportsModules results unreadable files folders terminal e words text)

@@ -1,7 +1,8 @@
 -- Whether the search finds a module for one of some names (module(1), is-avail).
-use Rattle.std.specs.Prelude.{◌≡◌, ◌⊎◌, Bool, true, false, List, [], ◌∷◌, Option, Ok, Err}
+use Rattle.std.specs.Prelude.{◌≡◌, ◌⊎◌, ◌<◌, ◌≤◌, ℕ, Bool, true, false, List, [], ◌∷◌, length, Option, Ok, Err}
 use Rattle.message.specs.Messages.{Text}
-use Rattle.filetree.specs.Agreement.{Files, Listings}
+use Rattle.filetree.specs.Agreement.{Files, Listings, InEachPair}
+use Rattle.hidingtree.specs.Hidden.{without}
 use Rattle.search.specs.DefaultFiles.{DefaultFileResult}
 use Rattle.search.specs.Looked.{LooksAt}
 use Rattle.search.specs.Reasons.{FindReason}
@@ -31,3 +32,16 @@ SearchesLookAt results files folders modulepath (name ∷ names) at =
     LooksAt results files folders modulepath name at
     ⊎ (IsFound results files folders modulepath name false
     × SearchesLookAt results files folders modulepath names at)
+
+-- A module is found for one of the names, or for none, elsewhere than at some paths, in each pair of maps that agrees.
+-- There are such paths only where one is found. The numbers are those of the device's failures before and after: in
+-- between it has failed where there are such paths, and these are no more than its failures.
+pub record FindsReadable (results : Text → Text → Option DefaultFileResult → Type 0)
+    (agrees : Files → Listings → Type 0) (before now : ℕ) (modulepath : Text) (names : List Text) (answer : Bool)
+    : Type 0 where
+  pub unreadable : List Text
+  pub found : (unreadable ≡ []) ⊎ (answer ≡ true)
+  pub cause : (unreadable ≡ []) ⊎ (before < now)
+  pub counted : length unreadable ≤ now
+  pub finds : InEachPair agrees (λ files folders.
+      IsOneFound results (without unreadable files) (without unreadable folders) modulepath names answer)

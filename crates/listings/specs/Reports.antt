@@ -104,6 +104,16 @@ modules_text None in_lines loaded listings = avail_text listings
 modules_text (Some terminal) in_lines loaded listings =
     shown_report terminal in_lines (map (part_of loaded) listings)
 
+-- the line of a path that can't be read
+abbrev pub unreadable_line : Option Terminal → Text → Text
+unreadable_line None path = line_of (path ++ codes ": not readable")
+unreadable_line (Some terminal) path = shown_line (path ++ codes ": not readable")
+
+-- the report of `avail`: the modules, and then the paths that can't be read
+abbrev pub available_text : Option Terminal → Bool → List Entry → List Listing → List Text → Text
+available_text terminal in_lines loaded listings unreadable =
+    modules_text terminal in_lines loaded listings ++ flat_map (unreadable_line terminal) unreadable
+
 -- ---- list
 
 -- what is said where no name is reported, of the names of all loaded modules

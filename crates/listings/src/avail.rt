@@ -1,7 +1,6 @@
 //! `avail`: the modules that can be loaded.
-ghost use Rattle.std.specs.Prelude.{◌≡◌, ◌<◌, map, Err, IfErr, IfOk, string_bytes};
+ghost use Rattle.std.specs.Prelude.{◌≡◌, ◌<◌, ◌≤◌, ◌++◌, flat_map, map, Err, IfErr, IfOk, OnOk, string_bytes};
 ghost use Rattle.envloaded.specs.LoadedEntries.{entry_view};
-ghost use Rattle.filetree.specs.Agreement.{InEachPair, Narrows};
 ghost use Rattle.filetree.specs.Causes.{Applies};
 ghost use Rattle.search.specs.Listings.{listing_view};
 ghost use Rattle.search.specs.ListingEntries.{listing_entry_view};
@@ -17,14 +16,16 @@ use crate::chosen::chosen;
 use crate::fault::ListingFault;
 use crate::finding::modulepath;
 use crate::options::{Options, avail_words};
-use crate::terminal::{ReportPart, ReportedName, Terminal, shown_report};
+use crate::readable::readable_modules;
+use crate::terminal::{ReportPart, ReportedName, Terminal, push_shown_line, shown_report};
 use crate::texts::are_beginnings;
 use envloaded::{Loaded, loaded_if_consistent};
 use envvars::Env;
 use filetree::Tree;
+use hidingtree::HidingTree;
 use lookup::EvaluatedDefaultFiles;
 use requests::avail_report as plain_report;
-use search::{DirectoryListing, ListingEntry, path_of, selected};
+use search::{DirectoryListing, ListingEntry, path_of};
 use std::alloc::{AllocError, Global};
 use tclrules::Limits;
 
@@ -132,6 +133,43 @@ fn modules_text(
     shown_report(alloc, terminal, in_lines, &parts)
 }
 
+/// Adds the line of a path that can't be read.
+fn push_unreadable(
+    alloc: Global,
+    report: &mut String,
+    terminal: Option<Terminal>,
+    path: &str,
+) -> Result<(), AllocError>
+    ensures { OnOk result (string_bytes report.new ≡ string_bytes report.old
+        ++ spec.unreadable_line terminal path.now) }
+{
+    let mut line = String::from_str(alloc, path)?;
+    line.push_str(": not readable")?;
+    match terminal {
+        Some(_) => push_shown_line(alloc, report, &line),
+        None => {
+            report.push_str(&line)?;
+            report.push('\n')
+        }
+    }
+}
+
+/// Adds a line of each path that can't be read.
+fn push_all_unreadable(
+    alloc: Global,
+    report: &mut String,
+    terminal: Option<Terminal>,
+    paths: &[String],
+) -> Result<(), AllocError>
+    ensures { OnOk result (string_bytes report.new ≡ string_bytes report.old
+        ++ flat_map (spec.unreadable_line terminal) (map string_bytes paths.now)) }
+{
+    for path in paths {
+        push_unreadable(alloc, report, terminal, path)?;
+    }
+    Ok(())
+}
+
 /// The texts by which a search selects: none, which selects all, where they aren't beginnings letter by letter.
 fn searched_texts(options: Options, texts: &[String]) -> &[String]
     ensures { map string_bytes result.now ≡ searched_texts options (map string_bytes texts.entry.now) }
@@ -140,30 +178,33 @@ fn searched_texts(options: Options, texts: &[String]) -> &[String]
 }
 
 /// The report of `avail` with these words: options, and then texts with one of which names begin, or which they have in
-/// them, where an option asks so. Without a terminal the modules are reported as by `modulecmd`; on one, loaded modules
-/// are marked too, names stand in columns, or one a line where an option asks so, and no character of them steers it.
+/// them, where an option asks so. What can't be read is left out, and named behind the modules. Without a terminal the
+/// modules are reported as by `modulecmd`; on one, loaded modules are marked too, names stand in columns, or one a line
+/// where an option asks so, and no character of names and paths steers it.
 ///
-/// The errors: `NoAvailOption`, the words have another option; `Device`, only where the device failed in this call;
-/// `OutOfMemory`.
-pub fn avail_report<'a, T: Tree>(
+/// The errors: `NoAvailOption`, the words have another option; `Device`, only where the device failed in this call, at
+/// more than a thousand paths; `OutOfMemory`.
+pub fn avail_report<'a, T: Tree + Drop>(
     alloc: Global,
     env: &Env,
     words: &'a [String],
     terminal: Option<Terminal>,
-    tree: &mut T,
+    tree: &mut HidingTree<T>,
     limits: Limits,
 ) -> Result<String, ListingFault<'a>>
-    ensures narrows { Narrows (T.agrees tree.old) (T.agrees tree.new) }
-    ensures report { IfOk result (λ text. InEachPair (T.agrees tree.new) (λ files folders.
-        ReportsAvailable (HasResult limits) files folders terminal env.now (map string_bytes words.entry.now)
-        (string_bytes text))) }
-    ensures fault { IfErr result (λ e. Applies (cause_of e) (T.failures tree.old < T.failures tree.new) (λ reason.
-        words_spec.avail_words words_spec.no_options (map string_bytes words.entry.now) ≡ Err reason)) }
+    ensures counts { T.failures tree.old.tree ≤ T.failures tree.new.tree }
+    ensures report { IfOk result (λ text. ReportsAvailable (HasResult limits) (T.agrees tree.new.tree)
+        (T.failures tree.old.tree) (T.failures tree.new.tree) terminal env.now (map string_bytes words.entry.now)
+        (string_bytes text)) }
+    ensures fault { IfErr result (λ e. Applies (cause_of e) (T.failures tree.old.tree < T.failures tree.new.tree)
+        (λ reason. words_spec.avail_words words_spec.no_options (map string_bytes words.entry.now) ≡ Err reason)) }
 {
     let (options, texts) = avail_words(Options::none(), words)?;
     let default_files = EvaluatedDefaultFiles { limits };
     let searched = searched_texts(options, texts);
-    let listings = selected(alloc, tree, &default_files, searched, modulepath(env))?;
-    let listings = chosen(alloc, options, texts, &listings)?;
-    Ok(modules_text(alloc, env, terminal, options.lines, &listings)?)
+    let readable = readable_modules(alloc, tree, &default_files, searched, modulepath(env))?;
+    let listings = chosen(alloc, options, texts, &readable.listings)?;
+    let mut report = modules_text(alloc, env, terminal, options.lines, &listings)?;
+    push_all_unreadable(alloc, &mut report, terminal, &readable.unreadable)?;
+    Ok(report)
 }

@@ -1,7 +1,9 @@
 //! `is-avail`: whether the search finds a module.
-ghost use Rattle.std.specs.Prelude.{◌≡◌, ◌<◌, [], map, string_bytes, IfOk, IfErr};
+ghost use Rattle.std.specs.Prelude.{◌≡◌, ◌<◌, ◌≤◌, List, [], length, map, string_bytes, IfOk, IfErr};
+ghost use Rattle.message.specs.Messages.{Text};
 ghost use Rattle.filetree.specs.Agreement.{FailsWhere, InEachPair, ReadsOn};
 ghost use Rattle.filetree.specs.Causes.{Applies};
+ghost use Rattle.hidingtree.specs.Hidden.{without};
 ghost use Rattle.search.specs.Looked.{LooksAt};
 ghost use Rattle.lookup.specs.DefaultFileResults.{HasResult};
 ghost use Rattle.requests.specs.Steps.{modulepath};
@@ -11,6 +13,7 @@ ghost use Rattle.listings.specs.Finding as spec;
 use crate::fault::ListingFault;
 use envvars::{Env, Vars};
 use filetree::Tree;
+use hidingtree::{HidingTree, MOST_HIDDEN};
 use lookup::locate;
 use search::FindFault;
 use std::alloc::Global;
@@ -101,4 +104,65 @@ pub fn is_available<T: Tree>(
         return Err(ListingFault::BadArguments);
     }
     is_one_found(alloc, tree, modulepath(env), names, limits)
+}
+
+/// Whether the search finds a module for one of the names where something can't be read: again and again, each time
+/// without what couldn't be read the time before.
+fn is_one_found_without<T: Tree + Drop>(
+    alloc: Global,
+    tree: &mut HidingTree<T>,
+    modulepath: &str,
+    names: &[String],
+    limits: Limits,
+) -> Result<bool, ListingFault<'static>>
+    ensures counts { T.failures tree.old.tree ≤ T.failures tree.new.tree }
+    ensures answer { IfOk result (λ found. (paths : List Text) × (length paths ≤ T.failures tree.new.tree)
+        × InEachPair (T.agrees tree.new.tree) (λ files folders.
+        spec.IsOneFound (HasResult limits) (without paths files) (without paths folders) modulepath.now
+        (map string_bytes names.now) found)) }
+    ensures fault { IfErr result (λ e. Applies (cause_of e) (Unit {0}) (λ reason. ⊥)) }
+{
+    for _ in 0..MOST_HIDDEN {
+        match is_one_found(alloc, tree, modulepath, names, limits) {
+            Err(ListingFault::Device) => {
+                if !tree.hide_failed()? {
+                    return Err(ListingFault::OutOfMemory);
+                }
+            }
+            answer => return answer,
+        }
+    }
+    Err(ListingFault::Device)
+}
+
+/// As `is_available`, but a module that is found without what can't be read counts too.
+///
+/// The errors: `BadArguments`, exactly where there is no name; `Device`, only where the device failed in this call and
+/// no module is found in what can be read; `OutOfMemory`.
+pub fn is_available_where_readable<T: Tree + Drop>(
+    alloc: Global,
+    env: &Env,
+    names: &[String],
+    tree: &mut HidingTree<T>,
+    limits: Limits,
+) -> Result<bool, ListingFault<'static>>
+    ensures answer { IfOk result (λ found. spec.FindsReadable (HasResult limits) (T.agrees tree.new.tree)
+        (T.failures tree.old.tree) (T.failures tree.new.tree) (modulepath env.now) (map string_bytes names.now) found) }
+    ensures named { IfOk result (λ found. names.now ≡ [] → ⊥) }
+    ensures fault { IfErr result (λ e. Applies (cause_of e) (T.failures tree.old.tree < T.failures tree.new.tree)
+        (λ reason. (reason ≡ bad_arguments) × (names.now ≡ []))) }
+{
+    if names.is_empty() {
+        return Err(ListingFault::BadArguments);
+    }
+    match is_available(alloc, env, names, &mut tree.tree, limits) {
+        Err(ListingFault::Device) => {
+            if is_one_found_without(alloc, tree, modulepath(env), names, limits)? {
+                Ok(true)
+            } else {
+                Err(ListingFault::Device)
+            }
+        }
+        answer => answer,
+    }
 }

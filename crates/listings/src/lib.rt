@@ -8,11 +8,12 @@ mod fault;
 mod finding;
 mod list;
 mod options;
+mod readable;
 mod terminal;
 mod texts;
 
 pub use avail::avail_report;
 pub use fault::ListingFault;
-pub use finding::is_available;
+pub use finding::{is_available, is_available_where_readable};
 pub use list::loaded_report;
 pub use terminal::Terminal;

@@ -90,7 +90,11 @@ fn cells_of(
 }
 
 /// Adds a line of a text as a terminal shows it.
-fn push_shown_line(alloc: Global, report: &mut String, text: &str) -> Result<(), AllocError>
+pub(crate) fn push_shown_line(
+    alloc: Global,
+    report: &mut String,
+    text: &str,
+) -> Result<(), AllocError>
     ensures { OnOk result (string_bytes report.new ≡ string_bytes report.old ++ spec.shown_line text.now) }
 {
     report.push_str(&shown(alloc, text)?)?;

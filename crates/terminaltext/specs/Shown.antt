@@ -30,3 +30,14 @@ shown_char c = if steers c then 63 ∷ [] else encode_utf8 c
 -- what is shown of a text
 abbrev pub shown : Text → Text
 shown text = flat_map shown_char (chars text)
+
+-- the character is a tab or the end of a line, which lay out a text of several lines
+abbrev pub lays_out : ℕ → Bool
+lays_out c = (c == 9) || (c == 10)
+
+-- what is shown of a character of such a text, and of the text
+abbrev pub shown_in_lines : ℕ → Text
+shown_in_lines c = if lays_out c then c ∷ [] else shown_char c
+
+abbrev pub shown_lines : Text → Text
+shown_lines text = flat_map shown_in_lines (chars text)

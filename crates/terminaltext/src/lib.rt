@@ -5,5 +5,5 @@
 mod showing;
 mod table;
 
-pub use showing::{shown, steers};
+pub use showing::{shown, shown_lines, steers};
 pub use table::{Cell, push_table};

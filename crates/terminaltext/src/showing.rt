@@ -1,6 +1,7 @@
 //! Texts without the characters that steer a terminal.
 ghost use Rattle.std.specs.Prelude.{◌≡◌, ◌++◌, IfOk, OnOk, string_bytes};
-ghost use Rattle.terminaltext.specs.Shown.{is_control, is_mark, shown, shown_char, steers};
+ghost use Rattle.terminaltext.specs.Shown.{is_control, is_mark, lays_out, shown, shown_char, shown_in_lines};
+ghost use Rattle.terminaltext.specs.Shown.{shown_lines, steers};
 
 use std::alloc::{AllocError, Global};
 
@@ -46,6 +47,37 @@ pub fn shown(alloc: Global, text: &str) -> Result<String, AllocError>
     let mut seen = String::with_capacity(alloc, text.len())?;
     for c in text.chars() {
         push_shown(&mut seen, c)?;
+    }
+    Ok(seen)
+}
+
+/// Whether the character lays out a text of several lines: it is a tab, or the end of a line.
+fn lays_out(c: char) -> bool
+    ensures { result ≡ lays_out c }
+{
+    c == '\t' || c == '\n'
+}
+
+/// Adds what a terminal shows of a character in a text of several lines.
+fn push_in_lines(text: &mut String, c: char) -> Result<(), AllocError>
+    ensures { OnOk result (string_bytes text.new ≡ string_bytes text.old ++ shown_in_lines c) }
+{
+    if lays_out(c) {
+        text.push(c)
+    } else {
+        push_shown(text, c)
+    }
+}
+
+/// What a terminal shows of a text of several lines: as `shown`, but tabs and the ends of lines stay.
+///
+/// It fails for want of memory alone.
+pub fn shown_lines(alloc: Global, text: &str) -> Result<String, AllocError>
+    ensures { IfOk result (λ t. string_bytes t ≡ shown_lines text.now) }
+{
+    let mut seen = String::with_capacity(alloc, text.len())?;
+    for c in text.chars() {
+        push_in_lines(&mut seen, c)?;
     }
     Ok(seen)
 }

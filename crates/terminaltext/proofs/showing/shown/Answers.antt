@@ -1,6 +1,7 @@
 use Rattle.std.proofs.Common.{◌≡◌, ◌++◌, encode_utf8, string_bytes}
 use Rattle.std.specs.Str.Iter.{chars_rest}
 use Rattle.std.proofs.lemmas.Str.{IsUtf8-past_char}
+use Rattle.terminaltext.specs.Shown.{shown_char}
 use Rattle.terminaltext.proofs.ShownLemmas.{shown_turn, shown_end}
 use Rattle.terminaltext.proofs.showing.shown.Goals as goal
 
@@ -11,9 +12,9 @@ loop-c-preserved c =
     let next : before ≡ encode_utf8 c.in-Some.c ++ after = c.in-Some.ensures.steps.0 in
     record {
       utf8 = IsUtf8-past_char before after c.in-Some.c c.loop-c.invariant.utf8 next;
-      written = shown_turn (string_bytes c.loop-c.seen) (string_bytes c.push_shown.new.text) _ before after c.in-Some.c c.loop-c.invariant.utf8 next c.in_ok-push_shown.ensures c.loop-c.invariant.written;
+      written = shown_turn shown_char (string_bytes c.loop-c.seen) (string_bytes c.push_shown.new.text) _ before after c.in-Some.c c.loop-c.invariant.utf8 next c.in_ok-push_shown.ensures c.loop-c.invariant.written;
     }
 
 pub returns : goal.returns
 returns c =
-    shown_end (string_bytes c.loop-c.seen) _ (chars_rest c.loop-c.c-iterator) c.in-None.ensures.steps.0.0 c.loop-c.invariant.written
+    shown_end shown_char (string_bytes c.loop-c.seen) _ (chars_rest c.loop-c.c-iterator) c.in-None.ensures.steps.0.0 c.loop-c.invariant.written

@@ -1,0 +1,2 @@
+-- The definition of a tree without what stands at some paths (own).
+pub mod Hidden

@@ -1,0 +1,15 @@
+use Rattle.std.proofs.Common.{List, map, String, Global, string_bytes, arith}
+use Rattle.std.proofs.lemmas.List.{length-map}
+use Rattle.message.specs.Messages.{Text}
+use Rattle.lookup.specs.DefaultFileResults.{HasResult}
+use Rattle.listings.specs.Finding.{IsOneFound}
+use Rattle.listings.proofs.HiddenLemmas.{found_without}
+use Rattle.listings.proofs.finding.is_one_found_without.Goals as goal
+
+pub returns-in_default-2-clause-answer : goal.returns-in_default-2-clause-answer
+returns-in_default-2-clause-answer g c =
+    let tree = c.is_one_found.new.tree in
+    let texts : List (String Global) → List Text = λ l. map (λ (s : String Global). string_bytes s) l in
+    found_without c.is_one_found.result (texts tree.hidden.items) (g.T.Tree.failures tree.tree) (g.T.Tree.agrees tree.tree)
+    (λ files folders found. IsOneFound (HasResult c.args.limits) files folders c.args.modulepath.now (texts c.args.names.now) found)
+    (omega (arith, length-map tree.hidden.items (λ (s : String Global). string_bytes s), tree.counted)) c.is_one_found.ensures.answer
