@@ -13,6 +13,7 @@ import json
 import os
 import pathlib
 import re
+import shutil
 import subprocess
 
 import pytest
@@ -33,7 +34,7 @@ TOOLS = (
 OWN = re.compile(rb"LOADEDMODULES|_LMFILES_|__MODULES_.*|MODULEPATH|SHLVL")
 
 NEED = re.compile(rb"(?m)^\s*prereq (\S+)")
-SAID = re.compile(r"(\d+: )(translated|left out)(: .*)")
+SAID = re.compile(r"(\d+: )(translated|computed|left out)(: .*)")
 
 
 @pytest.fixture(scope="session")
@@ -78,7 +79,10 @@ def test_translated_twice(folder, row):
 
 def test_refused(folder):
     """Nothing is written where the modulefile isn't there, isn't a script or isn't named."""
-    usage = "Usage: modport [--json] FILE | --stdin | [--one-version] --check FROM | [--one-version] FROM TO"
+    usage = (
+        "Usage: modport [--json] [--host NAME=VALUE]... FILE | --stdin | [--one-version] --check FROM | "
+        "[--one-version] FROM TO"
+    )
     os.mkfifo(folder.at("fifo"))
     for words, given, said in (
         (["nothing"], b"", "No such file"),
@@ -92,6 +96,11 @@ def test_refused(folder):
         (["--check"], b"", usage),
         (["--one-version", "--stdin"], b"", usage),
         (["--one-version", "a"], b"", usage),
+        (["--host", "machine", "a"], b"", usage),
+        (["--host", "machine=", "a"], b"", usage),
+        (["--host", "processor=x", "a"], b"", usage),
+        (["--host", "machine=x", "--host", "machine=x", "a"], b"", usage),
+        (["a", "--host"], b"", usage),
     ):
         done = folder.run(*words, given=given)
         same((done.stdout, done.stderr.decode(), done.returncode), (b"", f"ERROR: {said}\n", 2), f"of {words}")
@@ -108,9 +117,10 @@ COMING = (
 
 
 @pytest.mark.parametrize("given, said", [it[1:] for it in COMING], ids=[it[0] for it in COMING])
-def test_files_as_they_come(folder, given, said):
-    path = os.fsdecode(folder.file("m", given))
-    done = folder.run(path)
+@pytest.mark.parametrize("source", ["FILE", "--stdin"])
+def test_files_as_they_come(folder, source, given, said):
+    path = source if source == "--stdin" else os.fsdecode(folder.file("m", given))
+    done = folder.run(path, given=given)
     same(done.stdout.decode(), "#%Module\nsetenv X café\n", "what is written")
     same(done.stderr.decode(), "".join(f"{path}:1: translated: {it}\n" for it in said), "what is said")
     same(done.returncode, 0, "status")
@@ -120,6 +130,84 @@ def test_a_lone_carriage_return_stays(folder):
     given = b"#%Module\nputs stderr {a\rb\r}\r"
     done = folder.run("--stdin", given=given)
     same((done.stdout, done.stderr, done.returncode), (given, b"", 0), "what is written")
+
+
+# What is computed.
+
+# Words of `file join`, `file tail` and `file dirname`, of which Tcl says what they are.
+NAMES = (
+    *("/", "//", "a", "/a", "a/", "/a/b", "/a//b/", "a//b", "./a", "../a", "a/..", ".", "..", "a.b/c-d", "///a///"),
+    *("/opt/x86_64/lib64", "A+B", "a,b/c:d", "#a/#b", "%a/@b", "*/?"),
+)
+JOINED = ("/ a", "/a/ b/", "a b//c", "a ../b", "//a b", "/a b c d", "/x//y z//w/ v", ". a", "# a")
+
+
+@pytest.mark.parametrize("what", [*(f"{it} {name}" for it in ("join", "tail", "dirname") for name in NAMES),
+                                  *(f"join {names}" for names in JOINED)])  # fmt: skip
+def test_names_of_files_beside_tcl(folder, what):
+    """What is written for a command is a word that Tcl reads as its result."""
+    if not shutil.which("tclsh"):
+        pytest.skip("Tcl isn't there")
+    command = f"[file {what}]"
+    done = folder.run("--stdin", given=text([f"puts stdout {command}"]).encode())
+    true(b"file" not in done.stdout, f"{command} is computed")
+    script = f"puts stdout {command}\n".encode() + done.stdout
+    tcl = subprocess.run(["tclsh"], input=script, capture_output=True, timeout=SECONDS, check=True)
+    result, written = tcl.stdout.decode().splitlines()
+    same(written, result, f"what is written for {command}")
+
+
+HOST = ("sysname=Linux", "nodename=n1.cluster", "domain=cluster", "release=5.14.0", "version=#1 SMP", "machine=aarch64")
+
+
+def test_host(folder):
+    """What is said of the host is written where the file asks for it."""
+    given = text(
+        [
+            "setenv A [uname machine]/[uname sysname]",
+            'puts stderr "on [info hostname], of [uname nodename] and [uname node]"',
+            "set v [uname version]",
+            "setenv B $tcl_platform(machine)-$::tcl_platform(os)-$tcl_platform(osVersion).[uname domain]",
+            "setenv C $tcl_platform(user)",
+            "setenv D [uname processor]",
+            "if {[uname machine] eq {x86_64}} { setenv E 1 }",
+        ]
+    )
+    written = text(
+        [
+            "setenv A aarch64/Linux",
+            'puts stderr "on n1.cluster, of n1.cluster and n1.cluster"',
+            "set v {#1 SMP}",
+            "setenv B aarch64-Linux-5.14.0.cluster",
+            "setenv C $tcl_platform(user)",
+            "setenv D [uname processor]",
+            "if {[uname machine] eq {x86_64}} { setenv E 1 }",
+        ]
+    )
+    words = [word for it in HOST for word in ("--host", it)]
+    done = folder.run(*words, "--stdin", given=given.encode())
+    same(done.stdout.decode(), written, "what is written")
+    said = [
+        "2: computed: [uname machine]: aarch64", "2: computed: [uname sysname]: Linux",
+        "3: computed: [info hostname]: n1.cluster", "3: computed: [uname nodename]: n1.cluster",
+        "3: computed: [uname node]: n1.cluster", "4: computed: [uname version]: {#1 SMP}",
+        "5: computed: $tcl_platform(machine): aarch64", "5: computed: $::tcl_platform(os): Linux",
+        "5: computed: $tcl_platform(osVersion): 5.14.0", "5: computed: [uname domain]: cluster",
+        "7: left out: uname", "8: left out: uname",
+    ]  # fmt: skip
+    same(done.stderr.decode().splitlines(), [f"--stdin:{it}" for it in said], "what is said")
+    same(done.returncode, 1, "status")
+
+
+def test_computed_in_json(folder):
+    path = os.fsdecode(folder.file("m", COOKIE + "\nsetenv A [file join /a \\\n  b]\n"))
+    done = folder.run("--json", path)
+    same(
+        [json.loads(line) for line in done.stderr.decode().splitlines()],
+        [{"file": path, "line": 3, "what": "[file join /a \\", "why": "computed", "text": "/a/b"}],
+        "the report",
+    )
+    same(done.stdout.decode(), COOKIE + "\nsetenv A /a/b\n", "what is written")
 
 
 # Trees.

@@ -1,6 +1,7 @@
 //! What the words of a command line ask for.
 
 use crate::fault::PortFault;
+use crate::host::Host;
 use std::alloc::Global;
 
 /// What is translated, and where it is written.
@@ -34,6 +35,8 @@ pub(crate) struct Wanted {
     pub job: Job,
     /// Whether each line of the report is JSON.
     pub json: bool,
+    /// What is said of the host that the modulefiles are for.
+    pub host: Host,
 }
 
 /// Which options stand before the paths.
@@ -44,6 +47,8 @@ struct Options {
     check: bool,
     json: bool,
     one_version: bool,
+    /// Whether the last word was `--host`, behind which one stands that says something of the host.
+    of_host: bool,
     /// Whether a word was `--`, behind which no word is an option.
     ended: bool,
 }
@@ -62,14 +67,30 @@ impl Options {
             "--check" => self.check = true,
             "--json" => self.json = true,
             "--one-version" => self.one_version = true,
+            "--host" => self.of_host = true,
             "--" => self.ended = true,
             _ => return Err(PortFault::Usage),
         }
         Ok(true)
     }
 
+    /// Whether the word is one that says something of the host, to which it is added.
+    ///
+    /// The errors: want of memory; it says nothing.
+    fn describes(&mut self, alloc: Global, host: &mut Host, word: &str) -> Result<bool, PortFault> {
+        if !self.of_host {
+            return Ok(false);
+        }
+        self.of_host = false;
+        host.add(alloc, word)?;
+        Ok(true)
+    }
+
     /// What is asked for, with these paths.
     fn job(self, mut paths: Vec<String>) -> Result<Job, PortFault> {
+        if self.of_host {
+            return Err(PortFault::Usage);
+        }
         if self.help {
             return Ok(Job::Help);
         }
@@ -108,11 +129,13 @@ pub(crate) fn asked_for(alloc: Global, words: Vec<String>) -> Result<Wanted, Por
         check: false,
         json: false,
         one_version: false,
+        of_host: false,
         ended: false,
     };
+    let mut host = Host::new(alloc);
     let mut paths = Vec::new(alloc);
     for word in words {
-        if !options.take(word.as_str())? {
+        if !options.describes(alloc, &mut host, word.as_str())? && !options.take(word.as_str())? {
             paths.push(word)?;
         }
     }
@@ -120,5 +143,6 @@ pub(crate) fn asked_for(alloc: Global, words: Vec<String>) -> Result<Wanted, Por
     Ok(Wanted {
         job,
         json: options.json,
+        host,
     })
 }

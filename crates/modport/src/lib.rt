@@ -5,6 +5,7 @@
 
 mod arguments;
 mod fault;
+mod host;
 mod left_out;
 mod porting;
 mod reporting;
@@ -15,22 +16,22 @@ mod walk;
 use arguments::{Job, Wanted, asked_for};
 use fault::{PortFault, USAGE};
 use filetext::file_text;
-use porting::{Ported, port_file};
-use processinput::{arguments as words_of, read_input};
+use porting::{Manner, Ported, port_file};
+use processinput::arguments as words_of;
 use status::Status;
 use std::io::Write;
 use std::process::ExitCode;
-use texts::read;
+use texts::{read, read_input};
 use walk::walk_tree;
 
 /// Writes the translation of a text to standard output, and the report to standard error, where the text has this path.
-fn print(rt: &HostRuntime, json: bool, path: &str, bytes: &[u8]) -> Result<Status, PortFault> {
+fn print(rt: &HostRuntime, manner: Manner, path: &str, bytes: &[u8]) -> Result<Status, PortFault> {
     let file = file_text(rt.alloc(), bytes)?;
     let Ported {
         text,
         report,
         status,
-    } = port_file(rt.alloc(), json, path, file, None)?;
+    } = port_file(rt.alloc(), manner, path, file, None)?;
     if rt.stdout().write_all(text.as_bytes()).is_err()
         || rt.stderr().write_all(report.as_slice()).is_err()
     {
@@ -49,18 +50,20 @@ fn help(rt: &HostRuntime) -> Result<Status, PortFault> {
 
 /// Does what the arguments ask for, and gives the status.
 fn port(rt: &HostRuntime) -> Result<Status, PortFault> {
-    let Wanted { job, json } = asked_for(rt.alloc(), words_of(rt)?)?;
+    let Wanted { job, json, host } = asked_for(rt.alloc(), words_of(rt)?)?;
+    let bindings = host.bindings(rt.alloc())?;
+    let manner = Manner {
+        json,
+        host: bindings.as_slice(),
+    };
     match job {
         Job::Help => help(rt),
-        Job::Stdin => {
-            let text = read_input(rt.alloc(), &mut rt.stdin())?;
-            print(rt, json, "--stdin", text.as_bytes())
-        }
+        Job::Stdin => print(rt, manner, "--stdin", read_input(rt)?.as_slice()),
         Job::File(path) => {
             let bytes = read(rt, path.as_str())?;
-            print(rt, json, path.as_str(), bytes.as_slice())
+            print(rt, manner, path.as_str(), bytes.as_slice())
         }
-        Job::Tree(walked) => walk_tree(rt, json, walked),
+        Job::Tree(walked) => walk_tree(rt, manner, walked),
     }
 }
 

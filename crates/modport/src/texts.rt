@@ -5,7 +5,7 @@ use filetext::{FileText, file_text};
 use std::alloc::{AllocError, Global};
 use std::fs;
 use std::fs::Metadata;
-use std::io::{ErrorKind, Write};
+use std::io::{ErrorKind, Read, Write};
 
 /// The first bytes of each modulefile (modulefile(5)).
 const COOKIE: &[u8] = b"#%Module";
@@ -50,6 +50,17 @@ pub(crate) fn read(rt: &HostRuntime, path: &str) -> Result<Vec<u8>, PortFault> {
     }
     match fs::read(rt, path) {
         Ok(bytes) => Ok(bytes),
+        Err(_) => Err(PortFault::Unreadable),
+    }
+}
+
+/// The bytes of standard input.
+///
+/// The error: it can't be read.
+pub(crate) fn read_input(rt: &HostRuntime) -> Result<Vec<u8>, PortFault> {
+    let mut bytes = Vec::new(rt.alloc());
+    match rt.stdin().read_to_end(&mut bytes) {
+        Ok(_) => Ok(bytes),
         Err(_) => Err(PortFault::Unreadable),
     }
 }

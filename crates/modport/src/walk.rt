@@ -2,7 +2,7 @@
 
 use crate::arguments::Walked;
 use crate::fault::PortFault;
-use crate::porting::port_file;
+use crate::porting::{Manner, port_file};
 use crate::reporting::{fault_line, file_line};
 use crate::status::Status;
 use crate::texts::{joined, kind_of, modulefile, read, write_new};
@@ -31,8 +31,8 @@ struct Folder {
 #[derive(Drop)]
 pub(crate) struct Walk<'r> {
     rt: &'r HostRuntime,
-    /// Whether each line of the report is JSON.
-    json: bool,
+    /// How files are translated.
+    manner: Manner<'r>,
     /// Whether each modulefile is to be in conflict with its own name.
     one_version: bool,
     /// How far what was read so far is within the profile.
@@ -95,7 +95,7 @@ impl<'r> Walk<'r> {
     /// Says what is left out of a path.
     fn leave(&mut self, path: &str, what: &str) -> Result<(), PortFault> {
         self.status = self.status.and(Status::Left);
-        self.say(file_line(self.rt.alloc(), self.json, path, "left out", what)?.as_slice())
+        self.say(file_line(self.rt.alloc(), self.manner.json, path, "left out", what)?.as_slice())
     }
 
     /// Goes on behind a fault at a path, which is said, unless memory ran out or the report can't be written.
@@ -125,13 +125,13 @@ impl<'r> Walk<'r> {
         let Some(file) = modulefile(alloc, read(self.rt, from)?.as_slice())? else {
             return self.say(file_line(
                 alloc,
-                self.json,
+                self.manner.json,
                 from,
                 "left out",
                 "no modulefile",
             )?.as_slice());
         };
-        let ported = port_file(alloc, self.json, from, file, name)?;
+        let ported = port_file(alloc, self.manner, from, file, name)?;
         if let Some(to) = to {
             write_new(self.rt, to, ported.text.as_bytes(), found)?;
         }
@@ -262,7 +262,11 @@ impl<'r> Walk<'r> {
 ///
 /// The errors: the directories can't be taken; memory ran out, or the report couldn't be written, in its midst. A fault
 /// at one path is said on standard error.
-pub(crate) fn walk_tree(rt: &HostRuntime, json: bool, walked: Walked) -> Result<Status, PortFault> {
+pub(crate) fn walk_tree<'r>(
+    rt: &'r HostRuntime,
+    manner: Manner<'r>,
+    walked: Walked,
+) -> Result<Status, PortFault> {
     let Walked {
         from,
         to,
@@ -274,7 +278,7 @@ pub(crate) fn walk_tree(rt: &HostRuntime, json: bool, walked: Walked) -> Result<
     }
     let mut walk = Walk {
         rt,
-        json,
+        manner,
         one_version,
         status: Status::Within,
         folders: Vec::new(rt.alloc()),

@@ -1,0 +1,131 @@
+//! A modulefile with the text of each word that Tcl computes from constants.
+ghost use Rattle.std.specs.Prelude.{◌≡◌, ◌-◌, [], length, map, take, drop, IfErr, IfOk};
+ghost use Rattle.tclscript.specs.Faults.{IsTextFault};
+ghost use Rattle.tclscript.specs.View.{command_view, script_view};
+ghost use Rattle.portforms.specs.Words.{commands_in};
+ghost use Rattle.computedwords.specs.Edits as spec;
+ghost use Rattle.computedwords.specs.Edits.{HasComputed};
+ghost use Rattle.computedwords.specs.Views.{bindings_view, edits_view};
+
+use crate::answers::{Binding, Facts};
+use crate::knowledge::known_behind;
+use crate::walking::{Edit, edits_of};
+use std::alloc::{AllocError, Global};
+use tclchars::TextFault;
+use tclscript::{Command, Script, parse_script};
+
+/// A modulefile with what is computed in it.
+#[derive(Debug, Drop)]
+pub struct Computed {
+    /// Its text.
+    pub text: Vec<u8>,
+    /// What is put, in the order of the places.
+    pub edits: Vec<Edit>,
+}
+
+/// The first bytes, as many as that or all, and the others.
+fn split_within(text: &[u8], length: usize) -> (&[u8], &[u8])
+    ensures first { result.0.now ≡ take length text.now }
+    ensures others { result.1.now ≡ drop length text.now }
+{
+    if length < text.len() {
+        text.split_at(length)
+    } else {
+        (text, &[])
+    }
+}
+
+/// What is put in commands of a text.
+fn edits_in(
+    alloc: Global,
+    host: &[Binding],
+    text: &[u8],
+    commands: &[Command<&str>],
+) -> Result<Vec<Edit>, AllocError>
+    ensures { IfOk result (λ edits. edits_view edits.items
+        ≡ spec.edits_from (bindings_view host.now) [] text.now
+        (map (command_view (λ piece. piece.now)) commands.now)) }
+{
+    let mut edits = Vec::new(alloc);
+    let mut known = Vec::new(alloc);
+    for command in commands {
+        let words = command.words.as_slice();
+        let (_, rest) = split_within(text, command.offset);
+        let facts = Facts {
+            host,
+            known: known.as_slice(),
+        };
+        let mut found = edits_of(alloc, &facts, words, rest)?;
+        edits.append(&mut found)?;
+        known = known_behind(alloc, known, words)?;
+    }
+    Ok(edits)
+}
+
+/// The bytes before as many of a text's end, and those from there on.
+fn split_before(text: &[u8], left: usize) -> (&[u8], &[u8])
+    ensures first { result.0.now ≡ take (length text.now - left) text.now }
+    ensures others { result.1.now ≡ drop (length text.now - left) text.now }
+{
+    split_within(text, text.len().saturating_sub(left))
+}
+
+/// The text with these edits.
+fn edited(alloc: Global, text: &[u8], edits: &[Edit]) -> Result<Vec<u8>, AllocError>
+    ensures { IfOk result (λ written. written.items ≡ spec.edited text.now (edits_view edits.now)) }
+{
+    let mut written = Vec::new(alloc);
+    let mut rest = text;
+    for edit in edits {
+        written.extend_from_slice(split_before(rest, edit.from).0)?;
+        written.extend_from_slice(edit.text.as_slice())?;
+        rest = split_before(rest, edit.to).1;
+    }
+    written.extend_from_slice(rest)?;
+    Ok(written)
+}
+
+/// What is put in a text of these commands, and the text with it.
+fn of_commands(
+    alloc: Global,
+    text: &[u8],
+    commands: &[Command<&str>],
+    host: &[Binding],
+) -> Result<Computed, AllocError>
+    ensures { IfOk result (λ c. spec.AreComputed (bindings_view host.now) text.now
+        (map (command_view (λ piece. piece.now)) commands.now) (edits_view c.edits.items) c.text.items) }
+{
+    let edits = edits_in(alloc, host, text, commands)?;
+    let text = edited(alloc, text, edits.as_slice())?;
+    Ok(Computed { text, edits })
+}
+
+/// What is put in a text that is this script, and the text with it.
+fn of_script(
+    alloc: Global,
+    text: &[u8],
+    script: &Script<&str>,
+    host: &[Binding],
+) -> Result<Computed, AllocError>
+    ensures { IfOk result (λ c. spec.AreComputed (bindings_view host.now) text.now
+        (commands_in (script_view (λ piece. piece.now) script.now)) (edits_view c.edits.items) c.text.items) }
+{
+    of_commands(alloc, text, script.commands.as_slice(), host)
+}
+
+/// A modulefile with the text of each word that Tcl computes from constants, from what is known of the host by the
+/// names that `uname` of modulefile(5) has, and from variables of the environment that it has set.
+///
+/// The error: it is no script, or memory ran out.
+pub fn compute(alloc: Global, text: &str, host: &[Binding]) -> Result<Computed, TextFault>
+    // What is put is what the definitions have for the script, and all other bytes stay.
+    ensures found { IfOk result (λ c. HasComputed (bindings_view host.now) text.now (edits_view c.edits.items)
+        c.text.items) }
+    ensures fault { IfErr result (IsTextFault text.now) }
+{
+    let script = parse_script(alloc, text)?;
+    match of_script(alloc, text.as_bytes(), &script, host) {
+        Ok(computed) => Ok(computed),
+        Err(_) => Err(TextFault::OutOfMemory),
+    }
+}

@@ -1,0 +1,14 @@
+//! Words that Tcl computes from constants: the text of each is written for it.
+//! Takes memory and touches nothing else.
+#![tactic(auto)]
+
+mod answers;
+mod computing;
+mod knowledge;
+mod paths;
+mod places;
+mod walking;
+
+pub use answers::Binding;
+pub use computing::{Computed, compute};
+pub use walking::Edit;
