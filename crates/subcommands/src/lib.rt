@@ -11,4 +11,5 @@ mod table;
 pub use fault::WordFault;
 pub use laws::words_mean;
 pub use meaning::subcommand_of;
+pub use nearness::differ_by_one;
 pub use table::Subcommand;

@@ -24,7 +24,7 @@ fn is_slip(word: &[u8], rest: &[u8], name: &[u8], others: &[u8]) -> bool
 
 /// Whether one byte is left out of the word, is too many in it or is another one, or two neighbours are exchanged, or
 /// they are equal.
-pub(crate) fn differ_by_one(word: &[u8], name: &[u8]) -> bool
+pub fn differ_by_one(word: &[u8], name: &[u8]) -> bool
     ensures { result ≡ spec.differ_by_one word.now name.now }
 {
     let [c, rest @ ..] = word else {

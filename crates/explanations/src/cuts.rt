@@ -1,0 +1,34 @@
+//! Texts that are cut: what stands from one offset up to another is made spaces, so that all else keeps its place.
+
+use std::alloc::{AllocError, Global};
+
+/// A byte that stands at an index, or a space in its place.
+fn byte_at(begin: usize, end: usize, index: usize, byte: u8) -> u8 {
+    if begin <= index && index < end {
+        b' '
+    } else {
+        byte
+    }
+}
+
+/// The text with a space for each byte from one offset up to another.
+pub(crate) fn blanked(
+    alloc: Global,
+    text: &[u8],
+    begin: usize,
+    end: usize,
+) -> Result<Vec<u8>, AllocError> {
+    text.iter()
+        .enumerate()
+        .map(|(index, byte)| byte_at(begin, end, index, *byte))
+        .collect(alloc)
+}
+
+/// The number of the line, from 1, in which the byte at this offset stands.
+pub(crate) fn line_of(text: &[u8], offset: usize) -> usize {
+    let before = match text.get(..offset) {
+        Some(before) => before,
+        None => text,
+    };
+    before.iter().filter(|byte| **byte == b'\n').count() + 1
+}
