@@ -16,13 +16,13 @@ import subprocess
 
 _PREFIX = "@prefix@"
 
-# The programs by the names of the subcommands that they do.
+# The programs by the names of the subcommands that they do. What `init/pager` and `_REPORTS` name has no text to read.
 _PROGRAMS = {
     "bin/modulecmd": "load add unload rm switch swap purge",
-    "libexec/module": "use unuse is-loaded is-avail save saverm restore reload",
-    "libexec/report": "help --help list avail show display whatis keyword apropos savelist saveshow",
-    "libexec/usage": "--version",
+    "libexec/module": "use unuse save saverm restore reload",
+    "init/pager": "list avail",
 }
+_REPORTS = "help --help --version show display whatis keyword apropos savelist saveshow is-loaded is-avail"
 
 # What loads and unloads; automated handling is of the first four.
 _MOVES = ["load", "add", "unload", "rm", "switch", "swap", "purge"]
@@ -59,10 +59,6 @@ def _run(program, *words):
 
 def _program(words):
     """The program that does what these words say, where the first is the name of a subcommand; else nothing."""
-    if words == ["use"]:
-        return "libexec/report"
-    if words in (["help"], ["--help"]):
-        return "libexec/usage"
     # Options, and automated handling, are the function's own.
     if words[0] in _MOVES[:4] and os.environ.get("MODULES_AUTO_HANDLING") == "1":
         return "libexec/module"
@@ -79,24 +75,28 @@ def module(*words):
     if words[0] in ("-t", "--terse"):
         # The option of a report can stand before its subcommand; alone it is that of `list`.
         words[:2] = [*(words[1:2] or ["list"]), "-t"]
-    program = _program(words)
-    if program is None:
+    if words[0] not in _REPORTS.split() and _program(words) is None:
         # Another name of a subcommand, or a beginning of names.
         name, status = _run("libexec/module", "sh", "subcommand", words[0])
         if status != 0:
             return False
         words[0] = name.decode().rstrip("\n")
-        program = _program(words) or "libexec/module"
     if words in (["load"], ["add"]):
         # There is nothing to load.
         return True
-    if program == "libexec/usage":
-        return subprocess.run([f"{_PREFIX}/{program}", words[0]], check=False).returncode == 0
-    if program == "libexec/report":
-        return subprocess.run([f"{_PREFIX}/{program}", "sh", *words], check=False).returncode == 0
+    program = _program(words) or "libexec/module"
+    if program == "init/pager" or words[0] in _REPORTS.split() or words == ["use"]:
+        asked = ["--version", "@version@"] if words[0] == "--version" else words
+        return subprocess.run([f"{_PREFIX}/{program}", "sh", *asked], check=False).returncode == 0
     text, status = _run(program, "sh", *words)
     if status != 0:
+        if program == "bin/modulecmd":
+            # Says where a modulefile failed, and what to do.
+            _run("libexec/module", "sh", "explain", *words)
         return False
+    if text == b"" and words[0] in ("unload", "rm"):
+        # Nothing was unloaded: a loaded module may have a longer name.
+        _run("libexec/module", "sh", "unloaded", *words[1:])
     # The whole text is read before anything is changed.
     for name, value in list(_changes(text)):
         if value is None:
@@ -118,6 +118,6 @@ def ml(*words):
 
 
 if "MODULEPATH" not in os.environ:
-    _directories, _ = _run("libexec/modulespath")
+    _directories, _ = _run("libexec/module", "sh", "modulespath", f"{_PREFIX}/etc/modulespath")
     if _directories:
         os.environb[b"MODULEPATH"] = _directories

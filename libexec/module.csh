@@ -18,13 +18,9 @@ if ( x$_module_words[2]:q == x-t || x$_module_words[2]:q == x--terse ) then
     set _module_words = ( $_module_words[1] $_module_words[3]:q -t $_module_words[4-]:q )
 endif
 switch ( x$_module_words[2]:q )
-case xhelp:
-case x--help:
-    set _module_way = report
-    if ( $#_module_words == 2 ) set _module_way = usage
-    breaksw
 case x--version:
-    set _module_way = usage
+    set _module_words = ( $_module_words[1] --version '@version@' )
+    set _module_way = run
     breaksw
 case xload:
 case xadd:
@@ -53,7 +49,7 @@ case xpurge:
     breaksw
 case xuse:
     set _module_way = libexec/module
-    if ( $#_module_words == 2 ) set _module_way = report
+    if ( $#_module_words == 2 ) set _module_way = run
     breaksw
 case xunuse:
 case xsave:
@@ -62,12 +58,15 @@ case xrestore:
 case xreload:
     set _module_way = libexec/module
     breaksw
-case xis-loaded:
-case xis-avail:
-    set _module_way = status
-    breaksw
 case xlist:
 case xavail:
+    # A long report is paged at a terminal.
+    set _module_way = page
+    breaksw
+case xhelp:
+case x--help:
+case xis-loaded:
+case xis-avail:
 case xshow:
 case xdisplay:
 case xwhatis:
@@ -75,7 +74,7 @@ case xkeyword:
 case xapropos:
 case xsavelist:
 case xsaveshow:
-    set _module_way = report
+    set _module_way = run
     breaksw
 endsw
 
@@ -104,16 +103,12 @@ case again:
     source "@prefix@/libexec/module.csh"
     set _module_status = $status
     breaksw
-case usage:
-    "@prefix@/libexec/usage" $_module_words[2]
-    set _module_status = $status
-    breaksw
-case report:
-    "@prefix@/libexec/report" $_module_words:q
-    set _module_status = $status
-    breaksw
-case status:
+case run:
     "@prefix@/libexec/module" $_module_words:q
+    set _module_status = $status
+    breaksw
+case page:
+    "@prefix@/init/pager" $_module_words:q
     set _module_status = $status
     breaksw
 default:
@@ -123,7 +118,12 @@ default:
     set _module_text = ( "`$_module_run`" )
     set _module_status = $status
     # The whole text is captured first, and evaluated only where the program accepted.
-    if ( $_module_status == 0 ) then
+    set _module_unloads = no
+    if ( x$_module_words[2]:q == xunload || x$_module_words[2]:q == xrm ) set _module_unloads = yes
+    if ( $_module_status == 0 && "x$_module_text" == x && $_module_unloads == yes ) then
+        # Nothing was unloaded: a loaded module may have a longer name.
+        "@prefix@/libexec/module" $_module_words[1] unloaded $_module_words[3-]:q
+    else if ( $_module_status == 0 ) then
         set _module_loaded = ''
         if ( $?LOADEDMODULES ) then
             set _module_loaded = "$LOADEDMODULES"
@@ -138,12 +138,13 @@ default:
             ( "@prefix@/etc/after" $_module_words:q < /dev/null >& /dev/null & )
         endif
     else if ( "$_module_way" == "bin/modulecmd" ) then
-        "@prefix@/libexec/suggest" $_module_status $_module_program:q $_module_words:q
+        # Says where a modulefile failed, and what to do.
+        "@prefix@/libexec/module" $_module_words[1] explain $_module_words[2-]:q
     endif
     breaksw
 endsw
 
-unset _module_words _module_way _module_name _module_program _module_run _module_text _module_loaded _module_now
+unset _module_words _module_unloads _module_way _module_name _module_program _module_run _module_text _module_loaded _module_now
 if ( $?_module_backslash_quote ) then
     set backslash_quote
     unset _module_backslash_quote

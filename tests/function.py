@@ -3,6 +3,7 @@
 """
 
 import os
+import pty
 import shutil
 import subprocess
 
@@ -40,7 +41,6 @@ EDITS = [
 # The words behind the shell, and what is refused.
 REFUSED = [
     (["use", "--nope", "a"], "'--nope' is no option here"),
-    (["use"], "Bad arguments"),
     (["unuse"], "Bad arguments"),
     (["unuse", "-a", "a"], "'-a' is no option here"),
     (["use", ""], "Bad value of 'MODULEPATH': a directory without a name"),
@@ -57,8 +57,10 @@ REFUSED = [
     (["subcommand", "spider"], "Unknown subcommand 'spider'"),
     (["keyword"], "Bad arguments"),
     (["apropos", "a", "b"], "Bad arguments"),
-    (["whatis", "gcc"], "This program doesn't do 'whatis'"),
-    (["help"], "This program doesn't do 'help'"),
+    (["whatis", "gcc"], "Unable to locate a modulefile for 'gcc'"),
+    (["show", "gcc"], "Unable to locate a modulefile for 'gcc'"),
+    (["show"], "Bad arguments"),
+    (["--version"], "This program doesn't do '--version'"),
     (["help", "gcc"], "Unable to locate a modulefile for 'gcc'"),
 ]
 
@@ -116,6 +118,9 @@ KEYWORDS = [
     (["keyword", "tool"], ["foo/1"]),
     (["apropos", "COMPILERS"], ["foo/1"]),
     (["key", "category"], ["foo/1"]),
+    (["keyword", "category: comp"], ["foo/1"]),
+    (["keyword", "1: the"], []),
+    (["keyword", "o/1:"], []),
     (["keyword", "b C"], ["d/1"]),
     (["keyword", "FOO/"], ["foo/1", "foo/2", "foo/10"]),
     (["keyword", "zürich"], ["foo/10"]),
@@ -273,6 +278,43 @@ def test_a_directory_that_is_not_there_is_said_once(program, place):
     same((done.returncode, done.stderr), (0, said), "status and standard error")
 
 
+# The file of a site with directories, and what it comes to.
+SITE_FILES = (
+    ("", ""),
+    ("/a\n/b\n", "/a:/b"),
+    ("  /a b\t# the first\n#/c\n\n \t# nothing\n/d#e\n/f \t#g #h", "/a b:/d#e:/f"),
+    ("/é\n", "/é"),
+)
+
+
+@pytest.mark.parametrize("text, wanted", SITE_FILES)
+def test_the_directories_of_a_site(program, tmp_path, text, wanted):
+    path = tmp_path / "modulespath"
+    path.write_text(text, encoding="utf-8")
+    same(outcome(run(program, ["sh", "modulespath", str(path)])), (0, wanted, ""), "what it comes to")
+    for other in (tmp_path, tmp_path / "nothing"):
+        same(outcome(run(program, ["sh", "modulespath", str(other)])), (0, "", ""), f"what {other} comes to")
+    path.write_bytes(b"/a\xff\n")
+    same(outcome(run(program, ["sh", "modulespath", str(path)])), (0, "", ""), "what no text comes to")
+
+
+def test_which_directories_are_searched(program):
+    for value, report in ((None, ""), ("", ""), ("/x", "/x\n"), (":/x::/y/../z:/x", "/x\n/y/../z\n/x\n")):
+        env = {} if value is None else {"MODULEPATH": value}
+        same(outcome(run(program, ["sh", "use"], env)), (0, "", report), f"the directories of {value!r}")
+
+
+def test_an_unload_that_has_nothing_to_unload_says_what_is_loaded(program):
+    env = {"LOADEDMODULES": "gcc/13.2.0:mpi/4", "_LMFILES_": "/m/gcc/13.2.0:/m/mpi/4"}
+    for names, said in (
+        ("gcc/13", "'gcc/13' isn't loaded, but 'gcc/13.2.0' is.\n"),
+        ("m gcc/13. gcc mpi/4 mpi/5 hdf5", "'m' isn't loaded, but 'mpi/4' is.\n'gcc/13.' isn't loaded, but 'gcc/13.2.0' is.\n"),
+    ):
+        same(outcome(run(program, ["sh", "unloaded", *names.split()], env)), (0, "", said), f"what is said of {names}")
+    env["_LMFILES_"] = "/m/gcc/13.2.0"
+    same(outcome(run(program, ["sh", "unloaded", "gcc/13"], env)), (0, "", ""), "where the lists don't fit together")
+
+
 @pytest.mark.parametrize("words, said", REFUSED)
 def test_refusals(program, place, words, said):
     done = run(program, ["sh", *words], {"MODULEPATH": "/x"}, place)
@@ -403,28 +445,61 @@ def as_nobody(program, folder):
     return copy, by_nobody
 
 
-def test_avail_where_something_cannot_be_read(program, folder, modules):
-    """It is refused where it has to look there, as by the program `modulecmd`."""
+def test_avail_leaves_out_what_cannot_be_read_and_names_it(program, folder, modules):
+    """What has to be read is what a listing for the texts looks at."""
     program, by_nobody = as_nobody(program, folder)
     at = modules["MODULEPATH"]
-    os.chmod(f"{at}/Lib/app", 0)
-    failed = (1, "", "ERROR: Reading failed\n")
+    lost = [f"{at}/{name}: not readable\n" for name in ("Lib/app", "gcc/12", "ver/.version")]
+    for name in ("Lib/app", "gcc/12", "ver/.version"):
+        os.chmod(f"{at}/{name}", 0)
+    ver = "ver/1.9\nver/1.10\nver/1.10-rc\n"
     for words, wanted in (
-        ([], failed),
-        (["Lib"], failed),
-        (["-C", "gcc/1"], failed),
-        (["gcc/1"], (0, "", f"{at}:\ngcc/10\ngcc/12\n")),
+        ([], f"{at}:\ngcc/9\ngcc/10\ntool\n{ver}{''.join(lost)}"),
+        (["gcc/1"], f"{at}:\ngcc/10\n{lost[1]}"),
+        (["to"], f"{at}:\ntool\n"),
+        (["-t", "Lib"], lost[0]),
+        (["-d", "gcc", "ver"], f"{at}:\ngcc/10\nver/1.10-rc\n{lost[1]}{lost[2]}"),
+        (["-C", "oo"], f"{at}:\ntool\n{''.join(lost)}"),
     ):
         done = run(program, ["sh", "avail", *words], modules, **by_nobody)
-        same(outcome(done), wanted, f"avail {words}")
+        same(outcome(done), (0, "", wanted), f"avail {words}")
+    done = run(program, ["sh", "avail", "g", "to"], {**modules, **on_terminal(80)}, **by_nobody)
+    same(outcome(done), (0, f"{at}:\ngcc/9   gcc/10  tool\n{lost[1]}", ""), "on a terminal")
+
+
+def test_avail_leaves_out_a_directory_that_cannot_be_read(program, folder, modules, tmp_path):
+    program, by_nobody = as_nobody(program, folder)
+    at = modules["MODULEPATH"]
+    closed = tmp_path / "closed\x1b"
+    closed.mkdir()
+    closed.chmod(0)
+    env = {"MODULEPATH": f"{closed}:{at}"}
+    named = f"{closed}: not readable\n"
+    done = run(program, ["sh", "avail", "tool"], env, **by_nobody)
+    same(outcome(done), (0, "", f"{at}:\ntool\n{named}"), "into a pipe")
+    done = run(program, ["sh", "avail", "tool"], {**env, **on_terminal(80)}, **by_nobody)
+    same(outcome(done), (0, f"{at}:\ntool\n{named}".replace("\x1b", "?"), ""), "on a terminal")
+
+
+def test_descriptions_leave_out_what_cannot_be_read_and_name_it(program, folder):
+    program, by_nobody = as_nobody(program, folder)
+    env = described(folder, DESCRIBED)
+    at = env["MODULEPATH"]
+    os.chmod(f"{at}/d", 0)
+    os.chmod(f"{at}/foo/2", 0)
+    lost = f"{LEFT_OUT}{at}/d: not readable\n{at}/foo/2: not readable\n"
+    for words, names in ((["whatis"], ["foo/1", "foo/10"]), (["keyword", "tool"], ["foo/1"])):
+        report = "".join(WHATIS[name] for name in names)
+        done = run(program, ["sh", *words], env, **by_nobody)
+        same(outcome(done), (0, "", report + lost), f"{words}")
 
 
 def test_is_avail_where_something_cannot_be_read(program, folder, modules):
-    """Only what a load's search looks at counts."""
+    """What a load's search looks at and can't read is passed over; where nothing is found then, it is said."""
     program, by_nobody = as_nobody(program, folder)
     os.chmod(os.path.join(modules["MODULEPATH"], "gcc"), 0)
     found, failed = (0, "", ""), (1, "", "ERROR: Reading failed\n")
-    for names, wanted in (("tool", found), ("tool gcc", found), ("gcc", failed), ("no gcc tool", failed)):
+    for names, wanted in (("tool", found), ("tool gcc", found), ("gcc", failed), ("no gcc", failed), ("gcc tool", found)):
         done = run(program, ["sh", "is-avail", *names.split()], modules, **by_nobody)
         same(outcome(done), wanted, f"is-avail {names}")
 
@@ -462,9 +537,9 @@ def test_reports_on_a_terminal(program, modules):
         (["list", "g"], on_terminal(80, "1"), "\033[1mCurrently Loaded Modulefiles:\033[0m\ngcc/12  gone/1\n"),
     ):
         done = run(program, ["sh", *words], {**modules, **loaded, **terminal})
-        same(outcome(done), (0, "", report), f"{words} by {terminal}")
+        same(outcome(done), (0, report, ""), f"{words} by {terminal}")
     contradicting = {**modules, "LOADEDMODULES": "gcc/12", **on_terminal(80)}
-    same(outcome(run(program, ["sh", "avail", "gcc/12"], contradicting)), (0, "", f"{at}:\ngcc/12\n"), "the lists")
+    same(outcome(run(program, ["sh", "avail", "gcc/12"], contradicting)), (0, f"{at}:\ngcc/12\n", ""), "the lists")
 
 
 def test_columns_are_as_wide_as_their_names(program, folder):
@@ -480,7 +555,7 @@ def test_columns_are_as_wide_as_their_names(program, folder):
     ):
         env = {"MODULEPATH": at, "LC_ALL": "C", **on_terminal(columns)}
         done = run(program, ["sh", "avail"], env, encoding="utf-8")
-        same(outcome(done), (0, "", f"{at}:\n{table}"), f"columns of {columns}")
+        same(outcome(done), (0, f"{at}:\n{table}", ""), f"columns of {columns}")
 
 
 # Characters that steer a terminal: C0, DEL, C1, ends of lines, and marks of direction.
@@ -496,7 +571,7 @@ def test_characters_that_steer_reach_no_terminal(program, folder, character):
     def report(words, more):
         command = [program, "sh", *words]
         done = subprocess.run(command, env={**env, **more}, capture_output=True, timeout=SECONDS, check=True)
-        return done.stderr.decode()
+        return (done.stdout if more else done.stderr).decode()
 
     for words in (["avail"], ["avail", "-t"]):
         same(report(words, {}), f"{at}:\na{character}b/1\n", f"{words} into a pipe")
@@ -504,6 +579,35 @@ def test_characters_that_steer_reach_no_terminal(program, folder, character):
     for words in (["list"], ["list", "-t"]):
         same(report(words, {}), f"Currently Loaded Modulefiles:\na{character}b/1\n", f"{words} into a pipe")
         same(report(words, on_terminal(80)), "Currently Loaded Modulefiles:\na?b/1\n", f"{words} on a terminal")
+
+
+def said_to_a_terminal(program, words, env):
+    """What the program says to a terminal that is its standard output and error."""
+    ours, its = pty.openpty()
+    streams = {"stdin": subprocess.DEVNULL, "stdout": its, "stderr": its}
+    subprocess.run([program, *words], env=env, timeout=SECONDS, check=True, **streams)
+    os.close(its)
+    said = os.read(ours, 65536)
+    os.close(ours)
+    return said.decode().replace("\r\n", "\n")
+
+
+@pytest.mark.parametrize("character", STEERING)
+def test_characters_that_steer_reach_no_terminal_from_descriptions(program, folder, character):
+    """Tabs and the ends of lines stay."""
+    text = f"a{character}b"
+    helps = f"proc ModulesHelp {{}} {{puts stderr \"\t{text}\\n.\"}}\n"
+    env = described(folder, {"bad/1": f"{text}\n", "foo/1": f"module-whatis {{{text}}}\n{helps}"})
+    left_out = f'Left out:\nbad/1: invalid command name "{text}" (line 2)\n'
+    for words, report in (
+        (["whatis"], f"foo/1: {text}\n{left_out}"),
+        (["keyword", "foo"], f"foo/1: {text}\n{left_out}"),
+        (["help", "foo"], f"\t{text}\n.\n"),
+        (["whatis", "foo"], f"foo/1: {text}\n"),
+    ):
+        same(outcome(run(program, ["sh", *words], env, encoding="utf-8")), (0, "", report), f"{words} into a pipe")
+        shown = report.replace(character, "?")
+        same(said_to_a_terminal(program, ["sh", *words], env), shown, f"{words} on a terminal")
 
 
 def test_memory_of_listings(program, folder, modules, tmp_path):

@@ -54,6 +54,7 @@ SUITES = (
     "modport.py",
     "site.py",
     "function.py",
+    "explanations.py",
     "saving.py",
     "auto.py",
     "plain.py",

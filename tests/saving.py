@@ -161,6 +161,23 @@ def test_a_signal_at_each_call_leaves_the_old_file_or_the_new(here):
                     os.remove(here.path(left))
 
 
+def test_what_is_read_back_otherwise_is_not_saved(here):
+    """The new file is read before it is renamed, and compared with what was written."""
+    if not has_strace():
+        pytest.skip("where the disk gives other bytes back, since strace isn't here or isn't permitted")
+    here.put()
+    calls = os.path.join(here.home, "calls")
+    here.does("save", "c", under=["strace", "-y", "-e", "trace=read", "-o", calls])
+    with open(calls) as file:
+        reads = [number for number, line in enumerate(file, 1) if "/.new." in line]
+    true(reads, "the new file is read")
+    here.put()
+    inject = f"inject=read:poke_exit=@arg2=5858:when={reads[0]}"
+    out, err, status = here.run("save", "c", under=["strace", "-e", inject, "-o", os.devnull])
+    same((out, err[:7], status), (b"", b"ERROR: ", 1), "a save of which other bytes come back")
+    here.holds(OLD)
+
+
 def test_a_folder_that_cannot_be_written_stays(here):
     here.put()
     os.chmod(here.top, 0o555)

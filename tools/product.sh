@@ -42,7 +42,7 @@ cd -- "$(dirname -- "$0")/.."
 
 # The files that are put in place with the prefix, and those that can be run.
 files='init/sh init/bash init/ksh init/zsh init/csh init/tcsh init/fish init/profile.sh
-    init/profile.csh init/python.py libexec/module.csh libexec/ml.csh libexec/listing.awk
+    init/profile.csh init/python.py libexec/module.csh libexec/ml.csh
     completion/bash completion/_module completion/fish completion/tcsh
     share/man/man1/module.1 share/man/man1/modcheck.1 share/man/man1/modaudit.1 share/man/man1/modport.1
     share/man/man5/modulefile.5
@@ -52,7 +52,7 @@ examples='clang/17 gcc/13.2.0 greeting/1 hdf5/1.14 openmpi/4.1.6 plugins/2.3 pro
 for file in $examples; do
     files="$files share/examples/$file"
 done
-runs='libexec/usage libexec/modulespath libexec/names libexec/report libexec/suggest'
+runs='init/pager'
 programs='bin/modulecmd bin/modcheck libexec/module'
 # Other names of the program `module`, by which it is another one.
 aliases='bin/modaudit bin/modport'

@@ -29,10 +29,10 @@ class Changes:
         os.chmod(self.home, 0o777)
         self.env = folder.environment(PATH=os.environ["PATH"], HOME=self.home)
 
-    def run(self, *words, program="module", env=(), under=(), **more):
-        """Runs a program, behind the words of a command that runs others."""
+    def run(self, *words, env=(), under=(), **more):
+        """Runs the program, behind the words of a command that runs others."""
         given = {**self.env, **encoded(dict(env))}
-        command = [*under, os.path.join(self.prefix, "libexec", program), *words]
+        command = [*under, os.path.join(self.prefix, "libexec", "module"), *words]
         more = {"stdin": subprocess.DEVNULL, "capture_output": True, "timeout": SECONDS, "check": False, **more}
         done = subprocess.run(command, env=given, **more)
         return done.stdout, done.stderr, done.returncode
@@ -55,42 +55,6 @@ class Changes:
 @pytest.fixture
 def here(folder, product):
     return Changes(folder, product)
-
-
-def instead(name, other):
-    """How a command begins that finds another program at a name, by a mount that no other process sees."""
-    found = [shutil.which(program, path="/usr/bin:/bin") for program in (other, name)]
-    lines = 'mount --bind "$1" "$2" && shift 2 && exec "$@"'
-    return ["unshare", "-m", "sh", "-c", lines, "sh", *[os.path.realpath(path) for path in found]]
-
-
-@pytest.fixture(scope="session")
-def mounts():
-    """Gives what finds another program at a name, where this user can mount."""
-    if subprocess.run(["unshare", "-m", "mount", "--bind", "/", "/"], capture_output=True, check=False).returncode:
-        pytest.skip("over other programs of the system, since this user can't mount")
-    return instead
-
-
-# What the system's awk and sh can be.
-OTHERS = {"awk": ("mawk", "gawk", "busybox"), "sh": ("dash", "bash", "ksh93", "mksh", "zsh", "busybox")}
-SYSTEMS = [pytest.param(None, id="here")]
-SYSTEMS += [pytest.param((it, other), id=f"where {it} is {other}") for it, others in OTHERS.items() for other in others]
-
-
-@pytest.fixture(params=SYSTEMS)
-def under(request):
-    """How a command begins that runs on this system, or where one of its programs is another."""
-    if request.param is None:
-        return []
-    name, other = request.param
-    if not shutil.which(other):
-        pytest.skip(f"{other} is not installed")
-    return request.getfixturevalue("mounts")(name, other)
-
-
-# What the programs of libexec are made of.
-SCRIPTS = ("report", "suggest")
 
 
 # What no collection is, and what is said of it.
@@ -198,15 +162,25 @@ def test_a_collection_is_saved_as_lists_of_Tcl_and_restored(here, folder):
     here.answers(["restore", "c"], out=text("sh", {"MODULEPATH": path, "FOO": "1", **lists}).decode())
 
 
-def test_reports_are_the_same_by_every_awk_and_sh(here, folder, under):
+def test_reports_go_to_standard_error(here, folder):
     for name in ("foo/1", "foo/2", "foo/10"):
         folder.module(name, f"module-whatis {{the {name} tool}}\n")
     for words, err in (
         (["avail", "-L"], f"{here.start}:\nfoo/10\n"),
         (["keyword", "THE FOO/2"], "foo/2: the foo/2 tool\n"),
+        (["whatis", "foo/2"], "foo/2: the foo/2 tool\n"),
+        (["show", "foo/2"], f"{here.start}/foo/2:\nmodule-whatis {{the foo/2 tool}}\n"),
         (["use"], f"{here.start}\n"),
     ):
-        here.answers(words, err=err, program="report", under=under)
+        here.answers(words, err=err)
+
+
+def test_the_pager_shows_what_the_program_reports_where_there_is_no_terminal(here, folder):
+    folder.module("foo/1", "")
+    done = subprocess.run(
+        [os.path.join(here.prefix, "init", "pager"), "sh", "avail"], env=here.env, capture_output=True, check=False
+    )
+    same((done.stdout, done.stderr, done.returncode), (b"", f"{here.start}:\nfoo/1\n".encode(), 0), "what the pager shows")
 
 
 def test_a_collection_is_restored_whatever_a_shell_says(here, folder):
@@ -272,7 +246,7 @@ def test_directories_are_quoted_by_the_rules_of_each_shell(here, folder):
         for value in (name, "\n" + name + "\n\n"):
             place = f"{folder.path.decode()}/{value}"
             os.makedirs(place, exist_ok=True)
-            found = here.run(shell, "use", place, program="module")
+            found = here.run(shell, "use", place)
             path = f"{place}:{here.start}"
             if family == "csh" and "\n" in value:
                 wanted = (b"", b"ERROR: Value of 'MODULEPATH' can't be said in this shell\n", 1)
@@ -280,7 +254,7 @@ def test_directories_are_quoted_by_the_rules_of_each_shell(here, folder):
                 wanted = (text(family, {"MODULEPATH": path}), b"", 0)
             same(found, wanted, f"what use writes for {shell}")
         relative = "a\\b:'q:!r\\:'\\s!:\\:!'"
-        found = here.run(shell, "use", "/", program="module", env={"MODULEPATH": relative})
+        found = here.run(shell, "use", "/", env={"MODULEPATH": relative})
         same(found, (text(family, {"MODULEPATH": f"/:{relative}"}), b"", 0), f"what use writes for {shell}")
 
 
@@ -296,29 +270,15 @@ def test_tools_are_found_whatever_path_is(here, folder):
     here.answers(["save"])
     here.answers(["savelist"], err="c\ndefault\n")
     here.answers(["saverm", "c"])
-    here.answers(["avail", "-L"], err=f"{here.start}:\nfoo/1\n", program="report")
+    here.answers(["avail", "-L"], err=f"{here.start}:\nfoo/1\n")
 
 
-def test_variables_of_the_user_stay_what_they_are(here, folder):
-    """Whatever name a variable of the scripts has, that of the user is what the program and modulefiles see."""
-    scripts = "".join(content(os.path.join(here.prefix, "libexec", name)).decode() for name in SCRIPTS)
-    names = sorted(set(re.findall(r"\b([a-z_]+)=", scripts)))
-    names = [name for name in names if not name.startswith("_module_")]
+def test_variables_of_the_user_stay_what_they_are(here):
+    """The script that pages sets none but those whose names begin with _module_, and for some commands others."""
+    script = content(os.path.join(here.prefix, "init", "pager")).decode()
+    names = set(re.findall(r"\b([A-Za-z_]+)=", script)) - {"LC_ALL", "MODULECMD_COLUMNS", "MODULECMD_COLOURS"}
     true(len(names) > 2, f"the variables {names}")
-    lines = "".join(f"append-path {name} /m/{name}\n" for name in names)
-    asked = f"$env({names[0]}) $env({names[-1]}) [getenv report]"
-    folder.module("foo/1", lines + f'module-whatis "{asked}"\n')
-    here.file("c", "module load foo\n")
-    here.env.update({name.encode(): b"/user" for name in names})
-    wanted = {name: f"/user:/m/{name}" for name in names}
-    lists = {"LOADEDMODULES": "foo/1", "_LMFILES_": f"{here.start}/foo/1"}
-    here.answers(["restore", "c"], out=text("sh", {**wanted, **lists}).decode())
-    said = "foo/1: /user /user /user\n"
-    here.answers(["whatis"], err=said, program="report")
-    here.answers(["keyword", "USER"], err=said, program="report")
-    here.answers(["whatis", "foo"], err=said, program="report")
-    here.env.update({name.encode(): value.encode() for name, value in {**wanted, **lists}.items()})
-    here.answers(["reload"])
+    same([name for name in sorted(names) if not name.startswith("_module_")], [], "the others")
 
 
 def test_a_heading_of_several_lines_names_no_module(here):
@@ -327,4 +287,4 @@ def test_a_heading_of_several_lines_names_no_module(here):
     with open(odd + "/foo/1", "w") as file:
         file.write("#%Module\nmodule-whatis {a tool}\n")
     here.env[b"MODULEPATH"] = odd.encode()
-    here.answers(["keyword", "o"], err="foo/1: a tool\n", program="report")
+    here.answers(["keyword", "o"], err="foo/1: a tool\n")

@@ -8,15 +8,14 @@ from tests.shells.shells import content, in_shells
 
 where_completed = in_shells(lambda it: it.completes)
 
-AVAIL = b"/m:\nbar/1\nbar/2(default)\nfoo/1.0\nodd$(>HERE)/1\nit's!/1\n/n:\nonly/1\n"
+# The modules that can be loaded, in two directories.
+MODULES = {"m": ("bar/1", "bar/2", "foo/1.0", "odd$(>HERE)/1", "it's!/1"), "n": ("only/1",)}
 
 # What is typed, with tabulators, and what the program is given.
 TYPED = (
     ("module unlo\tfoo/1.0", ["unload", "foo/1.0"]),
     ("module load fo\t", ["load", "foo/1.0"]),
     ("module add on\t", ["add", "only/1"]),
-    ("module whatis fo\t", ["whatis", "foo/1.0"]),
-    ("module show fo\t", ["show", "foo/1.0"]),
     ("module unload ba\t", ["unload", "baz/3"]),
     ("module rm fo\t", ["rm", "foo/1.0"]),
     ("module switch baz\ton\t", ["switch", "baz/3", "only/1"]),
@@ -49,11 +48,23 @@ IN_QUOTES = (
 )
 
 
+def offers(session):
+    """Writes the modules that can be loaded, and has MODULEPATH name their directories."""
+    top = os.path.join(session.folder.path, b"offered").decode()
+    for directory, names in MODULES.items():
+        for name in names:
+            path = os.path.join(top, directory, name)
+            os.makedirs(os.path.dirname(path), exist_ok=True)
+            with open(path, "w") as file:
+                file.write("#%Module\n")
+    session.starts_with(MODULEPATH=":".join(os.path.join(top, directory) for directory in MODULES))
+
+
 @where_completed
 def test_completes(scripted, shell, start):
     scripted.starts_with(LOADEDMODULES="foo/1.0:baz/3")
+    offers(scripted)
     at = start(scripted, before=shell.before_completion)
-    scripted.stand_in.write("avail", AVAIL)
     for number, (keys, words) in enumerate([*TYPED, *(IN_QUOTES if shell.title == "bash" else ())]):
         scripted.stand_in.answer()
         at.types_completing(keys)
@@ -97,10 +108,16 @@ def test_completes_options_and_directories_behind_modaudit(scripted, start):
     completes_behind(scripted, start, "modaudit", rows)
 
 
+@where_completed
+def test_completes_options_and_files_behind_modport(scripted, start):
+    rows = (("--o", b"--one-version,"), ("--ho", b"--host,"), ("--check bi", b"--check,bin,"), ("bi", b"bin,"))
+    completes_behind(scripted, start, "modport", rows)
+
+
 @in_shells(lambda it: it.before_completion)
 def test_completes_where_the_system_of_completions_starts_later(scripted, shell, start):
+    offers(scripted)
     at = start(scripted, behind=shell.before_completion)
-    scripted.stand_in.write("avail", AVAIL)
     scripted.stand_in.answer()
     at.types_completing("module load fo\t")
     at.until(scripted.words, "the command")
@@ -108,14 +125,15 @@ def test_completes_where_the_system_of_completions_starts_later(scripted, shell,
 
 
 @where_completed
-def test_completes_nothing_and_says_nothing_where_the_program_refuses_avail(scripted, shell, start):
+def test_completes_nothing_and_says_nothing_where_nothing_can_be_read(scripted, shell, start):
+    scripted.starts_with(MODULEPATH=f"{os.fsdecode(scripted.folder.path)}/{'x' * 300}")
     at = start(scripted, before=shell.before_completion)
     scripted.stand_in.answer()
     at.settle(0.2)
     at.seen = b""
-    at.types_completing("module show \t")
+    at.types_completing("module load x \t")
     at.until(scripted.words, "the command")
-    same(scripted.stand_in.words(), [[shell.init, "show"]], "the words")
+    same(scripted.stand_in.words(), [[shell.init, "load", "x"]], "the words")
     true(b"ERROR" not in at.seen and b"modulecmd" not in at.seen, f"nothing is said: {at.seen!r}")
 
 

@@ -58,8 +58,7 @@ PLACES = ("/usr/lib/*/modulecmd.tcl", f"{TOP}/build/bench/environment-modules/us
 
 # The programs of ours that do what is added.
 PROGRAMS = {
-    "libexec/module": ("use", "unuse", "is-loaded", "is-avail", "save", "saverm", "restore", "reload"),
-    "libexec/report": ("saveshow",),
+    "libexec/module": ("use", "unuse", "is-loaded", "is-avail", "save", "saverm", "saveshow", "restore", "reload"),
 }
 
 

@@ -31,16 +31,10 @@ FILES = [
     "completion/tcsh",
     "etc/modulespath",
     "etc/modulespath.example",
-    *(f"init/{name}" for name in sorted([*FAMILIES, "profile.csh", "profile.sh", "python.py"])),
-    "libexec/listing.awk",
+    *(f"init/{name}" for name in sorted([*FAMILIES, "pager", "profile.csh", "profile.sh", "python.py"])),
     "libexec/ml.csh",
     "libexec/module",
     "libexec/module.csh",
-    "libexec/modulespath",
-    "libexec/names",
-    "libexec/report",
-    "libexec/suggest",
-    "libexec/usage",
     "share/doc/SITES.md",
     "share/doc/USERS.md",
     *(f"share/examples/{name}" for name in EXAMPLES),
@@ -56,11 +50,7 @@ SCRIPTS = (
     "init/bash",
     "init/profile.sh",
     "completion/bash",
-    "libexec/usage",
-    "libexec/names",
-    "libexec/modulespath",
-    "libexec/report",
-    "libexec/suggest",
+    "init/pager",
     "demo/demo.sh",
     ".ci/run",
 )
@@ -171,10 +161,9 @@ def test_the_installed_pages_name_the_prefix(product):
             true(product in text or name.startswith("share/man"), f"{name} names the prefix")
 
 
-def test_the_usage_tells_what_the_program_does(folder):
+def test_the_usage_tells_what_the_program_does(folder, built):
     """Each subcommand is known, and none is missing."""
-    usage = ["sh", os.path.join(TOP, "libexec", "usage")]
-    text = subprocess.run(usage, capture_output=True, check=True).stdout.decode()
+    text = subprocess.run([built("module"), "sh", "help"], capture_output=True, check=True).stdout.decode()
     names = [name for found in SUBCOMMAND.findall(text.split("Subcommands:\n")[1]) for name in found.split(", ")]
     same(sorted(set(names)), sorted([*SUBCOMMANDS, "del", "remove", *ADDED]), "the names of the usage")
     for name in SUBCOMMANDS:
@@ -184,10 +173,8 @@ def test_the_usage_tells_what_the_program_does(folder):
         folder.refuses(["sh", name], f"Unknown subcommand '{name}'")
 
 
-def test_completion_offers_what_the_program_does():
-    names = subprocess.run(
-        ["sh", os.path.join(TOP, "libexec", "names"), "subcommands"], capture_output=True, check=True
-    )
+def test_completion_offers_what_the_program_does(built):
+    names = subprocess.run([built("module"), "sh", "names", "subcommands"], capture_output=True, check=True)
     same(names.stdout.decode().split(), sorted([*SUBCOMMANDS, *OF_FUNCTIONS, *ADDED]), "the names for completion")
 
 
@@ -362,6 +349,19 @@ COMPLETED = {
     "module saverm d": ["a b", "default"],
     "module unuse ": ["DIRECTORY"],
     "module reload ": [],
+    "module av fo": ["foo/1.0", "foo/2.0"],
+    "module list b": ["foo/1.0", "baz/3"],
+    "module load --": ["--auto"],
+    "module list -": ["--terse", "-t"],
+    "module use -": ["--append", "-a"],
+    "module use ": [],
+    "module odd ": [],
+    "ml avail -": [
+        "--contains", "--default", "--icase", "--latest", "--terse", "-C", "-L", "-d", "-i", "-t",
+    ],
+    "ml foo b": ["bar/1"],
+    "modcheck t": [],
+    "module": [],
     "ml -b": ["-foo/1.0", "-baz/3"],
 }
 
@@ -378,7 +378,7 @@ def test_completion_offers_what_can_be_loaded_and_what_is(folder, product):
             pass
 
     def names(*words, line=""):
-        command = ["sh", os.path.join(product, "libexec", "names"), *words]
+        command = [os.path.join(product, "libexec", "module"), "sh", "names", *words]
         given = {**env, b"COMMAND_LINE": line.encode()}
         done = subprocess.run(command, env=given, capture_output=True, check=False)
         same((done.stderr, done.returncode), (b"", 0), f"standard error and status of names {words}")

@@ -1,18 +1,7 @@
 #!/bin/sh
 # Stands in for the program: answers the n-th command by the files n.out, n.err and n.status of the folder $STAND_IN, and
-# keeps the words of each command there. `avail` is answered by those lines of the file avail that begin with its first
-# name, or refused, and its words are added to the file asked.
+# keeps the words of each command there.
 set -u
-case ${2-} in
-    avail)
-        if test -e "$STAND_IN/avail"; then
-            echo "$*" >> "$STAND_IN/asked"
-            BEGINS=${3-} exec /usr/bin/awk '/:$/ || index($0, ENVIRON["BEGINS"]) == 1' "$STAND_IN/avail" >&2
-        fi
-        echo "ERROR: Reading failed" >&2
-        exit 1
-        ;;
-esac
 number=$(/bin/cat "$STAND_IN/number")
 number=$((number + 1))
 printf '%s\0' "$@" > "$STAND_IN/$number.words"

@@ -14,25 +14,43 @@ ERROR = b"ERROR: no\n"
 
 
 @at_terminals
-def test_pipes_reports(scripted, start):
-    at = start(scripted)
-    report = b"/m/foo/1.0:\nsetenv FOO on\n"
-    piped = b"piped /m/foo/1.0:\npiped setenv FOO on\n"
-    lines = ("module show foo/1.0", "ml show foo", "module whatis foo", "module display foo")
-    for number, line in enumerate(lines):
-        scripted.stand_in.answer(b"", report)
-        at.types(f"{line} | /bin/sed -e 's/^/piped /' > '{at.at(number)}'")
-        at.keeps(number, piped, f"what `{line}` pipes")
+def test_pipes_reports(real, start):
+    path = os.fsencode(real.folder.module("foo/1.0", "setenv FOO on\nmodule-whatis {a foo}\n"))
+    at = start(real)
+    shown = b"piped " + path + b":\npiped setenv FOO on\npiped module-whatis {a foo}\n"
+    lines = {
+        "module show foo/1.0": shown,
+        "ml show foo": shown,
+        "module whatis foo": b"piped foo/1.0: a foo\n",
+        "module display foo": shown,
+    }
+    for number, (line, wanted) in enumerate(lines.items()):
+        at.types(f"{line} | /bin/sed -e 's/^/piped /' > '{at.at('piped')}'; /bin/mv '{at.at('piped')}' '{at.at(number)}'")
+        at.keeps(number, wanted, f"what `{line}` pipes")
+
+
+@at_terminals
+def test_shows_nothing_that_steers_the_terminal(real, start):
+    real.folder.module("foo/1.0", "setenv FOO a\\x1b\\x5b31mb\\u202ec\nmodule-whatis a\\u9bz\nproc ModulesHelp {} {puts stderr a\\x7fb}\n")
+    at = start(real)
+    for line, shown in (
+        ("module show foo", b"setenv FOO {a?[31mb?c}\r\nmodule-whatis a?z\r\n"),
+        ("module whatis foo", b"foo/1.0: a?z\r\n"),
+        ("module whatis", b"foo/1.0: a?z\r\n"),
+        ("module keyword foo", b"foo/1.0: a?z\r\n"),
+        ("module help foo", b"a?b\r\n"),
+    ):
+        at.shows(line, shown)
+        at.settle(0.1)
 
 
 @at_terminals
 def test_hands_on_the_status_of_a_report_and_pipes_nothing_else(scripted, shell, start):
     at = start(scripted)
-    scripted.stand_in.answer(b"", ERROR, 7)
-    scripted.stand_in.answer(b"", b"message\n", 0)
-    at.types(f"module show foo; echo {shell.says.status} > '{at.at('status')}'")
-    at.keeps("status", b"7\n", "the status")
+    at.types(f"module show nope; echo {shell.says.status} > '{at.at('status')}'")
+    at.keeps("status", b"1\n", "the status")
     at.settle(0.1)
+    scripted.stand_in.answer(b"", b"message\n", 0)
     scripted.stand_in.answer(b"", ERROR, 1)
     redirected = f"module load nope {shell.says.to_file} '{at.at('redirected')}'"
     at.types(f"module load foo | /bin/cat > '{at.at('piped')}'; {redirected}")
@@ -64,9 +82,8 @@ def test_pipes_what_avail_finds_and_its_refusal(real, shell, start):
     at = start(real)
     at.types(f"module avail f > '{at.at('found')}'")
     at.keeps("found", real.folder.modules + b":\nfoo/1.0\n", "what is found")
-    at.types(f"module avail --nope > '{at.at('refused')}'; echo {shell.says.status} > '{at.at('status')}'")
-    at.keeps("status", b"1\n", "the status of a refusal")
-    same(content(at.at("refused")), b"ERROR: 'avail' has no option '--nope'\n", "a refusal")
+    at.shows(f"module avail --nope > '{at.at('refused')}'", b"ERROR: 'avail' has no option '--nope'\r\n")
+    same(content(at.at("refused")), b"", "what of a refusal is piped")
 
 
 @at_terminals
@@ -131,6 +148,18 @@ DEFAULT = b"\x1b[32m(default)" + PLAIN
 
 # What is shown of the modules.
 CELLS = (b"gcc/9", b"gcc/10(default)", b"gcc/11", b"gcc/12", b"mpi/1", b"sub/x/1", b"top")
+
+
+@at_terminals
+def test_shows_what_cannot_be_read_and_nothing_that_steers(real, folder, start):
+    """A ring of links is what root can't read either."""
+    folder.module("foo/1.0", "module-whatis {a\x9bfoo}\nsetenv A {b\x1bc}\n")
+    os.symlink("ring", folder.at("ring"))
+    at = start(real)
+    at.shows("module avail", b"/ring: not readable")
+    at.shows("module whatis foo/1.0", b"foo/1.0: a?foo")
+    at.shows("module whatis", b"/ring: not readable")
+    at.shows("module show foo/1.0", b"b?c")
 
 
 @at_terminals

@@ -74,8 +74,6 @@ OTHER_NAMES = {
     "module swa foo": ["swap", "foo"],
     "ml sw foo": ["switch", "foo"],
     "module pu": ["purge"],
-    "module disp 'a  b'": ["show", "a  b"],
-    "module wh foo": ["whatis", "foo"],
     "module load a:del": ["load", "a:del"],
 }
 
@@ -91,10 +89,11 @@ def test_takes_other_names_and_beginnings_of_subcommands(scripted, shell):
 
 @with_redirections
 def test_takes_beginnings_of_what_else_it_does(scripted, shell):
-    scripted.folder.module("foo/1.0", "")
+    file = scripted.folder.module("foo/1.0", "module-whatis {a foo}\n")
     path = scripted.folder.path.decode()
     lines = [f"module av f {shell.says.to_file} '{path}/av'", f"ml av {shell.says.to_pipe} /bin/cat > '{path}/ml'"]
     lines += [f"module li {shell.says.to_file} '{path}/li'", f"ml li {shell.says.to_pipe} /bin/cat > '{path}/ml-li'"]
+    lines += [f"module disp foo {shell.says.to_file} '{path}/disp'", f"module wh foo {shell.says.to_file} '{path}/wh'"]
     lines += [f"module -V > '{path}/version'", f"ml -V | /bin/cat > '{path}/ml-version'"]
     lines += [f"module -h > '{path}/help'", f"ml -h > '{path}/ml-help'"]
     scripted.keeps(lines)
@@ -102,6 +101,8 @@ def test_takes_beginnings_of_what_else_it_does(scripted, shell):
     same((content(f"{path}/av"), content(f"{path}/ml")), (report, report), "the reports of avail")
     report = b"No Modulefiles Currently Loaded.\n"
     same((content(f"{path}/li"), content(f"{path}/ml-li")), (report, report), "the reports of list")
+    same(content(f"{path}/disp"), os.fsencode(file) + b":\nmodule-whatis {a foo}\n", "the report of show")
+    same(content(f"{path}/wh"), b"foo/1.0: a foo\n", "the report of whatis")
     for name, begins in (("version", b"modulecmd "), ("help", b"usage: module")):
         true(content(f"{path}/{name}").startswith(begins), name)
         same(content(f"{path}/ml-{name}"), content(f"{path}/{name}"), f"{name} by ml")
@@ -240,11 +241,10 @@ def test_ml_unloads_and_loads_where_PATH_leads_nowhere(scripted, shell):
 
 
 def test_leaves_reports_on_standard_error_away_from_a_terminal(scripted):
-    report = b"/m:\nfoo/1.0\n"
-    for _ in range(3):
-        scripted.stand_in.answer(b"", report)
+    path = scripted.folder.module("a/1", "module-whatis {an a}\n")
+    report = os.fsencode(path) + b":\nmodule-whatis {an a}\n"
     lines = ["module show a", "module display a", "module whatis a", "module list", "ml", "status"]
-    kept = scripted.keeps(lines, err=report * 3 + b"No Modulefiles Currently Loaded.\n" * 2)
+    kept = scripted.keeps(lines, err=report * 2 + b"a/1: an a\n" + b"No Modulefiles Currently Loaded.\n" * 2)
     same(kept.statuses, ["0"], "the status")
 
 
@@ -254,7 +254,11 @@ COMMANDS = (
 )  # fmt: skip
 
 # What the program of the function says of some of them, and that `nope` is none.
+NOT_FOUND = b"ERROR: Unable to locate a modulefile for 'foo'\n"
 SAID = {
+    "show foo": NOT_FOUND,
+    "display foo": NOT_FOUND,
+    "whatis foo": NOT_FOUND,
     "list": b"No Modulefiles Currently Loaded.\n",
     "avail -x": b"ERROR: 'avail' has no option '-x'\n",
     "nope": b"ERROR: Unknown subcommand 'nope'\n",

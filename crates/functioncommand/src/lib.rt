@@ -11,8 +11,10 @@ mod notice;
 mod options;
 mod output;
 mod output_fault;
+mod site;
 
 pub use fault::FunctionFault;
 pub use notice::DirectoryNotice;
 pub use output::{FunctionOutput, function_output};
 pub use output_fault::OutputFault;
+pub use site::site_directories;

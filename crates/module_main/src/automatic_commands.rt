@@ -1,6 +1,6 @@
 //! The subcommands that load and unload, where they have options or are automated. What is put in goes to standard error.
 
-use crate::collection_commands::{report, write};
+use crate::collection_commands::{tell, write};
 use crate::given::Given;
 use crate::refusal::Refusal;
 use autohandling::{AutomaticAnswer, load_automatically, unload_automatically};
@@ -48,8 +48,8 @@ fn is_meant(names: &[String], module: &str) -> bool {
 /// Reports each of the names, behind a blank.
 fn report_names(rt: &HostRuntime, names: &[&str]) -> Result<(), Refusal> {
     for name in names {
-        report(rt, b" ")?;
-        report(rt, name.as_bytes())?;
+        tell(rt, b" ")?;
+        tell(rt, name.as_bytes())?;
     }
     Ok(())
 }
@@ -59,11 +59,11 @@ fn say_more(rt: &HostRuntime, doing: &[u8], asked: &[&str], more: &[&str]) -> Re
     if more.is_empty() {
         return Ok(());
     }
-    report(rt, doing)?;
+    tell(rt, doing)?;
     report_names(rt, asked)?;
-    report(rt, b" with")?;
+    tell(rt, b" with")?;
     report_names(rt, more)?;
-    report(rt, b"\n")
+    tell(rt, b"\n")
 }
 
 /// Says what was loaded with the modules that were asked for.

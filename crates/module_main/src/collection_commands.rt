@@ -2,6 +2,7 @@
 
 use crate::given::Given;
 use crate::refusal::Refusal;
+use crate::reports::write_report;
 use collectionfiles::{
     DiskStorage, find_collection, list_collections, read_bytes, read_collection_file,
     remove_collection, save_collection,
@@ -48,8 +49,8 @@ fn refuse_words(words: &[String]) -> Result<(), Refusal> {
     }
 }
 
-/// Writes a part of a report, or a message, to standard error.
-pub(crate) fn report(rt: &HostRuntime, bytes: &[u8]) -> Result<(), Refusal> {
+/// Writes a message to standard error.
+pub(crate) fn tell(rt: &HostRuntime, bytes: &[u8]) -> Result<(), Refusal> {
     match rt.stderr().write_all(bytes) {
         Ok(()) => Ok(()),
         Err(_) => Err(Refusal::WriteFailed),
@@ -61,8 +62,8 @@ fn list(rt: &HostRuntime, given: &Given, words: &[String]) -> Result<(), Refusal
     refuse_words(words)?;
     let mut storage = DiskStorage::new(rt);
     for name in &list_collections(rt.alloc(), &mut storage, &given.env)? {
-        report(rt, name.as_bytes())?;
-        report(rt, b"\n")?;
+        write_report(rt, &given.env, name.as_bytes())?;
+        write_report(rt, &given.env, b"\n")?;
     }
     Ok(())
 }
@@ -86,9 +87,9 @@ fn show(rt: &HostRuntime, given: &Given, words: &[String]) -> Result<(), Refusal
     let site = site_collection(rt);
     let path = find_collection(rt.alloc(), &mut storage, &given.env, site.as_deref(), name)?;
     let bytes = read_bytes(rt.alloc(), &mut storage, path.as_str())?;
-    report(rt, path.as_bytes())?;
-    report(rt, b":\n")?;
-    report(rt, bytes.as_slice())
+    write_report(rt, &given.env, path.as_bytes())?;
+    write_report(rt, &given.env, b":\n")?;
+    write_report(rt, &given.env, bytes.as_slice())
 }
 
 /// Removes a collection.
@@ -103,7 +104,7 @@ fn remove(rt: &HostRuntime, given: &Given, words: &[String]) -> Result<(), Refus
 /// Writes the messages of modulefiles, and then the text for the shell.
 pub(crate) fn write(rt: &HostRuntime, messages: &[String], text: &str) -> Result<(), Refusal> {
     for message in messages {
-        report(rt, message.as_bytes())?;
+        tell(rt, message.as_bytes())?;
     }
     match rt.stdout().write_all(text.as_bytes()) {
         Ok(()) => Ok(()),

@@ -1,10 +1,13 @@
 //! The subcommands that describe modules: `whatis` without names, `keyword`, and `help` with names.
 
-use crate::collection_commands::{report, site_path};
+use crate::collection_commands::site_path;
 use crate::given::Given;
 use crate::refusal::Refusal;
-use descriptions::{Description, HelpText, describe, help};
+use crate::reports::write_report;
+use descriptions::{Description, HelpText, describe_readable, help};
+use envvars::Env;
 use filetree::DiskTree;
+use hidingtree::HidingTree;
 use modules::STANDARD_LIMITS;
 use shelltext::Shell;
 use std::process::ExitCode;
@@ -14,13 +17,13 @@ use subcommands::{Subcommand, subcommand_of};
 const LEFT_OUT: &[u8] = b"Left out:\n";
 
 /// Reports what modules are, and which are left out.
-fn report_description(rt: &HostRuntime, described: &Description) -> Result<(), Refusal> {
-    report(rt, described.text.as_bytes())?;
+fn report_description(rt: &HostRuntime, env: &Env, described: &Description) -> Result<(), Refusal> {
+    write_report(rt, env, described.text.as_bytes())?;
     if described.left_out.as_str().is_empty() {
         return Ok(());
     }
-    report(rt, LEFT_OUT)?;
-    report(rt, described.left_out.as_bytes())
+    write_report(rt, env, LEFT_OUT)?;
+    write_report(rt, env, described.left_out.as_bytes())
 }
 
 /// Reports what all modules are, or those whose report mentions a text.
@@ -30,11 +33,13 @@ fn whatis(
     given: &Given,
     sought: Option<&str>,
 ) -> Result<(), Refusal> {
-    let mut tree = DiskTree::new(rt);
+    let alloc = rt.alloc();
+    let mut tree = HidingTree::new(alloc, DiskTree::new(rt));
     let env = &given.env;
     report_description(
         rt,
-        &describe(rt.alloc(), shell, sought, env, &mut tree, STANDARD_LIMITS)?,
+        env,
+        &describe_readable(alloc, shell, sought, env, &mut tree, STANDARD_LIMITS)?,
     )
 }
 
@@ -47,20 +52,21 @@ fn keyword(rt: &HostRuntime, shell: Shell, given: &Given, words: &[String]) -> R
 }
 
 /// Says where more is said than a description says.
-fn report_manual(rt: &HostRuntime) -> Result<(), Refusal> {
-    report(
+fn report_manual(rt: &HostRuntime, env: &Env) -> Result<(), Refusal> {
+    write_report(
         rt,
+        env,
         b"\"module show NAME\" says what a module does. Manual pages:\n",
     )?;
     let Some(pages) = site_path(rt, "share/man") else {
-        return report(rt, b"  man module\n  man modulefile\n");
+        return write_report(rt, env, b"  man module\n  man modulefile\n");
     };
     for page in ["module", "modulefile"] {
-        report(rt, b"  man -M '")?;
-        report(rt, pages.as_bytes())?;
-        report(rt, b"' ")?;
-        report(rt, page.as_bytes())?;
-        report(rt, b"\n")?;
+        write_report(rt, env, b"  man -M '")?;
+        write_report(rt, env, pages.as_bytes())?;
+        write_report(rt, env, b"' ")?;
+        write_report(rt, env, page.as_bytes())?;
+        write_report(rt, env, b"\n")?;
     }
     Ok(())
 }
@@ -97,9 +103,9 @@ fn help_on(rt: &HostRuntime, shell: Shell, given: &Given, words: &[String]) -> R
         )?;
         is_described = push_help(&mut text, &answer)? || is_described;
     }
-    report(rt, text.as_bytes())?;
+    write_report(rt, &given.env, text.as_bytes())?;
     if is_described {
-        return report_manual(rt);
+        return report_manual(rt, &given.env);
     }
     Ok(())
 }

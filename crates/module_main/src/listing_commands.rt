@@ -1,39 +1,31 @@
-//! The subcommands that say what can be loaded, or is: `avail`, `list` and `is-avail`. Reports go to standard error.
+//! The subcommands that say what can be loaded, or is, and where that is searched: `avail`, `list`, `is-avail`, and `use`
+//! without words.
 
 use crate::given::Given;
+use crate::hints::{MODULEPATH, say_why};
+use crate::refusal::Refusal;
+use crate::reports::{ReportPlace, write_report};
 use envvars::{Env, Vars};
 use filetree::DiskTree;
-use listings::{ListingFault, Terminal, avail_report, is_available, loaded_report};
-use message::RefusalKind;
+use hidingtree::HidingTree;
+use listings::{ListingFault, Terminal, avail_report, is_available_where_readable, loaded_report};
 use modules::STANDARD_LIMITS;
 use shelltext::Shell;
-use std::io::Write;
 use std::process::ExitCode;
 use subcommands::{Subcommand, subcommand_of};
-
-/// The variable that holds how many columns the terminal has, where a report goes to one.
-const COLUMNS: &str = "MODULECMD_COLUMNS";
 
 /// The variable that isn't empty where the terminal shows colours.
 const COLOURS: &str = "MODULECMD_COLOURS";
 
-/// How many columns a terminal has that doesn't say it.
-const USUAL_COLUMNS: u16 = 80;
-
 /// The terminal to which a report goes, where it goes to one.
-fn terminal(env: &Env) -> Option<Terminal> {
-    let columns = env.get(COLUMNS)?;
-    if columns.is_empty() {
-        return None;
+fn terminal(place: ReportPlace, env: &Env) -> Option<Terminal> {
+    match place {
+        ReportPlace::StandardError | ReportPlace::Pipe => None,
+        ReportPlace::Terminal(width) => Some(Terminal {
+            width,
+            coloured: !env.get(COLOURS).unwrap_or("").is_empty(),
+        }),
     }
-    let width = match columns.parse() {
-        Ok(width) => width,
-        Err(_) => USUAL_COLUMNS,
-    };
-    Some(Terminal {
-        width,
-        coloured: !env.get(COLOURS).unwrap_or("").is_empty(),
-    })
 }
 
 /// Says why there is no report, or no answer, and gives the program's status.
@@ -42,19 +34,56 @@ fn refused(rt: &HostRuntime, fault: &ListingFault) -> ExitCode {
     ExitCode::from(1)
 }
 
-/// Writes a report to standard error.
-fn report(rt: &HostRuntime, text: Result<String, ListingFault>) -> ExitCode {
-    match text {
-        Ok(text) => match rt.stderr().write_all(text.as_bytes()) {
-            Ok(()) => ExitCode::SUCCESS,
-            Err(_) => {
-                let message = RefusalKind::WriteFailed.plain().message;
-                let _ = eprintln!(rt; "ERROR: {message}");
-                ExitCode::from(1)
-            }
-        },
-        Err(fault) => refused(rt, &fault),
+/// Writes a report to where it goes.
+fn report(rt: &HostRuntime, place: ReportPlace, text: Result<String, ListingFault>) -> ExitCode {
+    let text = match text {
+        Ok(text) => text,
+        Err(fault) => return refused(rt, &fault),
+    };
+    match place.write(rt, text.as_bytes()) {
+        Ok(()) => ExitCode::SUCCESS,
+        Err(refusal) => refusal.tell(rt),
     }
+}
+
+/// Reports what can be loaded; where that is nothing, a user is told why.
+fn report_avail(rt: &HostRuntime, place: ReportPlace, env: &Env, words: &[String]) -> ExitCode {
+    let alloc = rt.alloc();
+    let mut tree = HidingTree::new(alloc, DiskTree::new(rt));
+    let text = avail_report(
+        alloc,
+        env,
+        words,
+        terminal(place, env),
+        &mut tree,
+        STANDARD_LIMITS,
+    );
+    if place != ReportPlace::StandardError
+        && matches!(&text, Ok(text) if text.as_str().is_empty())
+    {
+        say_why(
+            rt,
+            env,
+            words.iter().any(|word| !word.as_str().starts_with('-')),
+        );
+    }
+    report(rt, place, text)
+}
+
+/// Reports which directories are searched, one a line.
+fn report_directories(rt: &HostRuntime, place: ReportPlace, env: &Env) -> Result<(), Refusal> {
+    let mut is_none = true;
+    for directory in env.get(MODULEPATH).unwrap_or("").split(':') {
+        if !directory.is_empty() {
+            write_report(rt, env, directory.as_bytes())?;
+            write_report(rt, env, b"\n")?;
+            is_none = false;
+        }
+    }
+    if is_none && place != ReportPlace::StandardError {
+        say_why(rt, env, false);
+    }
+    Ok(())
 }
 
 /// Whether one of the names means a module that can be loaded, as the program's status.
@@ -74,19 +103,25 @@ pub fn do_listing_command(rt: &HostRuntime, given: &Given) -> Option<ExitCode> {
     Shell::named(shell.as_str())?;
     let env = &given.env;
     let alloc = rt.alloc();
-    let mut tree = DiskTree::new(rt);
+    let place = ReportPlace::of(rt, env);
     Some(match subcommand_of(word.as_str()) {
-        Ok(Subcommand::Avail) => {
-            let text = avail_report(alloc, env, words, terminal(env), &mut tree, STANDARD_LIMITS);
-            report(rt, text)
-        }
-        Ok(Subcommand::List) => report(rt, loaded_report(alloc, env, words, terminal(env))),
+        Ok(Subcommand::Avail) => report_avail(rt, place, env, words),
+        Ok(Subcommand::List) => report(
+            rt,
+            place,
+            loaded_report(alloc, env, words, terminal(place, env)),
+        ),
         Ok(Subcommand::IsAvail) => {
+            let mut tree = HidingTree::new(alloc, DiskTree::new(rt));
             status(
                 rt,
-                is_available(alloc, env, words, &mut tree, STANDARD_LIMITS),
+                is_available_where_readable(alloc, env, words, &mut tree, STANDARD_LIMITS),
             )
         }
+        Ok(Subcommand::Use) if words.is_empty() => match report_directories(rt, place, env) {
+            Ok(()) => ExitCode::SUCCESS,
+            Err(refusal) => refusal.tell(rt),
+        },
         _ => return None,
     })
 }

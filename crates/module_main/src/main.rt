@@ -5,24 +5,36 @@
 
 mod automatic_commands;
 mod collection_commands;
+mod completing;
 mod description_commands;
+mod explaining;
 mod given;
+mod hints;
 mod listing_commands;
 mod missing;
+mod own_commands;
 mod program;
 mod refusal;
+mod reports;
+mod shown_modules;
+mod unloaded;
 
 use automatic_commands::do_automatic_command;
 use collection_commands::do_collection_command;
+use completing::do_names_command;
 use description_commands::do_description_command;
+use explaining::do_explain;
 use functioncommand::{FunctionOutput, function_output};
 use given::Given;
 use listing_commands::do_listing_command;
 use message::{Message, RefusalKind};
 use missing::MissingDirectories;
+use own_commands::do_own_command;
 use program::{Program, called_as};
+use shown_modules::do_module_report;
 use std::io::Write;
 use std::process::ExitCode;
+use unloaded::do_unloaded;
 
 /// Says why there is no output, and with which status the program ends.
 fn refused(rt: &HostRuntime, message: Message) -> ExitCode {
@@ -38,22 +50,26 @@ fn print(rt: &HostRuntime, output: &FunctionOutput) -> ExitCode {
     ExitCode::from(output.status)
 }
 
+/// Does the command where it is one of these, and gives the status with which the process ends.
+fn do_one(rt: &HostRuntime, given: &Given) -> Option<ExitCode> {
+    do_own_command(rt, given)
+        .or_else(|| do_names_command(rt, given))
+        .or_else(|| do_explain(rt, given))
+        .or_else(|| do_unloaded(rt, given))
+        .or_else(|| do_collection_command(rt, given))
+        .or_else(|| do_automatic_command(rt, given))
+        .or_else(|| do_description_command(rt, given))
+        .or_else(|| do_module_report(rt, given))
+        .or_else(|| do_listing_command(rt, given))
+}
+
 /// Does the command of the process's arguments, and gives the status with which the process ends.
 fn run_module(rt: &HostRuntime) -> ExitCode {
     let given = match Given::read(rt) {
         Ok(given) => given,
         Err(refusal) => return refused(rt, refusal.message),
     };
-    if let Some(status) = do_collection_command(rt, &given) {
-        return status;
-    }
-    if let Some(status) = do_automatic_command(rt, &given) {
-        return status;
-    }
-    if let Some(status) = do_description_command(rt, &given) {
-        return status;
-    }
-    if let Some(status) = do_listing_command(rt, &given) {
+    if let Some(status) = do_one(rt, &given) {
         return status;
     }
     let working = match &given.working {

@@ -1,0 +1,104 @@
+//! Names for completion by shells: `names KIND [TEXT]`, `names at module|ml WORD...`, and `names line`, which is tcsh's. They go
+//! to standard output, one a line; where there are none, or something is refused, nothing is said.
+
+use crate::given::Given;
+use collectionfiles::{DiskStorage, list_collections};
+use completions::{NameKind, caller_named, kind_named, kinds_at, names_of, read_line};
+use envvars::Vars;
+use filetree::DiskTree;
+use modules::STANDARD_LIMITS;
+use std::io::Write;
+use std::process::ExitCode;
+
+/// The word behind the shell's name that asks for names.
+const NAMES: &str = "names";
+
+/// The variable in which tcsh hands the line that is typed.
+const COMMAND_LINE: &str = "COMMAND_LINE";
+
+/// Writes a name; where it can't be written, nothing more can be done about it.
+fn write_name(rt: &HostRuntime, name: &str) {
+    let _ = writeln!(rt.stdout(), "{name}");
+}
+
+/// Writes the names of the collections.
+fn write_collections(rt: &HostRuntime, given: &Given) {
+    let mut storage = DiskStorage::new(rt);
+    if let Ok(names) = list_collections(rt.alloc(), &mut storage, &given.env) {
+        for name in &names {
+            write_name(rt, name.as_str());
+        }
+    }
+}
+
+/// Writes the names of a kind, of which those of modules that can be loaded begin with a word.
+fn write_kind(rt: &HostRuntime, given: &Given, kind: NameKind, word: &str) {
+    if kind == NameKind::Collections {
+        return write_collections(rt, given);
+    }
+    let mut tree = DiskTree::new(rt);
+    if let Ok(names) = names_of(
+        rt.alloc(),
+        kind,
+        &given.env,
+        word,
+        &mut tree,
+        STANDARD_LIMITS,
+    ) {
+        for name in &names {
+            write_name(rt, name.as_str());
+        }
+    }
+}
+
+/// Writes the names of some kinds.
+fn write_kinds(rt: &HostRuntime, given: &Given, kinds: &[NameKind], word: &str) {
+    for kind in kinds {
+        write_kind(rt, given, *kind, word);
+    }
+}
+
+/// Writes what can stand where the last of the words is typed.
+fn write_place(rt: &HostRuntime, given: &Given, caller: &str, words: &[String]) {
+    let ([before @ .., word], Some(caller)) = (words, caller_named(caller)) else {
+        return;
+    };
+    let kinds = kinds_at(caller, before, word.as_str());
+    write_kinds(rt, given, kinds, word.as_str());
+}
+
+/// Writes what can stand at the end of the line in COMMAND_LINE.
+fn write_line(rt: &HostRuntime, given: &Given) {
+    let line = given.env.get(COMMAND_LINE).unwrap_or("");
+    if let Ok(Some(line)) = read_line(rt.alloc(), line) {
+        let kinds = kinds_at(line.caller, line.before.as_slice(), line.word.as_str());
+        write_kinds(rt, given, kinds, line.word.as_str());
+    }
+}
+
+/// Writes the names of a kind by its own name.
+fn write_named(rt: &HostRuntime, given: &Given, name: &str, words: &[String]) {
+    let word = match words {
+        [word, ..] => word.as_str(),
+        [] => "",
+    };
+    if let Some(kind) = kind_named(name) {
+        write_kind(rt, given, kind, word);
+    }
+}
+
+/// Does the command, where it asks for names, and gives the program's status.
+pub fn do_names_command(rt: &HostRuntime, given: &Given) -> Option<ExitCode> {
+    let [_, command, asked, words @ ..] = given.arguments.as_slice() else {
+        return None;
+    };
+    if command.as_str() != NAMES {
+        return None;
+    }
+    match (asked.as_str(), words) {
+        ("at", [caller, words @ ..]) => write_place(rt, given, caller.as_str(), words),
+        ("line", _) => write_line(rt, given),
+        (name, _) => write_named(rt, given, name, words),
+    }
+    Some(ExitCode::SUCCESS)
+}
