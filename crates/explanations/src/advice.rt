@@ -1,4 +1,7 @@
 //! What to do about a refusal: a request that would be accepted, or what is known.
+ghost use Rattle.std.specs.Prelude.{IfOk, IfSome};
+ghost use Rattle.filetree.specs.Agreement.{Narrows};
+ghost use Rattle.explanations.specs.Explained.{IsSound};
 
 use crate::alike::names_like;
 use crate::left_out::instead_of;
@@ -34,7 +37,11 @@ fn accepted<T: Tree>(
     refused: RefusedRequest<'_>,
     tree: &mut T,
     action: Action,
-) -> Result<Option<Advice>, Refusal> {
+) -> Result<Option<Advice>, Refusal>
+    ensures narrows { Narrows (T.agrees tree.old) (T.agrees tree.new) }
+    ensures advised { IfOk result (λ o. IfSome o (IsSound (T.agrees tree.new) refused.entry.limits
+        refused.entry.request.now.shell refused.entry.env.now)) }
+{
     let request = Request {
         shell: refused.request.shell,
         action,
@@ -52,7 +59,11 @@ fn switch_to_one<T: Tree>(
     tree: &mut T,
     other: &str,
     names: &[String],
-) -> Result<Option<Advice>, Refusal> {
+) -> Result<Option<Advice>, Refusal>
+    ensures narrows { Narrows (T.agrees tree.old) (T.agrees tree.new) }
+    ensures advised { IfOk result (λ o. IfSome o (IsSound (T.agrees tree.new) refused.entry.limits
+        refused.entry.request.now.shell refused.entry.env.now)) }
+{
     for name in names {
         let old = String::from_str(refused.alloc, other)?;
         let switch = Action::Switch(Some(old), name.clone()?);
@@ -68,7 +79,11 @@ fn for_conflict<T: Tree>(
     refused: RefusedRequest<'_>,
     tree: &mut T,
     other: &str,
-) -> Result<Option<Advice>, Refusal> {
+) -> Result<Option<Advice>, Refusal>
+    ensures narrows { Narrows (T.agrees tree.old) (T.agrees tree.new) }
+    ensures advised { IfOk result (λ o. IfSome o (IsSound (T.agrees tree.new) refused.entry.limits
+        refused.entry.request.now.shell refused.entry.env.now)) }
+{
     let alloc = refused.alloc;
     if !is_loaded(loaded(alloc, refused.env)?.as_slice(), other) {
         return Ok(None);
@@ -83,7 +98,9 @@ fn for_conflict<T: Tree>(
 }
 
 /// Whether one of these names is found.
-fn is_one_found<T: Tree>(refused: RefusedRequest<'_>, tree: &mut T, names: &[String]) -> bool {
+fn is_one_found<T: Tree>(refused: RefusedRequest<'_>, tree: &mut T, names: &[String]) -> bool
+    ensures narrows { Narrows (T.agrees tree.old) (T.agrees tree.new) }
+{
     for name in names {
         if locate(
             refused.alloc,
@@ -105,7 +122,11 @@ fn for_need<T: Tree>(
     refused: RefusedRequest<'_>,
     tree: &mut T,
     missing: &MissingNames,
-) -> Result<Option<Advice>, Refusal> {
+) -> Result<Option<Advice>, Refusal>
+    ensures narrows { Narrows (T.agrees tree.old) (T.agrees tree.new) }
+    ensures advised { IfOk result (λ o. IfSome o (IsSound (T.agrees tree.new) refused.entry.limits
+        refused.entry.request.now.shell refused.entry.env.now)) }
+{
     let alloc = refused.alloc;
     let Action::Load(asked) = &refused.request.action else {
         return Ok(None);
@@ -125,10 +146,11 @@ fn for_need<T: Tree>(
 }
 
 /// For an unload of what others need: the unload with these.
-fn for_needed<T: Tree>(
-    refused: RefusedRequest<'_>,
-    tree: &mut T,
-) -> Result<Option<Advice>, Refusal> {
+fn for_needed<T: Tree>(refused: RefusedRequest<'_>, tree: &mut T) -> Result<Option<Advice>, Refusal>
+    ensures narrows { Narrows (T.agrees tree.old) (T.agrees tree.new) }
+    ensures advised { IfOk result (λ o. IfSome o (IsSound (T.agrees tree.new) refused.entry.limits
+        refused.entry.request.now.shell refused.entry.env.now)) }
+{
     let alloc = refused.alloc;
     let Action::Unload(asked) = &refused.request.action else {
         return Ok(None);
@@ -144,7 +166,9 @@ fn for_needed<T: Tree>(
 }
 
 /// Whether one of the directories of MODULEPATH may be there.
-fn is_one_there<T: Tree>(tree: &mut T, modulepath: &str) -> bool {
+fn is_one_there<T: Tree>(tree: &mut T, modulepath: &str) -> bool
+    ensures narrows { Narrows (T.agrees tree.old) (T.agrees tree.new) }
+{
     for directory in modulepath.split(':') {
         if directory.is_empty() {
             continue;
@@ -158,7 +182,7 @@ fn is_one_there<T: Tree>(tree: &mut T, modulepath: &str) -> bool {
 }
 
 /// The names that may be meant, as a question.
-fn question(alloc: Global, names: &[String]) -> Result<Option<Advice>, AllocError> {
+fn question(alloc: Global, names: &[String]) -> Result<Option<String>, AllocError> {
     let [first, others @ ..] = names else {
         return Ok(None);
     };
@@ -168,7 +192,7 @@ fn question(alloc: Global, names: &[String]) -> Result<Option<Advice>, AllocErro
         line.push_str(other.as_str())?;
     }
     line.push('?')?;
-    Ok(Some(Advice::Known(line)))
+    Ok(Some(line))
 }
 
 /// For a name that isn't found: names that are like it, or that nothing is searched.
@@ -176,7 +200,11 @@ fn for_unknown<T: Tree>(
     refused: RefusedRequest<'_>,
     tree: &mut T,
     name: &str,
-) -> Result<Option<Advice>, Refusal> {
+) -> Result<Option<Advice>, Refusal>
+    ensures narrows { Narrows (T.agrees tree.old) (T.agrees tree.new) }
+    ensures advised { IfOk result (λ o. IfSome o (IsSound (T.agrees tree.new) refused.entry.limits
+        refused.entry.request.now.shell refused.entry.env.now)) }
+{
     let alloc = refused.alloc;
     let modulepath = refused.modulepath();
     if modulepath.is_empty() {
@@ -191,13 +219,8 @@ fn for_unknown<T: Tree>(
         return Ok(Some(Advice::Known(line)));
     }
     let names = names_like(alloc, name, modulepath, tree, refused.limits)?;
-    Ok(question(alloc, names.as_slice())?)
-}
-
-/// For what is left out: what stands in its place.
-fn for_left_out(alloc: Global, name: &str) -> Result<Option<Advice>, AllocError> {
-    match instead_of(name) {
-        Some(sentence) => Ok(Some(Advice::Known(String::from_str(alloc, sentence)?))),
+    match question(alloc, names.as_slice())? {
+        Some(line) => Ok(Some(Advice::Known(line))),
         None => Ok(None),
     }
 }
@@ -207,15 +230,20 @@ pub(crate) fn advice_for<T: Tree>(
     refused: RefusedRequest<'_>,
     tree: &mut T,
     refusal: &Refusal,
-) -> Result<Option<Advice>, Refusal> {
+) -> Result<Option<Advice>, Refusal>
+    ensures narrows { Narrows (T.agrees tree.old) (T.agrees tree.new) }
+    ensures advised { IfOk result (λ o. IfSome o (IsSound (T.agrees tree.new) refused.entry.limits
+        refused.entry.request.now.shell refused.entry.env.now)) }
+{
     match refusal {
         Refusal::ConflictWith(other) => for_conflict(refused, tree, other.as_str()),
         Refusal::PrereqMissing(missing) => for_need(refused, tree, missing),
         Refusal::StillNeededBy(_) => for_needed(refused, tree),
         Refusal::Find(FindFault::NotFound(name)) => for_unknown(refused, tree, name.as_str()),
-        Refusal::Run(RunFault::Eval(EvalFault::LeftOut(name))) => {
-            Ok(for_left_out(refused.alloc, name.as_str())?)
-        }
+        Refusal::Run(RunFault::Eval(EvalFault::LeftOut(name))) => match instead_of(name.as_str()) {
+            Some(line) => Ok(Some(Advice::Known(String::from_str(refused.alloc, line)?))),
+            None => Ok(None),
+        },
         _ => Ok(None),
     }
 }

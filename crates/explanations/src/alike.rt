@@ -1,4 +1,5 @@
 //! Names of modules that are like one that isn't found.
+ghost use Rattle.filetree.specs.Agreement.{Narrows};
 
 use filetree::Tree;
 use lookup::available;
@@ -51,7 +52,9 @@ pub(crate) fn names_like<T: Tree>(
     modulepath: &str,
     tree: &mut T,
     limits: Limits,
-) -> Result<Vec<String>, AllocError> {
+) -> Result<Vec<String>, AllocError>
+    ensures narrows { Narrows (T.agrees tree.old) (T.agrees tree.new) }
+{
     let typed = in_small_letters(alloc, typed)?;
     let mut names: Vec<String> = Vec::new(alloc);
     let Ok(listings) = available(alloc, tree, modulepath, limits) else {

@@ -1,4 +1,5 @@
 //! The files of which one is refused in a request, each with what it is evaluated under.
+ghost use Rattle.filetree.specs.Agreement.{Narrows};
 
 use crate::refused::RefusedRequest;
 use envloaded::{loaded, names_of};
@@ -75,7 +76,9 @@ fn found<T: Tree>(
     name: &str,
     env: &Env,
     tree: &mut T,
-) -> Result<Option<(String, String)>, Refusal> {
+) -> Result<Option<(String, String)>, Refusal>
+    ensures narrows { Narrows (T.agrees tree.old) (T.agrees tree.new) }
+{
     let modulepath = env.get("MODULEPATH").unwrap_or("");
     match locate(refused.alloc, tree, modulepath, name, refused.limits) {
         Ok(module) => Ok(Some((module.name, module.path))),
@@ -90,7 +93,9 @@ fn file_of<T: Tree>(
     part: NamePart<'_>,
     env: &Env,
     tree: &mut T,
-) -> Result<Option<EvaluatedFile>, Refusal> {
+) -> Result<Option<EvaluatedFile>, Refusal>
+    ensures narrows { Narrows (T.agrees tree.old) (T.agrees tree.new) }
+{
     let alloc = refused.alloc;
     let module = match part.mode {
         Mode::Unload => recorded(alloc, part.name, env)?,
@@ -116,7 +121,9 @@ fn files_of<T: Tree>(
     refused: RefusedRequest<'_>,
     parts: &[NamePart<'_>],
     tree: &mut T,
-) -> Result<Vec<EvaluatedFile>, Refusal> {
+) -> Result<Vec<EvaluatedFile>, Refusal>
+    ensures narrows { Narrows (T.agrees tree.old) (T.agrees tree.new) }
+{
     let mut files = Vec::new(refused.alloc);
     let mut env = refused.env.copy()?;
     for part in parts {
@@ -181,7 +188,9 @@ fn parts_of_switch<'a>(
 pub(crate) fn evaluated_files<T: Tree>(
     refused: RefusedRequest<'_>,
     tree: &mut T,
-) -> Result<Vec<EvaluatedFile>, Refusal> {
+) -> Result<Vec<EvaluatedFile>, Refusal>
+    ensures narrows { Narrows (T.agrees tree.old) (T.agrees tree.new) }
+{
     let alloc = refused.alloc;
     let mut unloaded = loaded_names(alloc, refused.env)?;
     unloaded.reverse();

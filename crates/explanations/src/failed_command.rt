@@ -1,4 +1,8 @@
 //! The command of a refused file that failed, by trials of its text.
+ghost use Rattle.std.specs.Prelude.{IfOk, IfSome};
+ghost use Rattle.envvars.specs.Texts.{Text};
+ghost use Rattle.explanations.specs.Failing.{HasFailed};
+ghost use Rattle.explanations.specs.Views.{HasFailedWithin, IsInwards, context_in, place_view, words_view};
 
 use crate::bodies::bodies_of;
 use crate::commands::{CommandPlace, Part, places_of, script_of};
@@ -22,7 +26,10 @@ fn failed_in(
     left: &mut u32,
     text: &[u8],
     part: Part,
-) -> Result<Option<CommandPlace>, AllocError> {
+) -> Result<Option<CommandPlace>, AllocError>
+    ensures { IfOk result (λ o. IfSome o (λ place. HasFailed refused.entry.limits (context_in refused.entry)
+        (words_view refused.entry.words.now) text.now (place_view place))) }
+{
     let Ok(script) = script_of(refused.alloc, text, part) else {
         return Ok(None);
     };
@@ -36,7 +43,10 @@ fn failed_in_one(
     left: &mut u32,
     text: &[u8],
     parts: &[Part],
-) -> Result<Option<CommandPlace>, AllocError> {
+) -> Result<Option<CommandPlace>, AllocError>
+    ensures { IfOk result (λ o. IfSome o (λ place. HasFailed refused.entry.limits (context_in refused.entry)
+        (words_view refused.entry.words.now) text.now (place_view place))) }
+{
     for part in parts {
         if let Some(place) = failed_in(refused, left, text, *part)? {
             return Ok(Some(place));
@@ -50,7 +60,9 @@ fn inwards(
     refused: RefusedFile<'_>,
     left: &mut u32,
     failed: &FailedCommand,
-) -> Result<Option<FailedCommand>, AllocError> {
+) -> Result<Option<FailedCommand>, AllocError>
+    ensures { IfOk result (λ o. IfSome o (IsInwards refused.entry failed.now)) }
+{
     let place = failed.place;
     let text = blanked(
         refused.alloc,
@@ -69,7 +81,9 @@ fn inwards(
 pub(crate) fn failed_command(
     refused: RefusedFile<'_>,
     file: &[u8],
-) -> Result<Option<FailedCommand>, AllocError> {
+) -> Result<Option<FailedCommand>, AllocError>
+    ensures { IfOk result (λ o. IfSome o (HasFailedWithin refused.entry file.now)) }
+{
     let mut left = MOST_TRIALS;
     let Some(place) = failed_in(refused, &mut left, file, Part::whole(file))? else {
         return Ok(None);

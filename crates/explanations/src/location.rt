@@ -1,4 +1,11 @@
 //! Which command of which file failed.
+ghost use Rattle.std.specs.Prelude.{◌≡◌, false, is_none, IfOk, IfSome, string_bytes};
+ghost use Rattle.filetree.specs.Agreement.{Narrows};
+ghost use Rattle.modulerun.specs.Running.{file_reason_of};
+ghost use Rattle.explanations.specs.Cuts.{line_of};
+ghost use Rattle.explanations.specs.Failing.{words_of};
+ghost use Rattle.explanations.specs.Locations.{IsLocation, IsThere, Locates};
+ghost use Rattle.explanations.specs.Views.{context_in, words_view};
 
 use crate::commands::{CommandPlace, Part};
 use crate::cuts::{blanked, line_of};
@@ -54,7 +61,11 @@ fn located(
     text: &str,
     place: CommandPlace,
     messages: Vec<String>,
-) -> Result<FileExplanation, AllocError> {
+) -> Result<FileExplanation, AllocError>
+    ensures module { IfOk result (λ x. string_bytes x.module ≡ refused.entry.context.now.name.now) }
+    ensures path { IfOk result (λ x. string_bytes x.path ≡ refused.entry.context.now.path.now) }
+    ensures line { IfOk result (λ x. x.line ≡ line_of text.now place.begin) }
+{
     let part = Part {
         begin: place.begin,
         end: place.end,
@@ -69,10 +80,10 @@ fn located(
 }
 
 /// Where this file failed, if it is shown to have, by its text.
-fn explain_text(
-    refused: RefusedFile<'_>,
-    text: &str,
-) -> Result<Option<FileExplanation>, AllocError> {
+fn explain_text(refused: RefusedFile<'_>, text: &str) -> Result<Option<FileExplanation>, AllocError>
+    ensures { IfOk result (λ o. IfSome o (IsLocation refused.entry.limits (context_in refused.entry)
+        (words_view refused.entry.words.now) text.now)) }
+{
     if !is_refused_so(refused, text)? {
         return Ok(None);
     }
@@ -88,7 +99,10 @@ fn script_if_there<T: Tree>(
     alloc: Global,
     tree: &mut T,
     path: &str,
-) -> Result<Option<String>, AllocError> {
+) -> Result<Option<String>, AllocError>
+    ensures narrows { Narrows (T.agrees tree.old) (T.agrees tree.new) }
+    ensures there { IfOk result (λ o. IfSome o (λ text. IsThere (T.agrees tree.new) path.now (string_bytes text))) }
+{
     match script_at(alloc, tree, path) {
         Ok(text) => Ok(Some(text)),
         Err(Refusal::OutOfMemory | Refusal::Find(FindFault::OutOfMemory)) => Err(AllocError),
@@ -102,7 +116,11 @@ fn explain_in<T: Tree>(
     words: &RefusalWords,
     file: &EvaluatedFile,
     tree: &mut T,
-) -> Result<Option<FileExplanation>, AllocError> {
+) -> Result<Option<FileExplanation>, AllocError>
+    ensures narrows { Narrows (T.agrees tree.old) (T.agrees tree.new) }
+    ensures located { IfOk result (λ o. IfSome o (
+        Locates (T.agrees tree.new) refused.entry.limits (words_view words.now))) }
+{
     let Some(text) = script_if_there(refused.alloc, tree, file.path.as_str())? else {
         return Ok(None);
     };
@@ -131,7 +149,11 @@ fn explain_one<T: Tree>(
     words: &RefusalWords,
     files: &[EvaluatedFile],
     tree: &mut T,
-) -> Result<Option<FileExplanation>, AllocError> {
+) -> Result<Option<FileExplanation>, AllocError>
+    ensures narrows { Narrows (T.agrees tree.old) (T.agrees tree.new) }
+    ensures located { IfOk result (λ o. IfSome o (
+        Locates (T.agrees tree.new) refused.entry.limits (words_view words.now))) }
+{
     for file in files {
         if let Some(explained) = explain_in(refused, words, file, tree)? {
             return Ok(Some(explained));
@@ -149,7 +171,12 @@ pub(crate) fn explain_file<T: Tree>(
     refused: RefusedRequest<'_>,
     fault: &RunFault,
     tree: &mut T,
-) -> Result<Option<FileExplanation>, Refusal> {
+) -> Result<Option<FileExplanation>, Refusal>
+    ensures narrows { Narrows (T.agrees tree.old) (T.agrees tree.new) }
+    ensures caused { IfOk result (λ o. IfSome o (λ x. is_none (file_reason_of fault.now) ≡ false)) }
+    ensures located { IfOk result (λ o. IfSome o (
+        Locates (T.agrees tree.new) refused.entry.limits (words_of fault.now))) }
+{
     if wants_memory(fault) {
         return Ok(None);
     }

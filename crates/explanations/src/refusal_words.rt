@@ -1,4 +1,8 @@
 //! The words in which a file is refused, by which two refusals are compared.
+ghost use Rattle.std.specs.Prelude.{◌≡◌, IfOk, string_bytes};
+ghost use Rattle.std.specs.Option.{option_map};
+ghost use Rattle.explanations.specs.Failing as failing;
+ghost use Rattle.explanations.specs.Views.{words_view};
 
 use modules::{EvalFault, RunFault};
 use std::alloc::{AllocError, Global};
@@ -12,7 +16,9 @@ pub(crate) struct RefusalWords {
 }
 
 /// The message of an error of Tcl.
-fn message_in(fault: &EvalFault) -> Option<&str> {
+fn message_in(fault: &EvalFault) -> Option<&str>
+    ensures { option_map (λ t. t.now) result ≡ failing.message_in fault.entry.now }
+{
     match fault {
         EvalFault::TclError(message, _) => Some(message.as_str()),
         _ => None,
@@ -20,7 +26,9 @@ fn message_in(fault: &EvalFault) -> Option<&str> {
 }
 
 /// The message of an error of Tcl that refused a file.
-fn tcl_message(fault: &RunFault) -> Option<&str> {
+fn tcl_message(fault: &RunFault) -> Option<&str>
+    ensures { option_map (λ t. t.now) result ≡ failing.tcl_message fault.entry.now }
+{
     match fault {
         RunFault::Eval(fault) => message_in(fault),
         _ => None,
@@ -28,7 +36,9 @@ fn tcl_message(fault: &RunFault) -> Option<&str> {
 }
 
 /// The text of a fault, without the line.
-fn text_of(alloc: Global, fault: &RunFault) -> Result<String, AllocError> {
+fn text_of(alloc: Global, fault: &RunFault) -> Result<String, AllocError>
+    ensures { IfOk result (λ text. string_bytes text ≡ failing.text_of fault.now) }
+{
     match tcl_message(fault) {
         Some(message) => String::from_str(alloc, message),
         None => fault.to_string(alloc),
@@ -37,7 +47,9 @@ fn text_of(alloc: Global, fault: &RunFault) -> Result<String, AllocError> {
 
 impl RefusalWords {
     /// The words of this fault.
-    pub(crate) fn of(alloc: Global, fault: &RunFault) -> Result<RefusalWords, AllocError> {
+    pub(crate) fn of(alloc: Global, fault: &RunFault) -> Result<RefusalWords, AllocError>
+        ensures { IfOk result (λ words. words_view words ≡ failing.words_of fault.now) }
+    {
         Ok(RefusalWords {
             number: fault.number(),
             text: text_of(alloc, fault)?,
@@ -45,7 +57,9 @@ impl RefusalWords {
     }
 
     /// Whether they are the same.
-    pub(crate) fn are(&self, others: &RefusalWords) -> bool {
+    pub(crate) fn are(&self, others: &RefusalWords) -> bool
+        ensures { result ≡ failing.are_same (words_view self.now) (words_view others.now) }
+    {
         self.number == others.number && self.text.as_str() == others.text.as_str()
     }
 }

@@ -1,4 +1,11 @@
 //! A modulefile evaluated once more, with another text.
+ghost use Rattle.std.specs.Prelude.{◌≡◌, true, is_none, IfOk, IfSome};
+ghost use Rattle.envvars.specs.Reasons.{reason_of};
+ghost use Rattle.modulefile.specs.RecordViews.{fault_reason};
+ghost use Rattle.modulerun.specs.Running.{eval_reason, file_reason_of};
+ghost use Rattle.explanations.specs.Cuts as cuts;
+ghost use Rattle.explanations.specs.Failing.{HasFailed, IsRefusedSo};
+ghost use Rattle.explanations.specs.Views.{RunsText, context_in, place_view, words_view};
 
 use crate::commands::CommandPlace;
 use crate::cuts::blanked;
@@ -23,7 +30,9 @@ pub(crate) struct RefusedFile<'a> {
 }
 
 /// Evaluates this text as that of the file. The environment doesn't change.
-pub(crate) fn run_text(refused: RefusedFile<'_>, text: &str) -> Result<FileRun, RunFault> {
+pub(crate) fn run_text(refused: RefusedFile<'_>, text: &str) -> Result<FileRun, RunFault>
+    ensures { RunsText refused.entry.limits (context_in refused.entry) text.now result }
+{
     let mut working = WorkingCopy::over(refused.env);
     run_file(
         refused.alloc,
@@ -35,7 +44,9 @@ pub(crate) fn run_text(refused: RefusedFile<'_>, text: &str) -> Result<FileRun, 
 }
 
 /// Whether memory ran out in an edit.
-fn edit_wants_memory(fault: &EnvFault) -> bool {
+fn edit_wants_memory(fault: &EnvFault) -> bool
+    ensures { result ≡ is_none (reason_of fault.now) }
+{
     match fault {
         EnvFault::OutOfMemory => true,
         EnvFault::BadVariable(_)
@@ -48,7 +59,9 @@ fn edit_wants_memory(fault: &EnvFault) -> bool {
 }
 
 /// Whether memory ran out in a record.
-fn record_wants_memory(fault: &RecordFault) -> bool {
+fn record_wants_memory(fault: &RecordFault) -> bool
+    ensures { result ≡ is_none (fault_reason fault.now) }
+{
     match fault {
         RecordFault::Env(fault) => edit_wants_memory(fault),
         RecordFault::BadModuleName(_) => false,
@@ -56,7 +69,9 @@ fn record_wants_memory(fault: &RecordFault) -> bool {
 }
 
 /// Whether memory ran out in the evaluation.
-fn evaluation_wants_memory(fault: &EvalFault) -> bool {
+fn evaluation_wants_memory(fault: &EvalFault) -> bool
+    ensures { result ≡ is_none (eval_reason fault.now None) }
+{
     match fault {
         EvalFault::OutOfMemory => true,
         EvalFault::Text(_)
@@ -73,7 +88,9 @@ fn evaluation_wants_memory(fault: &EvalFault) -> bool {
 }
 
 /// Whether a file was refused for want of memory.
-pub(crate) fn wants_memory(fault: &RunFault) -> bool {
+pub(crate) fn wants_memory(fault: &RunFault) -> bool
+    ensures { result ≡ is_none (file_reason_of fault.now) }
+{
     match fault {
         RunFault::OutOfMemory => true,
         RunFault::Eval(fault) => evaluation_wants_memory(fault),
@@ -85,7 +102,10 @@ pub(crate) fn wants_memory(fault: &RunFault) -> bool {
 /// Whether a text is refused in the same words.
 ///
 /// It fails for want of memory, in the evaluation too.
-pub(crate) fn is_refused_so(refused: RefusedFile<'_>, text: &str) -> Result<bool, AllocError> {
+pub(crate) fn is_refused_so(refused: RefusedFile<'_>, text: &str) -> Result<bool, AllocError>
+    ensures { IfOk result (IsRefusedSo refused.entry.limits (context_in refused.entry) text.now
+        (words_view refused.entry.words.now)) }
+{
     match run_text(refused, text) {
         Ok(_) => Ok(false),
         Err(fault) => {
@@ -105,7 +125,10 @@ fn is_refused_cut(
     text: &[u8],
     begin: usize,
     end: usize,
-) -> Result<Option<bool>, AllocError> {
+) -> Result<Option<bool>, AllocError>
+    ensures { IfOk result (λ o. IfSome o (IsRefusedSo refused.entry.limits (context_in refused.entry)
+        (cuts.blanked text.now begin end) (words_view refused.entry.words.now))) }
+{
     let cut = blanked(refused.alloc, text, begin, end)?;
     let Ok(cut) = str::from_utf8(cut.as_slice()) else {
         return Ok(None);
@@ -119,7 +142,10 @@ fn has_failed(
     refused: RefusedFile<'_>,
     text: &[u8],
     place: CommandPlace,
-) -> Result<bool, AllocError> {
+) -> Result<bool, AllocError>
+    ensures { IfOk result (λ b. b ≡ true → HasFailed refused.entry.limits (context_in refused.entry)
+        (words_view refused.entry.words.now) text.now (place_view place)) }
+{
     let Some(behind) = is_refused_cut(refused, text, place.end, place.script_end)? else {
         return Ok(false);
     };
@@ -155,7 +181,10 @@ pub(crate) fn failed_one(
     left: &mut u32,
     text: &[u8],
     places: &[CommandPlace],
-) -> Result<Option<CommandPlace>, AllocError> {
+) -> Result<Option<CommandPlace>, AllocError>
+    ensures { IfOk result (λ o. IfSome o (λ place. HasFailed refused.entry.limits (context_in refused.entry)
+        (words_view refused.entry.words.now) text.now (place_view place))) }
+{
     let Some(place) = likely_one(refused, left, text, places)? else {
         return Ok(None);
     };

@@ -1,0 +1,4 @@
+pub mod TrialLemmas
+pub mod FailedLemmas
+pub mod LocationLemmas
+pub mod ExplainedLemmas
