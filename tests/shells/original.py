@@ -53,6 +53,21 @@ BOTH = (
     ["use", "b"],
 )
 
+# Commands as a user types them, by the function of either: other names, beginnings and options.
+CHAIN = (
+    "av", "avail foo", "li", "list -t", "is-avail foo", "is-avail nope", "load foo/1.0", "load bar", "li", "is-loaded foo",
+    "is-loaded nope", "whatis foo", "wh", "keyword foo", "apropos A", "display foo/1.0", "show bar", "sw foo foo/2.0",
+    "switch foo/1.0", "swap foo/2.0", "is-loaded foo/2.0", "load foo/2.0", "load nope", "add baz", "unload bar", "rm bar",
+    "del baz", "remove foo", "load --auto baz", "unload --auto foo", "pu", "load foo/1.0 bar", "use a", "use -a b",
+    "use --append 'c d'", "unuse a", "unuse never", "save", "save one", "savelist", "saveshow one", "restore",
+    "restore one", "purge", "restore one", "reload", "rel", "saverm one", "saverm one", "restore one", "av -t", "avail -d",
+    "avail -L", "avail --latest foo", "avail -C oo", "avail -i FOO", "avail -t foo nope", "list", "list -t foo", "purge",
+    "load", "unload", "switch", "help", "-V", "--version", "-h", "-t list", "-t avail foo", "spider", "use",
+)  # fmt: skip
+
+# Beginnings that mean a subcommand here alone: any that begins the names of one will do (module(1)).
+MORE = ("is-l foo", "savel", "unu never")
+
 # Where the program of Environment Modules can be.
 PLACES = ("/usr/lib/*/modulecmd.tcl", f"{TOP}/build/bench/environment-modules/usr/lib/*/modulecmd.tcl")
 
@@ -125,7 +140,12 @@ def ours(product):
 @pytest.fixture
 def here(folder, product):
     """Modules, and directories to use."""
-    for name, body in (("foo/1.0", "setenv FOO 1\n"), ("foo/2.0", "setenv FOO 2\n"), ("bar/1", "setenv BAR 1\n")):
+    for name, body in (
+        ("foo/1.0", "setenv FOO 1\nmodule-whatis {a foo}\n"),
+        ("foo/2.0", "setenv FOO 2\n"),
+        ("bar/1", "setenv BAR 1\n"),
+        ("baz/3", "prereq foo\nprepend-path PATH /opt/baz\n"),
+    ):
         folder.module(name, body)
     for name in ("a", "b", "c d"):
         os.mkdir(os.path.join(folder.path.decode(), name))
@@ -164,3 +184,30 @@ def test_each_reads_the_collections_of_the_other(here, folder, ours, theirs):
         for command in (ours(["restore", name]), theirs(["restore", name])):
             found, status = environment_after(command, here.env, place)
             same((status, kept(found)), (0, kept(env)), f"what {command[0]} restores of {name}")
+
+
+def behind_each(function, commands, env, place):
+    """What a bash that has a function of one of both has behind each of some commands: a line each."""
+    shown = '"$?" "${LOADEDMODULES-none}" "${FOO-none}" "${BAR-none}" "${MODULEPATH-none}" "$PATH"'
+    lines = [function, *(f"module {it} > /dev/null 2>&1; printf '%s|' {shown}; echo" for it in commands)]
+    done = subprocess.run(["bash", "-c", "\n".join(lines)], env=env, cwd=place, capture_output=True, check=False)
+    return done.stdout.decode().splitlines()
+
+
+def test_a_chain_of_commands_does_what_it_does_there(here, folder, product, original):
+    """What is different is in module(1)."""
+    true(len(CHAIN) > 60, f"{len(CHAIN)} commands")
+    found, wanted = [], []
+    theirs = f"module() {{ eval \"$(tclsh '{original}' bash \"$@\")\"; }}"
+    for lines, function in ((found, f". '{product}/init/bash'"), (wanted, theirs)):
+        home = os.path.join(folder.path, b"home", str(len(wanted)).encode() + function[:1].encode())
+        os.makedirs(home)
+        lines += behind_each(function, CHAIN, {**here.env, b"HOME": home}, folder.path)
+    same(len(found), len(CHAIN), "the commands that are done")
+    for command, ours, there in zip(CHAIN, found, wanted, strict=True):
+        same(ours, there, f"status and environment behind `{command}`")
+
+
+def test_more_beginnings_mean_a_subcommand_than_there(here, folder, product):
+    lines = behind_each(f". '{product}/init/bash'", ("load foo", *MORE), here.env, folder.path)
+    same([line.split("|")[0] for line in lines], ["0"] * (1 + len(MORE)), "the statuses")
