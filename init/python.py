@@ -62,7 +62,7 @@ def _program(words):
     # Options, and automated handling, are the function's own.
     if words[0] in _MOVES[:4] and os.environ.get("MODULES_AUTO_HANDLING") == "1":
         return "libexec/module"
-    if words[0] in _MOVES and words[1:2] and words[1].startswith("-"):
+    if words[0] in _MOVES and any(word.startswith("-") for word in words[1:]):
         return "libexec/module"
     return next((program for program, names in _PROGRAMS.items() if words[0] in names.split()), None)
 

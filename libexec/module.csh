@@ -35,17 +35,11 @@ case xrm:
     if ( $?MODULES_AUTO_HANDLING ) then
         if ( "x$MODULES_AUTO_HANDLING" == x1 ) set _module_way = libexec/module
     endif
-    if ( $#_module_words > 2 ) then
-        if ( x$_module_words[3]:q =~ x-* ) set _module_way = libexec/module
-    endif
     breaksw
 case xswitch:
 case xswap:
 case xpurge:
     set _module_way = bin/modulecmd
-    if ( $#_module_words > 2 ) then
-        if ( x$_module_words[3]:q =~ x-* ) set _module_way = libexec/module
-    endif
     breaksw
 case xuse:
     set _module_way = libexec/module
@@ -77,6 +71,15 @@ case xsaveshow:
     set _module_way = run
     breaksw
 endsw
+
+# Options of these are the program `module`'s.
+if ( $_module_way == bin/modulecmd && $#_module_words > 2 ) then
+    set _module_number = 3
+    while ( $_module_number <= $#_module_words )
+        if ( x$_module_words[$_module_number]:q =~ x-* ) set _module_way = libexec/module
+        @ _module_number++
+    end
+endif
 
 # Another name of a subcommand, or a beginning of names.
 if ( $_module_way == name ) then
@@ -144,7 +147,7 @@ default:
     breaksw
 endsw
 
-unset _module_words _module_unloads _module_way _module_name _module_program _module_run _module_text _module_loaded _module_now
+unset _module_words _module_number _module_unloads _module_way _module_name _module_program _module_run _module_text _module_loaded _module_now
 if ( $?_module_backslash_quote ) then
     set backslash_quote
     unset _module_backslash_quote

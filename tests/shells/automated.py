@@ -73,6 +73,10 @@ REFUSED = {
     "module purge --force": "--force",
     "module load '-a  *' foo": "-a  *",
     "ml --force foo": "--force",
+    "module load foo --force": "--force",
+    "module rm foo bar --auto": "--auto",
+    "module switch foo -f bar": "-f",
+    "ml foo --force": "--force",
 }
 
 

@@ -57,8 +57,8 @@ def test_hands_on_the_status_and_evaluates_nothing_of_a_refused_or_killed_comman
 
 def test_hands_on_the_words_as_they_are(scripted, shell):
     scripted.will_answer(0, 0, 0)
-    scripted.keeps(["module load 'a  b' '*' 'c\"d' '$HOME' '`x`' 'é;&|'", "module load a '-a' '--b=c'", "module purge"])
-    wanted = [["load", "a  b", "*", 'c"d', "$HOME", "`x`", "é;&|"], ["load", "a", "-a", "--b=c"], ["purge"]]
+    scripted.keeps(["module load 'a  b' '*' 'c\"d' '$HOME' '`x`' 'é;&|'", "module load a 'b-a' 'c--b=c'", "module purge"])
+    wanted = [["load", "a  b", "*", 'c"d', "$HOME", "`x`", "é;&|"], ["load", "a", "b-a", "c--b=c"], ["purge"]]
     same(scripted.stand_in.words(), [[shell.init, *words] for words in wanted], "the words")
 
 
