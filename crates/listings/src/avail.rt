@@ -4,6 +4,7 @@ ghost use Rattle.envloaded.specs.LoadedEntries.{entry_view};
 ghost use Rattle.filetree.specs.Causes.{Applies};
 ghost use Rattle.search.specs.Listings.{listing_view};
 ghost use Rattle.search.specs.ListingEntries.{listing_entry_view};
+ghost use Rattle.filetree.specs.Modulefiles as paths;
 ghost use Rattle.lookup.specs.DefaultFileResults.{HasResult};
 ghost use Rattle.listings.specs.Available.{ReportsAvailable};
 ghost use Rattle.listings.specs.Faults.{cause_of};
@@ -36,6 +37,23 @@ fn is_loaded(loaded: &[Loaded], path: &str) -> bool
     loaded.iter().any(|entry| entry.path.as_str() == path)
 }
 
+/// Whether a module of a directory is loaded.
+fn is_entry_loaded(
+    alloc: Global,
+    loaded: &[Loaded],
+    dir: &str,
+    entry: &ListingEntry,
+) -> Result<bool, AllocError>
+    ensures { IfOk result (λ b. b ≡ spec.is_loaded (map entry_view loaded.now)
+        (paths.path_of dir.now (listing_entry_view entry.now).0)) }
+{
+    if loaded.is_empty() {
+        return Ok(false);
+    }
+    let path = path_of(alloc, dir, &entry.name)?;
+    Ok(is_loaded(loaded, &path))
+}
+
 /// A module of a directory, as a report names it.
 fn reported(
     alloc: Global,
@@ -46,11 +64,10 @@ fn reported(
     ensures { IfOk result (λ name. name_view name
         ≡ spec.reported (map entry_view loaded.now) dir.now (listing_entry_view entry.now)) }
 {
-    let path = path_of(alloc, dir, &entry.name)?;
     Ok(ReportedName {
         name: String::from_str(alloc, &entry.name)?,
         is_default: entry.is_default,
-        is_loaded: is_loaded(loaded, &path),
+        is_loaded: is_entry_loaded(alloc, loaded, dir, entry)?,
     })
 }
 

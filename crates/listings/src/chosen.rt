@@ -97,7 +97,7 @@ fn meant(
     ensures { IfOk result (λ kept. map listing_entry_view kept.items
         ≡ spec.meant options (map string_bytes texts.now) (map listing_entry_view modules.now)) }
 {
-    let mut kept = Vec::new(alloc);
+    let mut kept = Vec::with_capacity(alloc, modules.len())?;
     for entry in modules {
         if is_meant(options, texts, &entry.name) {
             kept.push(copied(alloc, entry)?)?;
@@ -126,6 +126,21 @@ fn of_versions(
     Ok(kept)
 }
 
+/// Those of the modules that are the versions that are asked for; they themselves where each is.
+fn asked_for(
+    alloc: Global,
+    versions: Versions,
+    modules: Vec<ListingEntry>,
+) -> Result<Vec<ListingEntry>, AllocError>
+    ensures { IfOk result (λ kept. map listing_entry_view kept.items
+        ≡ spec.of_versions versions (map listing_entry_view modules.items)) }
+{
+    match versions {
+        Versions::Every => Ok(modules),
+        Versions::Latest | Versions::Default => of_versions(alloc, versions, &modules),
+    }
+}
+
 /// What a report names of a listing.
 fn chosen_of(
     alloc: Global,
@@ -139,7 +154,7 @@ fn chosen_of(
     let meant = meant(alloc, options, texts, &listing.modules)?;
     Ok(DirectoryListing {
         dir: String::from_str(alloc, &listing.dir)?,
-        modules: of_versions(alloc, options.versions, &meant)?,
+        modules: asked_for(alloc, options.versions, meant)?,
     })
 }
 
