@@ -1,6 +1,6 @@
 //! Which program the process is, by the name that it is called by: the file of `module` has other names too.
 
-use std::env;
+use std::rt::Env;
 
 /// A program that this file is.
 pub enum Program {
@@ -12,18 +12,33 @@ pub enum Program {
     Modport,
 }
 
-/// The program that the process is called as: by the last part of its own path; `module` where that is no other's name.
+/// How many bytes a path of the system has at most, with its end (PATH_MAX of Linux).
+const LONGEST_PATH: usize = 4096;
+
+/// Whether a path is this name, or ends with it behind a slash.
+fn is_called(path: &[u8], name: &[u8], behind_slash: &[u8]) -> bool {
+    path == name || path.ends_with(behind_slash)
+}
+
+/// The program of this path; `module` where its last part is no other's name.
+fn program_at(path: &[u8]) -> Program {
+    if is_called(path, b"modaudit", b"/modaudit") {
+        Program::Modaudit
+    } else if is_called(path, b"modport", b"/modport") {
+        Program::Modport
+    } else {
+        Program::Module
+    }
+}
+
+/// The program that the process is called as, by the last part of its own path, whatever its other arguments are.
 pub fn called_as(rt: &HostRuntime) -> Program {
-    let path = match env::args(rt) {
-        Ok(mut words) => words.next(),
-        Err(_) => None,
-    };
-    let Some(path) = path else {
+    let mut room = [0; LONGEST_PATH];
+    let Ok(length) = rt.arg(0, &mut room) else {
         return Program::Module;
     };
-    match path.as_str().rsplit('/').next() {
-        Some("modaudit") => Program::Modaudit,
-        Some("modport") => Program::Modport,
-        _ => Program::Module,
+    match room.get(..length) {
+        Some(path) => program_at(path),
+        None => Program::Module,
     }
 }
