@@ -20,9 +20,9 @@ _PREFIX = "@prefix@"
 _PROGRAMS = {
     "bin/modulecmd": "load add unload rm switch swap purge",
     "libexec/module": "use unuse save saverm restore reload",
-    "init/pager": "list avail",
+    "init/pager": "list avail --version",
 }
-_REPORTS = "help --help --version show display whatis keyword apropos savelist saveshow is-loaded is-avail"
+_REPORTS = "help --help show display whatis keyword apropos savelist saveshow is-loaded is-avail"
 
 # What loads and unloads; automated handling is of the first four.
 _MOVES = ["load", "add", "unload", "rm", "switch", "swap", "purge"]
@@ -86,8 +86,7 @@ def module(*words):
         return True
     program = _program(words) or "libexec/module"
     if program == "init/pager" or words[0] in _REPORTS.split() or words == ["use"]:
-        asked = ["--version", "@version@"] if words[0] == "--version" else words
-        return subprocess.run([f"{_PREFIX}/{program}", "sh", *asked], check=False).returncode == 0
+        return subprocess.run([f"{_PREFIX}/{program}", "sh", *words], check=False).returncode == 0
     text, status = _run(program, "sh", *words)
     if status != 0:
         if program == "bin/modulecmd":

@@ -18,10 +18,6 @@ if ( x$_module_words[2]:q == x-t || x$_module_words[2]:q == x--terse ) then
     set _module_words = ( $_module_words[1] $_module_words[3]:q -t $_module_words[4-]:q )
 endif
 switch ( x$_module_words[2]:q )
-case x--version:
-    set _module_words = ( $_module_words[1] --version '@version@' )
-    set _module_way = run
-    breaksw
 case xload:
 case xadd:
     # Without names there is nothing to load.
@@ -54,7 +50,8 @@ case xreload:
     breaksw
 case xlist:
 case xavail:
-    # A long report is paged at a terminal.
+case x--version:
+    # A long report is paged at a terminal; the script knows the version.
     set _module_way = page
     breaksw
 case xhelp:

@@ -154,7 +154,7 @@ STARTED = {
     "module whatis foo": ["libexec/module"],
     "module help": ["libexec/module"],
     "module use": ["libexec/module"],
-    "module --version": ["libexec/module"],
+    "module --version": ["init/pager", "libexec/module"],
     "module is-avail foo": ["libexec/module"],
     "module saverm default": ["libexec/module"],
     "module restore default": ["libexec/module"],
