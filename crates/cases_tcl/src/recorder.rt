@@ -1,12 +1,23 @@
 //! A host in memory, which records what a script asks of it.
-ghost use Rattle.std.specs.Prelude.{◌≡◌, ◌++◌, ◌∷◌, [], IfOk, OnOk, OnErr, string_bytes, map};
+ghost use Rattle.std.specs.Prelude.{◌≡◌, ◌++◌, ◌∷◌, [], true, IfOk, OnOk, OnErr, string_bytes, map};
 ghost use Rattle.std.specs.Option.{option_map};
 ghost use Rattle.tclrules.specs.Recording.{commands_of_recorder, record_texts, pair_texts, message_in};
-ghost use Rattle.tclrules.specs.Variables.{lookup};
+ghost use Rattle.tclrules.specs.Oracle.{OfCommand, Done, Nothing};
+ghost use Rattle.tclrules.specs.Variables.{Variables, lookup};
+ghost use Rattle.cases_tcl.specs.Asking.{asked_view};
 
 use message::texts::copies;
 use std::alloc::{AllocError, Global};
 use tclrules::{Host, HostAnswer};
+
+/// What a script asked its host.
+#[derive(Drop)]
+pub(crate) enum Asked {
+    /// The mode, by these words.
+    Mode(Vec<String>),
+    /// This variable of the environment.
+    Variable(String),
+}
 
 /// Records the words of each `setenv` and the message of each `puts`, answers its mode to `mode`, refuses `conflict` by
 /// 51, and has no other command. Its environment never changes.
@@ -22,8 +33,8 @@ pub(crate) struct Recorder {
     pub(crate) records: Vec<Vec<String>>,
     /// The messages.
     pub(crate) messages: Vec<String>,
-    /// Whether the mode or an environment variable was asked for.
-    pub(crate) asked: bool,
+    /// What was asked.
+    pub(crate) asked: Vec<Asked>,
     /// The number by which a command was refused last.
     pub(crate) refused: Option<u16>,
 }
@@ -88,15 +99,34 @@ fn value_of(
     Ok(None)
 }
 
+/// A copy of the mode, for which these words asked.
+fn answer_mode(
+    alloc: Global,
+    mode: &String,
+    asked: &mut Vec<Asked>,
+    words: &[String],
+) -> Result<String, AllocError>
+    ensures answer { IfOk result (λ answer. string_bytes answer ≡ string_bytes mode.now) }
+    ensures asked { (environment : Variables) → OnOk result (map (asked_view (string_bytes mode.now) environment) asked.new.items
+        ≡ map (asked_view (string_bytes mode.now) environment) asked.old.items
+        ++ OfCommand (map string_bytes words.now) (Done (string_bytes mode.now) Nothing true) ∷ []) }
+{
+    let words = copies(alloc, words)?;
+    let answer = String::from_str(alloc, mode.as_str())?;
+    asked.push(Asked::Mode(words))?;
+    Ok(answer)
+}
+
 impl Host for Recorder {
     ghost use Rattle.std.specs.Prelude.{string_bytes, map, option_map};
     ghost use Rattle.tclrules.specs.Oracle.{unnamed};
+    ghost use Rattle.cases_tcl.specs.Asking.{asked_view};
     ghost use Rattle.tclrules.specs.Recording.{commands_of_recorder, answer_of, record_texts, pair_texts, value_in};
 
     ghost trace = { λ r. record {
       records = map record_texts r.records.items;
       messages = map string_bytes r.messages.items;
-      asked = r.asked;
+      asked = map (asked_view (string_bytes r.mode) (pair_texts r.environment.items)) r.asked.items;
       refused = option_map unnamed r.refused;
     } };
 
@@ -131,8 +161,7 @@ impl Host for Recorder {
             }
             HostAnswer::Done(String::new(self.alloc))
         } else if name.as_str() == "mode" {
-            self.asked = true;
-            match String::from_str(self.alloc, self.mode.as_str()) {
+            match answer_mode(self.alloc, &self.mode, &mut self.asked, words) {
                 Ok(mode) => HostAnswer::Done(mode),
                 Err(_) => HostAnswer::OutOfMemory,
             }
@@ -145,7 +174,9 @@ impl Host for Recorder {
     }
 
     fn read_env(&mut self, name: &str) -> Result<Option<String>, AllocError> {
-        self.asked = true;
-        value_of(self.alloc, self.environment.as_slice(), name)
+        let value = value_of(self.alloc, self.environment.as_slice(), name)?;
+        let name = String::from_str(self.alloc, name)?;
+        self.asked.push(Asked::Variable(name))?;
+        Ok(value)
     }
 }

@@ -40,7 +40,7 @@ pub(crate) fn recorder(alloc: Global) -> Result<Recorder, AllocError> {
         environment: Vec::new(alloc),
         records: Vec::new(alloc),
         messages: Vec::new(alloc),
-        asked: false,
+        asked: Vec::new(alloc),
         refused: None,
     })
 }
@@ -176,7 +176,7 @@ fn push_shown(
     push_outcome(alloc, line, outcome);
     push_messages(line, &host.messages);
     push_records(line, &host.records);
-    if host.asked {
+    if !host.asked.is_empty() {
         line.push_str("\tasked");
     }
 }

@@ -29,7 +29,7 @@ no_result script fault.Stopped o trace m h = rw h refl
 no_result script (fault.Host n) o trace m h = rw h refl
 
 abbrev pub empty_trace : Trace
-empty_trace = record { records = []; messages = []; asked = false; refused = None }
+empty_trace = record { records = []; messages = []; asked = []; refused = None }
 
 abbrev pub globals_of : Text → Variables
 globals_of path = (codes "ModulesCurrentModulefile", path) ∷ []

@@ -1,7 +1,10 @@
 -- The result of a default file (modulefile(5), module-version), by its evaluation as Tcl (Tcl(n)).
 use Rattle.std.specs.Prelude.{◌≡◌, false, List, [], ◌∷◌, codes, bytes_eq, if◌then◌else◌, Option, Some, None}
+use Rattle.std.specs.Prelude.{string_bytes, String}
+use Rattle.std.specs.declared.alloc.Global.{Global}
 use Rattle.modulename.specs.ModuleName.{Text}
-use Rattle.tclrules.specs.Oracle.{Oracle, Trace, OracleAnswer, Nothing, NewRecord, Done, Unknown, LeftOut, Refused}
+use Rattle.tclrules.specs.Oracle.{Oracle, Question, OfVariable, Trace, OracleAnswer, Nothing, NewRecord, Done, Unknown}
+use Rattle.tclrules.specs.Oracle.{LeftOut, Refused}
 use Rattle.tclrules.specs.Derivation.{EvaluationOutcome, Ended, Halted, World}
 use Rattle.tclrules.specs.Variables.{lookup}
 use Rattle.tclrules.specs.Plans.{Completion, Normal, Raised, Returned, Broken, Continued}
@@ -41,6 +44,10 @@ abbrev pub default_oracle : Oracle
 default_oracle =
     record { reserved = command_names; command = λ records words. answer_to words; variable = λ records name. None }
 
+-- a variable of the environment that was read, which the file finds unset
+abbrev pub unset_read : String Global → Question
+unset_read name = OfVariable (string_bytes name) None
+
 -- the evaluation of the text at this path, which the file has in its global variable ModulesCurrentModulefile
 abbrev pub default_setting : Limits → Text → Text → Setting
 default_setting limits path text =
@@ -49,7 +56,7 @@ default_setting limits path text =
       script = text;
       globals = (codes "ModulesCurrentModulefile", path) ∷ [];
       oracle = default_oracle;
-      trace = record { records = []; messages = []; asked = false; refused = None };
+      trace = record { records = []; messages = []; asked = []; refused = None };
     }
 
 -- At its end its result is its commands and its global variable ModulesVersion. With any fault it has none.

@@ -71,7 +71,7 @@ impl DefaultFiles for EvaluatedDefaultFiles {
         let mut host = DefaultHost {
             alloc,
             commands: Vec::new(alloc),
-            asked: false,
+            asked: Vec::new(alloc),
             refused: None,
         };
         let globals = globals_at(alloc, path)?;

@@ -15,8 +15,8 @@ pub(crate) struct DefaultHost {
     pub(crate) alloc: Global,
     /// The words of each `module-version` command.
     pub(crate) commands: Vec<Vec<String>>,
-    /// Whether a variable of the environment was read.
-    pub(crate) asked: bool,
+    /// The variables of the environment that were read.
+    pub(crate) asked: Vec<String>,
     /// The number of the fault of a refused command.
     pub(crate) refused: Option<u16>,
 }
@@ -39,13 +39,13 @@ impl DefaultHost {
 impl Host for DefaultHost {
     ghost use Rattle.std.specs.Prelude.{[], map, option_map};
     ghost use Rattle.tclrules.specs.Oracle.{unnamed};
-    ghost use Rattle.lookup.specs.DefaultFileResults.{default_oracle};
+    ghost use Rattle.lookup.specs.DefaultFileResults.{default_oracle, unset_read};
     ghost use Rattle.lookup.specs.CommandAnswers.{texts_of_words};
 
     ghost trace = { λ h. record {
       records = map texts_of_words h.commands.items;
       messages = [];
-      asked = h.asked;
+      asked = map unset_read h.asked.items;
       refused = option_map unnamed h.refused;
     } };
 
@@ -74,8 +74,9 @@ impl Host for DefaultHost {
         }
     }
 
-    fn read_env(&mut self, _name: &str) -> Result<Option<String>, AllocError> {
-        self.asked = true;
+    fn read_env(&mut self, name: &str) -> Result<Option<String>, AllocError> {
+        let name = String::from_str(self.alloc, name)?;
+        self.asked.push(name)?;
         Ok(None)
     }
 }

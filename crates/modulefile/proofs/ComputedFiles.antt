@@ -29,7 +29,7 @@ use Rattle.modulefile.specs.declared.records.PathEdit.TheVariants.{Front, Back}
 use Rattle.modulefile.specs.Calls as calls
 use Rattle.modulefile.specs.Answers.{FileContext}
 use Rattle.modulefile.specs.Files.{Ran, FileReason, halted, refused, failed, RunsFile, play}
-use Rattle.modulefile.specs.Rows.{standard, file, loading, unloading, showing}
+use Rattle.modulefile.specs.Rows.{standard, file, loading, unloading, showing, asked_for}
 use Rattle.modulefile.proofs.PlayedFiles.{played_runs}
 
 pub computed : FileContext → Text → ℕ → Option (Result Ran FileReason)
@@ -56,8 +56,7 @@ pub file_load : (e : Environment) → computed (loading e) (file (codes "setenv 
     (Ok (record {
       records = (Set (codes "K") (codes "1") ∷ Conflict (codes "k" ∷ []) ∷ []);
       messages = [];
-      asked =
-          false;
+      asked = [];
       env = (with_value e (codes "K") (Some (codes "1")));
     }))
 unfolding computed
@@ -67,8 +66,7 @@ pub file_unload : (e : Environment) → computed (unloading e) (file (codes "set
     (Ok (record {
       records = (Set (codes "K") (codes "1") ∷ Conflict (codes "k" ∷ []) ∷ []);
       messages = [];
-      asked =
-          false;
+      asked = [];
       env = (with_value e (codes "K") None);
     }))
 unfolding computed
@@ -78,8 +76,7 @@ pub file_display : (e : Environment) → computed (showing e) (file (codes "sete
     (Ok (record {
       records = (Set (codes "K") (codes "1") ∷ Conflict (codes "k" ∷ []) ∷ []);
       messages = [];
-      asked =
-          false;
+      asked = [];
       env = e;
     }))
 unfolding computed
@@ -89,7 +86,7 @@ pub file_unset_back : (e : Environment) → computed (unloading e) (file (codes 
     (Ok (record {
       records = (Unset (codes "LANG") (Some (codes "C")) ∷ []);
       messages = [];
-      asked = false;
+      asked = [];
       env =
           (with_value e (codes "LANG") (Some (codes "C")));
     }))
@@ -102,7 +99,7 @@ pub path_delimiters : (e : Environment) → computed (showing e)
       records = (Path Front 59 (codes "Q") (codes "a:b" ∷ codes "c" ∷ []) ∷ Path Back 58 (codes "Q")
           (codes "a" ∷ codes "b" ∷ []) ∷ []);
       messages = [];
-      asked = false;
+      asked = [];
       env = e;
     }))
 unfolding computed
@@ -112,7 +109,7 @@ pub path_value_behind : (e : Environment) → computed (showing e) (file (codes 
     (Ok (record {
       records = (Path Front 58 (codes "P") (codes "-d" ∷ codes "a" ∷ []) ∷ []);
       messages = [];
-      asked = false;
+      asked = [];
       env
           = e;
     }))
@@ -121,7 +118,7 @@ path_value_behind e = refl
 
 pub question_mode_unload : (e : Environment) → computed (unloading e)
     (file (codes "if {[module-info mode load]} {setenv X 1}")) 400 ≡ Some
-    (Ok (record { records = []; messages = []; asked = true; env = e }))
+    (Ok (record { records = []; messages = []; asked = (asked_for (codes "module-info" ∷ codes "mode" ∷ codes "load" ∷ []) (codes "0") ∷ []); env = e }))
 unfolding computed
 question_mode_unload e = refl
 
@@ -130,7 +127,8 @@ pub question_loaded : (e : Environment) → computed (loading e)
     (Ok (record {
       records = (Set (codes "A") (codes "1011") ∷ []);
       messages = [];
-      asked = true;
+      asked = (asked_for (codes "is-loaded" ∷ codes "gcc" ∷ []) (codes "1") ∷ asked_for (codes "is-loaded" ∷ codes "gc" ∷ []) (codes "0")
+          ∷ asked_for (codes "is-loaded" ∷ codes "x" ∷ codes "gcc/9" ∷ []) (codes "1") ∷ asked_for (codes "is-loaded" ∷ []) (codes "1") ∷ []);
       env =
           (with_value e (codes "A") (Some (codes "1011")));
     }))
@@ -138,13 +136,13 @@ unfolding computed
 question_loaded e = refl
 
 pub question_getenv_shown : (e : Environment) → computed (showing e) (file (codes "setenv H [getenv HOME]")) 400 ≡ Some
-    (Ok (record { records = (Set (codes "H") (codes "$HOME") ∷ []); messages = []; asked = true; env = e }))
+    (Ok (record { records = (Set (codes "H") (codes "$HOME") ∷ []); messages = []; asked = (asked_for (codes "getenv" ∷ codes "HOME" ∷ []) (codes "$HOME") ∷ []); env = e }))
 unfolding computed
 question_getenv_shown e = refl
 
 pub ending_messages : (e : Environment) → computed (loading e)
     (file (codes "puts stderr hi\nputs -nonewline stderr ho")) 400 ≡ Some
-    (Ok (record { records = []; messages = (codes "hi\n" ∷ codes "ho" ∷ []); asked = false; env = e }))
+    (Ok (record { records = []; messages = (codes "hi\n" ∷ codes "ho" ∷ []); asked = []; env = e }))
 unfolding computed
 ending_messages e = refl
 
@@ -152,7 +150,7 @@ pub ending_returns : (e : Environment) → computed (loading e) (file (codes "se
     (Ok (record {
       records = (Set (codes "A") (codes "1") ∷ []);
       messages = [];
-      asked = false;
+      asked = [];
       env =
           (with_value e (codes "A") (Some (codes "1")));
     }))

@@ -9,4 +9,5 @@ mod WholeFiles
 mod Showing
 mod PlayedFiles
 mod PlainFiles
+mod AnsweredFiles
 mod ComputedFiles

@@ -1,5 +1,5 @@
 -- A file that asked nothing leaves the same records in every context of the same name and path, or is refused.
-use Rattle.std.proofs.Common.{◌≡◌, ◌⊎◌, ℕ, Bool, true, false, List, Option, Some, None, Result, Ok, Err, inl, inr}
+use Rattle.std.proofs.Common.{◌≡◌, ◌⊎◌, ℕ, Bool, true, false, List, [], Option, Some, None, Result, Ok, Err, inl, inr}
 use Rattle.std.proofs.Common.{⊎_elim, refl, ap, sym, ◌∙◌, subst}
 use Rattle.envvars.specs.Texts.{Text}
 use Rattle.envvars.specs.Names.{is_variable_name}
@@ -58,14 +58,14 @@ at_call c d e x y words (Ok typed_name) q h = absurd (cc)
 at_call c d e x y words (Ok (info field)) q h = absurd (cc)
 at_call c d e x y words (Ok (info_test field word)) q h = absurd (cc)
 
-agree : (c d : FileContext) → d.name ≡ c.name → AnswersAlikeUnasked (oracle_of c) (oracle_of d)
+pub agree : (c d : FileContext) → d.name ≡ c.name → AnswersAlikeUnasked (oracle_of c) (oracle_of d)
 agree c d e = (refl, λ rs words q h. at_call c d e (environment_after c rs) (environment_after d rs) words (call_of words) q h)
 
 -- and so for the file
 
 abbrev pub UnaskedLaw : Type 0
 UnaskedLaw =
-    (s : Setting) (second : Oracle) (o o2 : EvaluationOutcome Completion) (w w2 : World) → EvaluatesTo s o w → w.trace.asked ≡ false → ((n : ℕ) → (o ≡ Halted (ByHost n)) → ⊥)
+    (s : Setting) (second : Oracle) (o o2 : EvaluationOutcome Completion) (w w2 : World) → EvaluatesTo s o w → w.trace.asked ≡ [] → ((n : ℕ) → (o ≡ Halted (ByHost n)) → ⊥)
     → AnswersAlikeUnasked s.oracle second → EvaluatesTo (with_oracle second s) o2 w2 → meaning.IsSameOrRefused o w o2 w2
 
 moved_setting : (limits : Limits) (c d : FileContext) (text : Text) → d.path ≡ c.path → setting_of limits d text ≡ with_oracle (oracle_of d) (setting_of limits c text)
@@ -77,18 +77,32 @@ same_finish : (c d : FileContext) (text result : Text) (s : State) (trace : Trac
 same_finish c d text result s trace ran o h f =
     inl (f.0, f.2, same_value (records_in trace.records) f.0.records ran.records (ran_parts d trace f.0 f.1).read (ran_parts c trace ran h).read)
 
-plain_normal : UnaskedLaw → (limits : Limits) (c d : FileContext) (text : Text) (ran : Ran) (o : Result Ran FileReason)
-    (result : Text) (s : State) (w : World) → EvaluatesTo (setting_of limits c text) (Ended (Normal result s)) w
-    → ran_of c w.trace ≡ Ok ran
-    → ran.asked ≡ false → d.name ≡ c.name → d.path ≡ c.path → RunsFile limits d text o → IsSameOrRefused ran o
-plain_normal law limits c d text ran o result s w e h a n p (out2, w2, e2, f) =
+-- the second context's evaluation ends as that of the first, or is refused
+abbrev pub EndsAlike : Limits → FileContext → FileContext → Text → EvaluationOutcome Completion → World → Type 0
+EndsAlike limits c d text out w =
+    (out2 : EvaluationOutcome Completion) (w2 : World) → EvaluatesTo (with_oracle (oracle_of d) (setting_of limits c text)) out2 w2
+    → meaning.IsSameOrRefused out w out2 w2
+
+pub alike_normal : (limits : Limits) (c d : FileContext) (text : Text) (ran : Ran) (o : Result Ran FileReason)
+    (result : Text) (s : State) (w : World) → EndsAlike limits c d text (Ended (Normal result s)) w
+    → ran_of c w.trace ≡ Ok ran → d.path ≡ c.path → RunsFile limits d text o → IsSameOrRefused ran o
+alike_normal limits c d text ran o result s w law h p (out2, w2, e2, f) =
     let e3 : EvaluatesTo (with_oracle (oracle_of d) (setting_of limits c text)) out2 w2 = subst (λ (z : Setting). EvaluatesTo z out2 w2) (moved_setting limits c d text p) e2 in
     ⊎_elim
     (λ i. same_finish c d text result s w.trace ran o h
     (subst (λ (x : EvaluationOutcome Completion). FinishesFile d text x w.trace o) i.0
     (subst (λ (v : World). FinishesFile d text out2 v.trace o) i.1 f)))
     (λ i. inr (i.0, w2.trace.refused, subst (λ (x : EvaluationOutcome Completion). FinishesFile d text x w2.trace o) i.1 f))
-    (law (setting_of limits c text) (oracle_of d) (Ended (Normal result s)) out2 w w2 e ((ran_parts c w.trace ran h).asked ∙ a) (λ m z. cc) (agree c d n) e3)
+    (law out2 w2 e3)
+
+plain_normal : UnaskedLaw → (limits : Limits) (c d : FileContext) (text : Text) (ran : Ran) (o : Result Ran FileReason)
+    (result : Text) (s : State) (w : World) → EvaluatesTo (setting_of limits c text) (Ended (Normal result s)) w
+    → ran_of c w.trace ≡ Ok ran
+    → ran.asked ≡ [] → d.name ≡ c.name → d.path ≡ c.path → RunsFile limits d text o → IsSameOrRefused ran o
+plain_normal law limits c d text ran o result s w e h a n p r =
+    alike_normal limits c d text ran o result s w
+    (λ out2 w2 e3. law (setting_of limits c text) (oracle_of d) (Ended (Normal result s)) out2 w w2 e ((ran_parts c w.trace ran h).asked ∙ a) (λ m z. cc) (agree c d n) e3)
+    h p r
 
 pub plain_file : UnaskedLaw → PlainFilesAgree
 plain_file law limits c d text ran o (Ended (Normal result s), w, e, f) a n p r =

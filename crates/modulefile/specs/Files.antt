@@ -1,12 +1,12 @@
 -- A modulefile evaluated: from its text to its records, messages and effects, or to why it is refused. The rules of
 -- evaluation are those of Tcl (Tcl(n)), and what the commands mean is in modulefile(5).
-use Rattle.std.specs.Prelude.{◌≡◌, ◌⊎◌, ℕ, Bool, false, List, [], ◌∷◌, codes, Option, Some, None, Result, Ok, Err}
+use Rattle.std.specs.Prelude.{◌≡◌, ◌⊎◌, ℕ, Bool, true, false, List, [], ◌∷◌, codes, Option, Some, None, Result, Ok, Err}
 use Rattle.envvars.specs.Texts.{Text}
 use Rattle.envvars.specs.Environment.{Environment}
 use Rattle.message.specs.Refusals.{number_of}
 use Rattle.message.specs.declared.refusals.RefusalKind.TheVariants as kinds
 use Rattle.tclchars.specs.Faults as text_faults
-use Rattle.tclrules.specs.Oracle.{HostRefusal, Trace}
+use Rattle.tclrules.specs.Oracle.{HostRefusal, Question, Trace}
 use Rattle.tclrules.specs.Derivation.{Halt, OutOfMemory, BadText, TooManyCommands, TooDeep, ValueTooLong}
 use Rattle.tclrules.specs.Derivation.{NumberTooLarge, FractionOperand, LeftOut, Stopped, ByHost, EvaluationOutcome}
 use Rattle.tclrules.specs.Derivation.{Ended, Halted, World}
@@ -23,7 +23,7 @@ use Rattle.modulefile.specs.Answers.{FileContext, records_in, record_outcome, or
 
 -- before the file: no record, no message, no question, no refusal
 abbrev pub empty_trace : Trace
-empty_trace = record { records = []; messages = []; asked = false; refused = None }
+empty_trace = record { records = []; messages = []; asked = []; refused = None }
 
 -- the global variables at the beginning: a file has its own path
 abbrev pub globals_of : Text → Variables
@@ -34,13 +34,18 @@ abbrev pub setting_of : Limits → FileContext → Text → Setting
 setting_of limits c text =
     record { limits = limits; script = text; globals = globals_of c.path; oracle = oracle_of c; trace = empty_trace }
 
--- What an accepted file leaves: its records, its messages, whether it asked, and what the records made of the
--- environment before it.
+-- What an accepted file leaves: its records, its messages, what it asked with the answers, and what the records made of
+-- the environment before it.
 pub record Ran : Type 0 where
   pub records : List Record
   pub messages : List Text
-  pub asked : Bool
+  pub asked : List Question
   pub env : Environment
+
+-- whether anything was asked
+abbrev pub any_question : List Question → Bool
+any_question [] = false
+any_question (q ∷ asked) = true
 
 -- Why a file is refused: its evaluation was halted, or one of its commands was refused, by this number and for this
 -- name, or it ended with an error that nothing caught, on this line of it.

@@ -1,14 +1,16 @@
 -- The laws of modulefiles (own).
-use Rattle.std.specs.Prelude.{◌≡◌, ℕ, true, false, List, Some, Result, Ok}
+use Rattle.std.specs.Prelude.{◌≡◌, ℕ, true, false, List, [], ◌∷◌, ◌++◌, Some, Result, Ok}
 use Rattle.std.specs.List.{list_all}
 use Rattle.envvars.specs.Texts.{Text}
 use Rattle.tclrules.specs.Oracle as oracle
-use Rattle.tclrules.specs.Oracle.{OracleAnswer, Nothing, Done, Unknown, LeftOut, Refused, addition, is_question}
+use Rattle.tclrules.specs.Oracle.{OracleAnswer, Question, Nothing, Done, Unknown, LeftOut, Refused, addition, is_question}
+use Rattle.tclrules.specs.Derivation.{AnswersAsBefore}
 use Rattle.tclrules.specs.declared.limits.Limits.{Limits}
+use Rattle.modulefile.specs.Records.{Record}
 use Rattle.modulefile.specs.Judgments.{is_allowed}
 use Rattle.modulefile.specs.Effects.{Mode, load, unload, display, whatis, effects}
 use Rattle.modulefile.specs.Calls.{call_of}
-use Rattle.modulefile.specs.Answers.{FileContext, oracle_of, call_adds, call_asks}
+use Rattle.modulefile.specs.Answers.{FileContext, records_in, oracle_of, call_adds, call_asks}
 use Rattle.modulefile.specs.Files.{Ran, FileReason, RunsFile, IsSameOrRefused, play}
 
 -- A modulefile has one outcome at most, and has one.
@@ -77,7 +79,23 @@ abbrev pub PlainFilesAgree : Type 0
 PlainFilesAgree =
     (limits : Limits) (c d : FileContext) (text : Text) (ran : Ran) (o : Result Ran FileReason) → RunsFile limits c text
     (Ok ran)
-    → ran.asked ≡ false → d.name ≡ c.name → d.path ≡ c.path → RunsFile limits d text o → IsSameOrRefused ran o
+    → ran.asked ≡ [] → d.name ≡ c.name → d.path ≡ c.path → RunsFile limits d text o → IsSameOrRefused ran o
+
+-- In the context each thing that a file asked is answered as it was, or refused, after whichever commands have left a
+-- beginning of its records.
+abbrev pub AnswersAgain : FileContext → Ran → Type 0
+AnswersAgain d ran =
+    (before after : List Question) (q : Question) → ran.asked ≡ before ++ q ∷ after
+    → (commands : List oracle.CommandWords) (rs rest : List Record) → records_in commands ≡ Ok rs
+    → ran.records ≡ rs ++ rest → AnswersAsBefore (oracle_of d) commands q
+
+-- A file leaves the same records in every context of the same name and path that answers again what it asked; or it is
+-- refused there.
+abbrev pub AnsweredFilesAgree : Type 0
+AnsweredFilesAgree =
+    (limits : Limits) (c d : FileContext) (text : Text) (ran : Ran) (o : Result Ran FileReason) → RunsFile limits c text
+    (Ok ran)
+    → AnswersAgain d ran → d.name ≡ c.name → d.path ≡ c.path → RunsFile limits d text o → IsSameOrRefused ran o
 
 -- What playing a file gives is its outcome.
 abbrev pub PlayedRuns : Type 0

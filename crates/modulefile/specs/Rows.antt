@@ -1,13 +1,14 @@
 -- The words in which rows state the outcomes of worked files, in every environment (own).
-use Rattle.std.specs.Prelude.{ℕ, true, false, List, [], ◌∷◌, ◌++◌, codes, Some, None, Ok, Err}
+use Rattle.std.specs.Prelude.{ℕ, false, List, [], ◌∷◌, ◌++◌, codes, Some, None, Ok, Err}
 use Rattle.envvars.specs.Texts.{Text}
 use Rattle.envvars.specs.Environment.{Environment, with_value}
+use Rattle.tclrules.specs.Oracle.{Question, OfCommand}
 use Rattle.tclrules.specs.Derivation.{Halt}
 use Rattle.tclrules.specs.declared.limits.Limits.{Limits}
 use Rattle.modulefile.specs.Records.{Record}
 use Rattle.modulefile.specs.Effects.{Mode, load, unload, display}
 use Rattle.shelltext.specs.declared.shell.Shell.TheVariants.{Sh}
-use Rattle.modulefile.specs.Answers.{FileContext}
+use Rattle.modulefile.specs.Answers.{FileContext, question_answer}
 use Rattle.modulefile.specs.Files.{halted, refused, failed, RunsFile}
 
 -- the limits of every command
@@ -60,21 +61,25 @@ abbrev pub LeavesRecords : ContextAt → Text → List Record → (Environment �
 LeavesRecords context_at lines records makes =
     (e : Environment)
     → RunsFile standard (context_at e) (file lines)
-    (Ok (record { records = records; messages = []; asked = false; env = makes e }))
+    (Ok (record { records = records; messages = []; asked = []; env = makes e }))
 
--- the same, where something is asked
-abbrev pub LeavesAsking : ContextAt → Text → List Record → (Environment → Environment) → Type 0
-LeavesAsking context_at lines records makes =
+-- a command that is a question, and its answer
+abbrev pub asked_for : List Text → Text → Question
+asked_for words answer = OfCommand words (question_answer answer)
+
+-- the same, where this is asked
+abbrev pub LeavesAsking : ContextAt → Text → List Question → List Record → (Environment → Environment) → Type 0
+LeavesAsking context_at lines asked records makes =
     (e : Environment)
     → RunsFile standard (context_at e) (file lines)
-    (Ok (record { records = records; messages = []; asked = true; env = makes e }))
+    (Ok (record { records = records; messages = []; asked = asked; env = makes e }))
 
 -- it leaves messages, and nothing else
 abbrev pub LeavesMessages : ContextAt → Text → List Text → Type 0
 LeavesMessages context_at lines messages =
     (e : Environment)
     → RunsFile standard (context_at e) (file lines)
-    (Ok (record { records = []; messages = messages; asked = false; env = e }))
+    (Ok (record { records = []; messages = messages; asked = []; env = e }))
 
 -- it is halted
 abbrev pub IsHalted : ContextAt → Text → Halt → Type 0

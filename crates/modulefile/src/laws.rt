@@ -3,7 +3,7 @@ ghost use Rattle.modulefile.specs.RecordLaws.{EffectsAreAllowed, EffectsCompose,
 ghost use Rattle.modulefile.specs.RecordLaws.{ReachIsAllMoved, ReachComposes};
 ghost use Rattle.modulefile.specs.Laws.{OneOutcome, SomeOutcome, RecordsHaveEffects, RecordsAreAllowed};
 ghost use Rattle.modulefile.specs.Laws.{ShowingChangesNothing, WordsDecide, NothingElseAdds, PlainFilesAgree};
-ghost use Rattle.modulefile.specs.Laws.{PlayedRuns};
+ghost use Rattle.modulefile.specs.Laws.{AnsweredFilesAgree, PlayedRuns};
 
 /// Records that all have their effects are allowed: their variables may be edited, their values and elements can be
 /// held, and their names of modules are well spelled. The effects of one list and then of another are those of both
@@ -45,6 +45,14 @@ pub fn files()
 /// there. So the records of its unload are those of its load.
 pub fn plain()
     ensures { PlainFilesAgree }
+{
+    tclrules::two_oracles();
+}
+
+/// A file that asked something leaves the same records in every context of the same name and path that answers again
+/// what it asked, or is refused there.
+pub fn answered()
+    ensures { AnsweredFilesAgree }
 {
     tclrules::two_oracles();
 }

@@ -6,7 +6,7 @@ ghost use Rattle.modulefile.specs.Records.{Set, Unset, Path, Conflict, Prereq, W
 ghost use Rattle.modulefile.specs.declared.records.PathEdit.TheVariants.{Front, Back};
 ghost use Rattle.modulefile.specs.Reports.{show_text, whatis_text};
 ghost use Rattle.modulefile.specs.Rows.{loading, unloading, showing, unchanged, sets, unsets, LeavesRecords};
-ghost use Rattle.modulefile.specs.Rows.{LeavesAsking, LeavesMessages, IsHalted, IsRefusedFor, FailsOnLine};
+ghost use Rattle.modulefile.specs.Rows.{asked_for, LeavesAsking, LeavesMessages, IsHalted, IsRefusedFor, FailsOnLine};
 
 /// Records and effects, by mode.
 pub fn file_rows()
@@ -29,13 +29,19 @@ pub fn path_rows()
         (Path Front 58 (codes "P") (codes "-d" ∷ codes "a" ∷ []) ∷ []) unchanged }
 {}
 
-/// Questions, after which the file has asked.
+/// Questions, which the file has then asked, in their order and with their answers.
 pub fn question_rows()
-    ensures mode_unload { LeavesAsking unloading (codes "if {[module-info mode load]} {setenv X 1}") [] unchanged }
+    ensures mode_unload { LeavesAsking unloading (codes "if {[module-info mode load]} {setenv X 1}")
+        (asked_for (codes "module-info" ∷ codes "mode" ∷ codes "load" ∷ []) (codes "0") ∷ []) [] unchanged }
     ensures loaded { LeavesAsking loading
         (codes "setenv A [is-loaded gcc][is-loaded gc][is-loaded x gcc/9][is-loaded]")
+        (asked_for (codes "is-loaded" ∷ codes "gcc" ∷ []) (codes "1")
+        ∷ asked_for (codes "is-loaded" ∷ codes "gc" ∷ []) (codes "0")
+        ∷ asked_for (codes "is-loaded" ∷ codes "x" ∷ codes "gcc/9" ∷ []) (codes "1")
+        ∷ asked_for (codes "is-loaded" ∷ []) (codes "1") ∷ [])
         (Set (codes "A") (codes "1011") ∷ []) (sets (codes "A") (codes "1011")) }
     ensures getenv_shown { LeavesAsking showing (codes "setenv H [getenv HOME]")
+        (asked_for (codes "getenv" ∷ codes "HOME" ∷ []) (codes "$HOME") ∷ [])
         (Set (codes "H") (codes "$HOME") ∷ []) unchanged }
 {}
 

@@ -1,5 +1,5 @@
 -- A file evaluated by the host, from the environment before it.
-use Rattle.std.proofs.Common.{◌≡◌, Bool, false, List, [], map, string_bytes, String, Option, Some, None, IfSome, Result}
+use Rattle.std.proofs.Common.{◌≡◌, List, [], map, string_bytes, String, Option, Some, None, IfSome, Result}
 use Rattle.std.proofs.Common.{Ok, Err, IfOk, IfErr, ap, sym, subst, ◌∙◌}
 use Rattle.std.specs.declared.vec.Vec.{Vec}
 use Rattle.std.specs.declared.alloc.Global.{Global}
@@ -17,6 +17,8 @@ use Rattle.modulefile.specs.Answers.{oracle_of}
 use Rattle.modulefile.specs.Files.{RunsFile, ran_of, empty_trace, globals_of}
 use Rattle.modulerun.specs.declared.command_refusal.CommandRefusal.{CommandRefusal}
 use Rattle.modulerun.specs.declared.context.FileContext.{FileContext}
+use Rattle.modulerun.specs.declared.question.Question.{Question}
+use Rattle.modulerun.specs.Questions.{questions_in}
 use Rattle.modulerun.specs.declared.run.FileDraft.{FileDraft}
 use Rattle.modulerun.specs.declared.run_fault.RunFault.{RunFault}
 use Rattle.modulerun.specs.declared.run_fault.RunFault.TheVariants.{OutOfMemory}
@@ -30,30 +32,30 @@ pub begun : (cx ctx : FileContext) (before : Environment) (j : JournalState) →
 begun cx ctx before j e d =
     ap (λ (s : JournalState). context_with s ctx) e ∙ ap (λ (x : FileContext). context_with (journal_state cx.mode cx.name.now before []) x) d
 
-abbrev told_of : List (List Text) → List Text → Bool → Option HostRefusal → Trace
-told_of words messages mark refusal = record { records = words; messages = messages; asked = mark; refused = refusal }
+abbrev told_of : List (List Text) → List Text → List Question → Option HostRefusal → Trace
+told_of words messages asked refusal = record { records = words; messages = messages; asked = questions_in asked; refused = refusal }
 
 -- before the file nothing was done
-untold_at : (j : JournalState) (messages : Vec (String Global) Global) (mark : Bool) (refusal : Option CommandRefusal)
-    → j.words ≡ [] → messages.items ≡ [] → mark ≡ false → refusal ≡ None
-    → trace_with j messages mark refusal ≡ empty_trace
-untold_at j messages mark refusal e d b n =
-    ap (λ (ws : List (List Text)). told_of ws (texts_in messages) mark (refusal_view refusal)) e
-    ∙ ap (λ (ms : List (String Global)). told_of [] (map string_bytes ms) mark (refusal_view refusal)) d
-    ∙ ap (λ (m : Bool). told_of [] [] m (refusal_view refusal)) b
-    ∙ ap (λ (k : Option CommandRefusal). told_of [] [] false (refusal_view k)) n
+untold_at : (j : JournalState) (messages : Vec (String Global) Global) (asked : Vec Question Global) (refusal : Option CommandRefusal)
+    → j.words ≡ [] → messages.items ≡ [] → asked.items ≡ [] → refusal ≡ None
+    → trace_with j messages asked refusal ≡ empty_trace
+untold_at j messages asked refusal e d b n =
+    ap (λ (ws : List (List Text)). told_of ws (texts_in messages) asked.items (refusal_view refusal)) e
+    ∙ ap (λ (ms : List (String Global)). told_of [] (map string_bytes ms) asked.items (refusal_view refusal)) d
+    ∙ ap (λ (qs : List Question). told_of [] [] qs (refusal_view refusal)) b
+    ∙ ap (λ (k : Option CommandRefusal). told_of [] [] [] (refusal_view k)) n
 
 -- the evaluation is that of the file
 pub started : (limits : Limits) (text : Text) (cx ctx : FileContext) (before : Environment) (j : JournalState)
-    (messages : Vec (String Global) Global) (mark : Bool) (refusal : Option CommandRefusal) (gs : Variables)
+    (messages : Vec (String Global) Global) (asked : Vec Question Global) (refusal : Option CommandRefusal) (gs : Variables)
     (r : Result Ending EvalFault) (new : Trace)
-    → j ≡ journal_state cx.mode cx.name.now before [] → ctx ≡ cx → messages.items ≡ [] → mark ≡ false → refusal ≡ None → gs ≡ globals_of cx.path.now
-    → Evaluates limits text gs (oracle_of (context_with j ctx)) (trace_with j messages mark refusal) r new
+    → j ≡ journal_state cx.mode cx.name.now before [] → ctx ≡ cx → messages.items ≡ [] → asked.items ≡ [] → refusal ≡ None → gs ≡ globals_of cx.path.now
+    → Evaluates limits text gs (oracle_of (context_with j ctx)) (trace_with j messages asked refusal) r new
     → Evaluates limits text (globals_of cx.path.now) (oracle_of (context_view cx before)) empty_trace r new
-started limits text cx ctx before j messages mark refusal gs r new e d m b n k h =
-    subst (λ (t : Trace). Evaluates limits text (globals_of cx.path.now) (oracle_of (context_view cx before)) t r new) (untold_at j messages mark refusal (ap (λ (s : JournalState). s.words) e) m b n)
-    (subst (λ (c : answers.FileContext). Evaluates limits text (globals_of cx.path.now) (oracle_of c) (trace_with j messages mark refusal) r new) (begun cx ctx before j e d)
-    (subst (λ (vs : Variables). Evaluates limits text vs (oracle_of (context_with j ctx)) (trace_with j messages mark refusal) r new) k h))
+started limits text cx ctx before j messages asked refusal gs r new e d m b n k h =
+    subst (λ (t : Trace). Evaluates limits text (globals_of cx.path.now) (oracle_of (context_view cx before)) t r new) (untold_at j messages asked refusal (ap (λ (s : JournalState). s.words) e) m b n)
+    (subst (λ (c : answers.FileContext). Evaluates limits text (globals_of cx.path.now) (oracle_of c) (trace_with j messages asked refusal) r new) (begun cx ctx before j e d)
+    (subst (λ (vs : Variables). Evaluates limits text vs (oracle_of (context_with j ctx)) (trace_with j messages asked refusal) r new) k h))
 
 pub drafts_ok : (limits : Limits) (c d : answers.FileContext) (text : Text) (trace : Trace) (end : Ending) (r : Result FileDraft RunFault)
     → Evaluates limits text (globals_of c.path) (oracle_of c) empty_trace (Ok end) trace → oracle_of d ≡ oracle_of c

@@ -1,5 +1,5 @@
 -- How the host's replies follow from what its parts say.
-use Rattle.std.proofs.Common.{◌≡◌, ◌==◌, ℕ, Bool, true, false, ◌||◌, List, [], string_bytes, String, is_none}
+use Rattle.std.proofs.Common.{◌≡◌, ◌==◌, ℕ, true, false, List, [], string_bytes, String, is_none}
 use Rattle.std.proofs.Common.{if◌then◌else◌, Option, Some, None, IfSome, Ok, Err, refl, ap, sym, subst, ◌∙◌}
 use Rattle.std.specs.Option.{option_map}
 use Rattle.std.specs.declared.vec.Vec.{Vec}
@@ -29,37 +29,35 @@ use Rattle.modulefile.specs.Answers.{record_name, record_number, refusal_of}
 use Rattle.modulerun.specs.declared.command_refusal.CommandRefusal.{CommandRefusal}
 use Rattle.modulerun.specs.declared.command_refusal.CommandRefusal.TheVariants.{BadRecord}
 use Rattle.modulerun.specs.declared.context.FileContext.{FileContext}
+use Rattle.modulerun.specs.declared.question.Question.{Question}
+use Rattle.modulerun.specs.Questions.{questions_in}
 use Rattle.modulerun.specs.Journals.{JournalState, environment_so_far, with_command, effect_on}
 use Rattle.modulerun.specs.Hosting.{context_with, trace_with, Replies}
 
-pub by_answer : (a b : OracleAnswer) (h : HostAnswer) (old new : Trace) → a ≡ b → Replies b h old new → Replies a h old new
-by_answer a b h old new e r = subst (λ x. Replies x h old new) (sym e) r
+pub by_answer : (words : List Text) (a b : OracleAnswer) (h : HostAnswer) (old new : Trace) → a ≡ b → Replies words b h old new → Replies words a h old new
+by_answer words a b h old new e r = subst (λ x. Replies words x h old new) (sym e) r
 
 -- the replies of a host are the answers of its oracle
-pub answers_by : (o : Oracle) (words : List Text) (h : HostAnswer) (old new : Trace) → Replies (o.command old.records words) h old new → Answers o words h old new
+pub answers_by : (o : Oracle) (words : List Text) (h : HostAnswer) (old new : Trace) → Replies words (o.command old.records words) h old new → Answers o words h old new
 answers_by o words (Done t) old new r = r
 answers_by o words Unknown old new r = r
 answers_by o words (LeftOut name) old new r = r
 answers_by o words (Refused n) old new r = r
 answers_by o words OutOfMemory old new r = r
 
-or_false : (b : Bool) → b ≡ (b || false)
-or_false true = refl
-or_false false = refl
-
 -- a record that has its effect is added
-pub noted_reply : (s t : JournalState) (cx : FileContext) (messages : Vec (String Global) Global) (mark : Bool)
+pub noted_reply : (s t : JournalState) (cx : FileContext) (messages : Vec (String Global) Global) (asked : Vec Question Global)
     (held : Option CommandRefusal) (words : List Text) (r : records.Record) (text : String Global) (e : Environment)
     → call_of words ≡ Ok (adds_record r) → string_bytes text ≡ [] → t ≡ with_command s words → effect_on s r ≡ Ok e
-    → Replies (command_answer (context_with s cx) (environment_so_far s) words (call_of words)) (Done text) (trace_with s messages mark held) (trace_with t messages mark held)
-noted_reply s t cx messages mark held words r text e call empty add_command effect =
-    by_answer _ (oracle.Done [] (NewRecord words) false) (Done text) (trace_with s messages mark held) (trace_with t messages mark held)
+    → Replies words (command_answer (context_with s cx) (environment_so_far s) words (call_of words)) (Done text) (trace_with s messages asked held) (trace_with t messages asked held)
+noted_reply s t cx messages asked held words r text e call empty add_command effect =
+    by_answer words _ (oracle.Done [] (NewRecord words) false) (Done text) (trace_with s messages asked held) (trace_with t messages asked held)
     (ap (command_answer (context_with s cx) (environment_so_far s) words) call ∙ ap (record_answer words) effect) (
       NewRecord words,
       false,
       (
         ap (λ (x : Text). oracle.Done x (NewRecord words) false) (sym empty),
-        ap (λ (j : JournalState). trace_with j messages mark held) add_command ∙ ap (λ b. trace_with (with_command s words) messages b held) (or_false mark),
+        ap (λ (j : JournalState). trace_with j messages asked held) add_command,
       ),
     )
 
@@ -73,11 +71,11 @@ true_not_false : true ≡ false → ⊥
 true_not_false e = absurd (cc)
 
 -- what replies to every reason of a record alike is want of memory
-from_reasons : (h : HostAnswer) (old new : Trace) (a : OracleAnswer) → ((reason : RecordReason) → Replies (not_done (bad_record reason)) h old new) → Replies a h old new
-from_reasons (Done t) old new a f = let r = f (bad_module_name []) in let e : oracle.Refused 44 (Some []) false ≡ oracle.Done (string_bytes t) r.0 r.1 = r.2.0 in absurd (cc)
-from_reasons Unknown old new a f = let r = f (bad_module_name []) in let e : oracle.Refused 44 (Some []) false ≡ oracle.Unknown r.0 = r.1.0 in absurd (cc)
-from_reasons (LeftOut name) old new a f = let r = f (bad_module_name []) in let e : oracle.Refused 44 (Some []) false ≡ oracle.LeftOut (string_bytes name) r.0 = r.1.0 in absurd (cc)
-from_reasons (Refused n) old new a f =
+from_reasons : (words : List Text) (h : HostAnswer) (old new : Trace) (a : OracleAnswer) → ((reason : RecordReason) → Replies words (not_done (bad_record reason)) h old new) → Replies words a h old new
+from_reasons words (Done t) old new a f = let r = f (bad_module_name []) in let e : oracle.Refused 44 (Some []) false ≡ oracle.Done (string_bytes t) r.0 r.1 = r.2.0 in absurd (cc)
+from_reasons words Unknown old new a f = let r = f (bad_module_name []) in let e : oracle.Refused 44 (Some []) false ≡ oracle.Unknown r.0 = r.1.0 in absurd (cc)
+from_reasons words (LeftOut name) old new a f = let r = f (bad_module_name []) in let e : oracle.Refused 44 (Some []) false ≡ oracle.LeftOut (string_bytes name) r.0 = r.1.0 in absurd (cc)
+from_reasons words (Refused n) old new a f =
     let r = f (bad_module_name []) in
     let q = f (bad_edit inconsistent) in
     let e : oracle.Refused 44 (Some []) false ≡ oracle.Refused n r.0 r.1 = r.2.0 in
@@ -85,46 +83,45 @@ from_reasons (Refused n) old new a f =
     let yes : true ≡ (n == 44) = ap (λ a. number_in a == 44) e in
     let no : false ≡ (n == 44) = ap (λ a. number_in a == 44) d in
     absurd (true_not_false (yes ∙ sym no))
-from_reasons OutOfMemory old new a f = f (bad_module_name [])
+from_reasons words OutOfMemory old new a f = f (bad_module_name [])
 
 some_reason : (o : Option RecordReason) → is_none o ≡ false → (reason : RecordReason) → IfSome o (λ r. r ≡ reason) → o ≡ Some reason
 some_reason None h reason e = absurd (cc)
 some_reason (Some r) h reason e = ap (λ x. Some x) e
 
 -- a refusal that the host remembers is in what it has done, with its name
-pub refusal_traced : (s : JournalState) (messages : Vec (String Global) Global) (mark : Bool) (held : Option CommandRefusal) (fault : RecordFault) (n : ℕ)
+pub refusal_traced : (words : List Text) (s : JournalState) (messages : Vec (String Global) Global) (asked : Vec Question Global) (held : Option CommandRefusal) (fault : RecordFault) (n : ℕ)
     → is_none (fault_reason fault) ≡ false → IfSome (fault_reason fault) (λ reason. n ≡ record_number reason)
     → (reason : RecordReason) → HasFault reason fault
-    → Replies (not_done (bad_record reason)) (Refused n) (trace_with s messages mark held) (trace_with s messages mark (Some (BadRecord fault)))
-refusal_traced s messages mark held fault n some number reason h =
+    → Replies words (not_done (bad_record reason)) (Refused n) (trace_with s messages asked held) (trace_with s messages asked (Some (BadRecord fault)))
+refusal_traced words s messages asked held fault n some number reason h =
     let is : fault_reason fault ≡ Some reason = some_reason (fault_reason fault) some reason h in
     let k : n ≡ record_number reason = subst (λ o. IfSome o (λ r. n ≡ record_number r)) is number in (
       record_name reason,
       false,
       (
         ap (λ (m : ℕ). oracle.Refused m (record_name reason) false) (sym k),
-        ap (λ (b : Bool). record { records = s.words; messages = texts_in messages; asked = b; refused = option_map refusal_of (fault_reason fault) }) (or_false mark)
-            ∙ ap (λ (o : Option RecordReason). record { records = s.words; messages = texts_in messages; asked = mark || false; refused = option_map refusal_of o }) is,
+        ap (λ (o : Option RecordReason). record { records = s.words; messages = texts_in messages; asked = questions_in asked.items; refused = option_map refusal_of o }) is,
       ),
     )
 
 -- a record that has no effect is refused
-pub refused_reply : (s t : JournalState) (cx : FileContext) (messages : Vec (String Global) Global) (mark : Bool)
+pub refused_reply : (s t : JournalState) (cx : FileContext) (messages : Vec (String Global) Global) (asked : Vec Question Global)
     (held : Option CommandRefusal) (words : List Text) (r : records.Record) (fault : RecordFault) (h : HostAnswer)
     (new : Trace)
     → call_of words ≡ Ok (adds_record r) → t ≡ s → IfSome (fault_reason fault) (λ reason. effect_on s r ≡ Err reason)
-    → ((reason : RecordReason) → HasFault reason fault → Replies (not_done (bad_record reason)) h (trace_with t messages mark held) new)
-    → Replies (command_answer (context_with s cx) (environment_so_far s) words (call_of words)) h (trace_with s messages mark held) new
-refused_reply s t cx messages mark held words r fault h new call same e f = go (fault_reason fault) refl
+    → ((again : List Text) (reason : RecordReason) → HasFault reason fault → Replies again (not_done (bad_record reason)) h (trace_with t messages asked held) new)
+    → Replies words (command_answer (context_with s cx) (environment_so_far s) words (call_of words)) h (trace_with s messages asked held) new
+refused_reply s t cx messages asked held words r fault h new call same e f = go (fault_reason fault) refl
   where
-    at : (reason : RecordReason) → HasFault reason fault → Replies (not_done (bad_record reason)) h (trace_with s messages mark held) new
-    at reason k = subst (λ (j : JournalState). Replies (not_done (bad_record reason)) h (trace_with j messages mark held) new) same (f reason k)
+    at : (reason : RecordReason) → HasFault reason fault → Replies words (not_done (bad_record reason)) h (trace_with s messages asked held) new
+    at reason k = subst (λ (j : JournalState). Replies words (not_done (bad_record reason)) h (trace_with j messages asked held) new) same (f words reason k)
 
-    go : (o : Option RecordReason) → fault_reason fault ≡ o → Replies (command_answer (context_with s cx) (environment_so_far s) words (call_of words)) h (trace_with s messages mark held) new
-    go None q = from_reasons h (trace_with s messages mark held) new _ (λ reason. at reason (subst (λ o. IfSome o (λ x. x ≡ reason)) (sym q) tt))
+    go : (o : Option RecordReason) → fault_reason fault ≡ o → Replies words (command_answer (context_with s cx) (environment_so_far s) words (call_of words)) h (trace_with s messages asked held) new
+    go None q = from_reasons words h (trace_with s messages asked held) new _ (λ reason. at reason (subst (λ o. IfSome o (λ x. x ≡ reason)) (sym q) tt))
     go (Some reason) q =
         let d : effect_on s r ≡ Err reason = subst (λ o. IfSome o (λ x. effect_on s r ≡ Err x)) q e in
-        by_answer _ (not_done (bad_record reason)) h (trace_with s messages mark held) new
+        by_answer words _ (not_done (bad_record reason)) h (trace_with s messages asked held) new
         (ap (command_answer (context_with s cx) (environment_so_far s) words) call ∙ ap (record_answer words) d)
         (at reason (subst (λ o. IfSome o (λ x. x ≡ reason)) (sym q) refl))
 
@@ -137,27 +134,27 @@ read_unnamed var value e = ap (λ b. if b then question_answer value else not_do
 -- a question is answered
 pub asked_reply : (c : answers.FileContext) (e : Environment) (words : List Text) (call : Call) (made : calls.Call) (text : Text) (h : HostAnswer) (old new : Trace)
     → call_of words ≡ Ok (call_view call) → call_view call ≡ made → command_answer c e words (Ok made) ≡ question_answer text
-    → Replies (question_answer text) h old new → Replies (command_answer c e words (call_of words)) h old new
+    → Replies words (question_answer text) h old new → Replies words (command_answer c e words (call_of words)) h old new
 asked_reply c e words call made text h old new k is a r =
-    by_answer _ (question_answer text) h old new (ap (command_answer c e words) (k ∙ ap (λ x. Ok x) is) ∙ a) r
+    by_answer words _ (question_answer text) h old new (ap (command_answer c e words) (k ∙ ap (λ x. Ok x) is) ∙ a) r
 
 -- what replies to every reason of a call alike is want of memory
-from_call_reasons : (h : HostAnswer) (old new : Trace) (a : OracleAnswer) → ((reason : CallReason) → Replies (not_done reason) h old new) → Replies a h old new
-from_call_reasons (Done t) old new a f = let r = f unknown in let e : oracle.Unknown false ≡ oracle.Done (string_bytes t) r.0 r.1 = r.2.0 in absurd (cc)
-from_call_reasons Unknown old new a f = let r = f bad_arguments in let e : oracle.Refused 56 None false ≡ oracle.Unknown r.0 = r.1.0 in absurd (cc)
-from_call_reasons (LeftOut name) old new a f = let r = f unknown in let e : oracle.Unknown false ≡ oracle.LeftOut (string_bytes name) r.0 = r.1.0 in absurd (cc)
-from_call_reasons (Refused n) old new a f = let r = f unknown in let e : oracle.Unknown false ≡ oracle.Refused n r.0 r.1 = r.2.0 in absurd (cc)
-from_call_reasons OutOfMemory old new a f = f unknown
+from_call_reasons : (words : List Text) (h : HostAnswer) (old new : Trace) (a : OracleAnswer) → ((reason : CallReason) → Replies words (not_done reason) h old new) → Replies words a h old new
+from_call_reasons words (Done t) old new a f = let r = f unknown in let e : oracle.Unknown false ≡ oracle.Done (string_bytes t) r.0 r.1 = r.2.0 in absurd (cc)
+from_call_reasons words Unknown old new a f = let r = f bad_arguments in let e : oracle.Refused 56 None false ≡ oracle.Unknown r.0 = r.1.0 in absurd (cc)
+from_call_reasons words (LeftOut name) old new a f = let r = f unknown in let e : oracle.Unknown false ≡ oracle.LeftOut (string_bytes name) r.0 = r.1.0 in absurd (cc)
+from_call_reasons words (Refused n) old new a f = let r = f unknown in let e : oracle.Unknown false ≡ oracle.Refused n r.0 r.1 = r.2.0 in absurd (cc)
+from_call_reasons words OutOfMemory old new a f = f unknown
 
 -- words that call no command are answered by the reason
 pub fault_reply : (c : answers.FileContext) (e : Environment) (words : List Text) (fault : CallFault) (h : HostAnswer) (old new : Trace)
     → IfSome (reason_of fault) (λ r. call_of words ≡ Err r)
-    → ((reason : CallReason) → HasReason reason fault → Replies (not_done reason) h old new)
-    → Replies (command_answer c e words (call_of words)) h old new
+    → ((again : List Text) (reason : CallReason) → HasReason reason fault → Replies again (not_done reason) h old new)
+    → Replies words (command_answer c e words (call_of words)) h old new
 fault_reply c e words fault h old new k f = go (reason_of fault) refl
   where
-    go : (o : Option CallReason) → reason_of fault ≡ o → Replies (command_answer c e words (call_of words)) h old new
-    go None q = from_call_reasons h old new _ (λ reason. f reason (subst (λ o. IfSome o (λ x. x ≡ reason)) (sym q) tt))
+    go : (o : Option CallReason) → reason_of fault ≡ o → Replies words (command_answer c e words (call_of words)) h old new
+    go None q = from_call_reasons words h old new _ (λ reason. f words reason (subst (λ o. IfSome o (λ x. x ≡ reason)) (sym q) tt))
     go (Some reason) q =
         let d : call_of words ≡ Err reason = subst (λ o. IfSome o (λ x. call_of words ≡ Err x)) q k in
-        by_answer _ (not_done reason) h old new (ap (command_answer c e words) d) (f reason (subst (λ o. IfSome o (λ x. x ≡ reason)) (sym q) refl))
+        by_answer words _ (not_done reason) h old new (ap (command_answer c e words) d) (f words reason (subst (λ o. IfSome o (λ x. x ≡ reason)) (sym q) refl))

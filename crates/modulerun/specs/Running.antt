@@ -20,6 +20,7 @@ use Rattle.modulefile.specs.Files.{FileReason, halted, refused, failed, refused_
 use Rattle.modulerun.specs.declared.context.FileContext.{FileContext}
 use Rattle.modulerun.specs.declared.run.FileRun.{FileRun}
 use Rattle.modulerun.specs.declared.run.FileDraft.{FileDraft}
+use Rattle.modulerun.specs.Questions.{questions_in}
 use Rattle.modulerun.specs.declared.run_fault.RunFault.{RunFault}
 use Rattle.modulerun.specs.declared.run_fault.RunFault.TheVariants.{OutOfMemory, Eval, BadArguments, BadRecord}
 
@@ -44,7 +45,7 @@ ran_view ran env =
     record {
       records = map record_view ran.records.items;
       messages = map string_bytes ran.messages.items;
-      asked = ran.asked;
+      asked = questions_in ran.asked.items;
       env = env;
     }
 

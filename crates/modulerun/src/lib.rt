@@ -9,11 +9,13 @@ mod command_refusal;
 mod context;
 mod effects;
 mod journal;
+mod question;
 mod questions;
 mod run;
 mod run_fault;
 mod runner;
 
 pub use context::FileContext;
+pub use question::Question;
 pub use run::{FileRun, records_unless_asked, run_file};
 pub use run_fault::RunFault;

@@ -1,12 +1,14 @@
 //! The run of a modulefile over an environment.
-ghost use Rattle.std.specs.Prelude.{◌≡◌, true, false, Some, IfOk, IfErr, IfSome};
+ghost use Rattle.std.specs.Prelude.{◌≡◌, [], head, Some, IfOk, IfErr, IfSome};
 ghost use Rattle.tclrules.specs.Promise.{texts_of};
-ghost use Rattle.modulefile.specs.Files.{globals_of, refused_by};
+ghost use Rattle.modulefile.specs.Files.{any_question, globals_of, refused_by};
+ghost use Rattle.modulerun.specs.Questions.{questions_in};
 ghost use Rattle.modulerun.specs.Hosting.{refusal_view};
 ghost use Rattle.modulerun.specs.Running.{context_view, eval_reason, file_reason_of, RunsTo, Drafts};
 
 use crate::command_refusal::CommandRefusal;
 use crate::context::FileContext;
+use crate::question::Question;
 use crate::run_fault::RunFault;
 use crate::runner::Runner;
 use envvars::{Change, Vars};
@@ -15,28 +17,33 @@ use std::alloc::{AllocError, Global};
 use tcleval::evaluate;
 use tclrules::{EvalFault, Limits};
 
-/// What an accepted file leaves: the records of its commands, its messages, and whether it asked about the environment,
-/// the mode, the shell, the typed name or the loaded modules.
+/// What an accepted file leaves: the records of its commands, its messages, and what it asked about the environment, the
+/// mode, the shell, the typed name or the loaded modules, in order and with the answers.
 #[derive(Debug, Drop)]
 pub struct FileRun {
     pub records: Vec<Record>,
     pub messages: Vec<String>,
-    pub asked: bool,
-    /// The words of the first question, as `getenv HOME` or `$env(HOME)`. Where it asked nothing there are none, and
-    /// where memory was short there can be none; no clause says which they are.
-    pub question: Option<String>,
+    pub asked: Vec<Question>,
 }
 
-/// The records of a module whose evaluation asked nothing. Else they may differ elsewhere: these are the words of its
-/// first question, where there was memory for them.
-pub fn records_unless_asked(ran: FileRun) -> Result<Vec<Record>, Option<String>>
-    ensures asked { IfErr result (λ question. (ran.asked ≡ true) × (question ≡ ran.question)) }
-    ensures unasked { IfOk result (λ records. (ran.asked ≡ false) × (records ≡ ran.records)) }
-{
-    if ran.asked {
-        return Err(ran.question);
+impl FileRun {
+    /// Whether the file asked anything.
+    pub fn has_asked(&self) -> bool
+        ensures { result ≡ any_question (questions_in self.now.asked.items) }
+    {
+        !self.asked.is_empty()
     }
-    Ok(ran.records)
+}
+
+/// The records of a module whose evaluation asked nothing. Else they may differ elsewhere: this is its first question.
+pub fn records_unless_asked(ran: FileRun) -> Result<Vec<Record>, Question>
+    ensures asked { IfErr result (λ first. head ran.asked.items ≡ Some first) }
+    ensures unasked { IfOk result (λ records. (ran.asked.items ≡ []) × (records ≡ ran.records)) }
+{
+    match ran.asked.into_iter().next() {
+        Some(first) => Err(first),
+        None => Ok(ran.records),
+    }
 }
 
 /// What an accepted file leaves, and the changes that its environment doesn't have yet.

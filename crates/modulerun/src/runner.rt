@@ -1,5 +1,5 @@
 //! The host of a modulefile: it does the commands that Tcl hasn't (modulefile(5)).
-ghost use Rattle.std.specs.Prelude.{◌≡◌, ◌++◌, ◌∷◌, [], None, Some, Ok, map, string_bytes, IfOk, IfErr, IfSome, OnOk};
+ghost use Rattle.std.specs.Prelude.{◌≡◌, ◌++◌, ◌∷◌, [], List, None, Some, Ok, map, string_bytes, IfOk, IfErr, IfSome, OnOk};
 ghost use Rattle.std.specs.Prelude.{OnErr, false};
 ghost use Rattle.envvars.specs.Texts.{Text, texts_in};
 ghost use Rattle.envvars.specs.Changes.{applied, new_values_in};
@@ -20,6 +20,7 @@ ghost use Rattle.modulerun.specs.Hosting.{context_of, trace_of, refusal_view, me
 use crate::command_refusal::CommandRefusal;
 use crate::context::FileContext;
 use crate::journal::{FinishedFile, Journal};
+use crate::question::{Question, add_command, add_variable};
 use crate::questions::{any_loaded, is_mode, mode_word, truth};
 use crate::run::{FileDraft, FileRun, refusal};
 use crate::run_fault::RunFault;
@@ -34,9 +35,7 @@ pub(crate) struct Runner<'a, V: Vars> {
     pub context: FileContext<'a>,
     pub journal: Journal<'a, V>,
     pub messages: Vec<String>,
-    pub asked: bool,
-    /// The words of the first question, once the file has asked.
-    pub question: Option<String>,
+    pub asked: Vec<Question>,
     /// Why the last refused command was refused: the evaluator has its number alone, and this has the name as well.
     pub refusal: Option<CommandRefusal>,
 }
@@ -50,7 +49,6 @@ impl<'a, V: Vars> Drop for Runner<'a, V> {
             journal: _journal,
             messages: _messages,
             asked: _asked,
-            question: _question,
             refusal: _refusal,
         } = self;
     }
@@ -63,7 +61,7 @@ impl<'a, V: Vars> Runner<'a, V> {
             ≡ journal_state context.entry.mode context.entry.name.now (V.vars before.entry.now) [] }
         ensures context { result.context ≡ context.entry }
         ensures messages { result.messages.items ≡ [] }
-        ensures asked { result.asked ≡ false }
+        ensures asked { result.asked.items ≡ [] }
         ensures refusal { result.refusal ≡ None }
     {
         Runner {
@@ -71,16 +69,15 @@ impl<'a, V: Vars> Runner<'a, V> {
             context,
             journal: Journal::over(alloc, context.mode, context.name, before),
             messages: Vec::new(alloc),
-            asked: false,
-            question: None,
+            asked: Vec::new(alloc),
             refusal: None,
         }
     }
 
     /// The answer to words that call no command.
     fn not_done(&mut self, fault: CallFault) -> HostAnswer
-        ensures replies { (reason : CallReason) → HasReason reason fault → Replies (not_done reason) result
-            (trace_of self.old) (trace_of self.new) }
+        ensures replies { (words : List Text) (reason : CallReason) → HasReason reason fault
+            → Replies words (not_done reason) result (trace_of self.old) (trace_of self.new) }
         ensures same { context_of self.new ≡ context_of self.old }
     {
         match fault {
@@ -96,8 +93,8 @@ impl<'a, V: Vars> Runner<'a, V> {
 
     /// Refuses a command by the number of the fault, and remembers the fault for the refusal of the file.
     fn refuse(&mut self, fault: RecordFault) -> HostAnswer
-        ensures replies { (reason : RecordReason) → HasFault reason fault
-            → Replies (not_done (bad_record reason)) result (trace_of self.old) (trace_of self.new) }
+        ensures replies { (words : List Text) (reason : RecordReason) → HasFault reason fault
+            → Replies words (not_done (bad_record reason)) result (trace_of self.old) (trace_of self.new) }
         ensures same { context_of self.new ≡ context_of self.old }
     {
         if fault.is_out_of_memory() {
@@ -111,9 +108,9 @@ impl<'a, V: Vars> Runner<'a, V> {
     /// Adds the record of a command to the journal, where it has its effect.
     fn add_record(&mut self, words: &[String], recorded: Record) -> HostAnswer
         requires { call_of (map string_bytes words.now) ≡ Ok (adds_record (record_view recorded)) }
-        ensures replies { Replies (command_answer (context_of self.old) (environment_so_far self.old.journal)
-            (map string_bytes words.now) (call_of (map string_bytes words.now))) result
-            (trace_of self.old) (trace_of self.new) }
+        ensures replies { Replies (map string_bytes words.now) (command_answer (context_of self.old)
+            (environment_so_far self.old.journal) (map string_bytes words.now)
+            (call_of (map string_bytes words.now))) result (trace_of self.old) (trace_of self.new) }
         ensures same { context_of self.new ≡ context_of self.old }
     {
         match self.journal.add_command(words, recorded) {
@@ -124,8 +121,8 @@ impl<'a, V: Vars> Runner<'a, V> {
 
     /// Adds a message, with a newline or without.
     fn add_message(&mut self, text: &str, newline: bool) -> HostAnswer
-        ensures replies { Replies (Done [] (Message (message_of text.now newline)) false) result
-            (trace_of self.old) (trace_of self.new) }
+        ensures replies { (words : List Text) → Replies words (Done [] (Message (message_of text.now newline)) false)
+            result (trace_of self.old) (trace_of self.new) }
         ensures same { context_of self.new ≡ context_of self.old }
     {
         match push_message(self.alloc, &mut self.messages, text, newline) {
@@ -134,42 +131,28 @@ impl<'a, V: Vars> Runner<'a, V> {
         }
     }
 
-    /// Answers a question; the file has then asked.
-    fn answer_question(&mut self, text: Result<String, AllocError>) -> HostAnswer
-        ensures replies { (t : Text) → IfOk text (λ s. string_bytes s ≡ t) → Replies (question_answer t) result
-            (trace_of self.old) (trace_of self.new) }
+    /// Answers the words of a question, which the file has then asked.
+    fn answer_question(
+        &mut self,
+        words: &[String],
+        text: Result<String, AllocError>,
+    ) -> HostAnswer
+        ensures replies { (t : Text) → IfOk text (λ s. string_bytes s ≡ t) → Replies (map string_bytes words.now)
+            (question_answer t) result (trace_of self.old) (trace_of self.new) }
         ensures same { context_of self.new ≡ context_of self.old }
     {
-        self.asked = true;
-        match text {
-            Ok(text) => HostAnswer::Done(text),
+        let Ok(text) = text else {
+            return HostAnswer::OutOfMemory;
+        };
+        match add_command(self.alloc, &mut self.asked, words, text.as_str()) {
+            Ok(()) => HostAnswer::Done(text),
             Err(_) => HostAnswer::OutOfMemory,
-        }
-    }
-
-    /// Notes the words of a command that was the first question. Where memory is short it stays without them.
-    fn note_question(&mut self, words: &[String])
-        ensures trace { trace_of self.new ≡ trace_of self.old }
-        ensures same { context_of self.new ≡ context_of self.old }
-    {
-        if self.asked && self.question.is_none() {
-            self.question = spaced(self.alloc, words).ok();
-        }
-    }
-
-    /// Notes that the first question was for this variable of the environment.
-    fn note_variable(&mut self, name: &str)
-        ensures trace { trace_of self.new ≡ trace_of self.old }
-        ensures same { context_of self.new ≡ context_of self.old }
-    {
-        if self.question.is_none() {
-            self.question = format!(in self.alloc; "$env({name})").ok();
         }
     }
 
     /// Answers `module-info name`, which is no question: a name is the same in every context of the file.
     fn own_name(&self) -> HostAnswer
-        ensures replies { Replies (Done self.now.journal.module_name Nothing false) result
+        ensures replies { (words : List Text) → Replies words (Done self.now.journal.module_name Nothing false) result
             (trace_of self.now) (trace_of self.now) }
     {
         match String::from_str(self.alloc, self.journal.module_name()) {
@@ -195,8 +178,8 @@ impl<'a, V: Vars> Runner<'a, V> {
     }
 
     /// Answers `getenv`.
-    fn getenv(&mut self, var: &str, default: &str) -> HostAnswer
-        ensures replies { Replies (variable_answer var.now
+    fn getenv(&mut self, words: &[String], var: &str, default: &str) -> HostAnswer
+        ensures replies { Replies (map string_bytes words.now) (variable_answer var.now
             (value_shown (mode_view self.old.journal.mode)
             (environment_so_far self.old.journal) var.now default.now)) result
             (trace_of self.old) (trace_of self.new) }
@@ -204,7 +187,7 @@ impl<'a, V: Vars> Runner<'a, V> {
     {
         if is_variable_name(var) {
             let value = self.value_shown(var, default);
-            self.answer_question(value)
+            self.answer_question(words, value)
         } else {
             self.refuse(RecordFault::Env(EnvFault::bad_variable(self.alloc, var)))
         }
@@ -233,14 +216,14 @@ impl<'a, V: Vars> Runner<'a, V> {
     }
 
     /// Answers `is-loaded`: whether a name means a loaded module, or without a name whether any is loaded.
-    fn is_loaded(&mut self, names: &[String]) -> HostAnswer
-        ensures replies { Replies (question_answer (truth (any_loaded (map string_bytes names.now)
-            (map string_bytes self.old.context.loaded.now)))) result
+    fn is_loaded(&mut self, words: &[String], names: &[String]) -> HostAnswer
+        ensures replies { Replies (map string_bytes words.now) (question_answer (truth (any_loaded
+            (map string_bytes names.now) (map string_bytes self.old.context.loaded.now)))) result
             (trace_of self.old) (trace_of self.new) }
         ensures same { context_of self.new ≡ context_of self.old }
     {
         let is_true = any_loaded(names, self.context.loaded);
-        self.answer_question(String::from_str(self.alloc, truth(is_true)))
+        self.answer_question(words, String::from_str(self.alloc, truth(is_true)))
     }
 
     /// What the file leaves, where its evaluation ended without a fault. It fails for `OutOfMemory` alone.
@@ -255,7 +238,6 @@ impl<'a, V: Vars> Runner<'a, V> {
             journal,
             messages,
             asked,
-            question,
             refusal: _refusal,
         } = self;
         let FinishedFile { records, changes } = journal.finish()?;
@@ -263,7 +245,6 @@ impl<'a, V: Vars> Runner<'a, V> {
             records,
             messages,
             asked,
-            question,
         };
         Ok(FileDraft { ran, changes })
     }
@@ -279,7 +260,6 @@ impl<'a, V: Vars> Runner<'a, V> {
             journal: _journal,
             messages: _messages,
             asked: _asked,
-            question: _question,
             refusal: command,
         } = self;
         refusal(fault, command)
@@ -288,44 +268,32 @@ impl<'a, V: Vars> Runner<'a, V> {
     /// Does a command, and answers it.
     fn answer(&mut self, words: &[String], call: Call<'_>) -> HostAnswer
         requires { call_of (map string_bytes words.now) ≡ Ok (call_view call) }
-        ensures replies { Replies (command_answer (context_of self.old) (environment_so_far self.old.journal)
-            (map string_bytes words.now) (call_of (map string_bytes words.now))) result
-            (trace_of self.old) (trace_of self.new) }
+        ensures replies { Replies (map string_bytes words.now) (command_answer (context_of self.old)
+            (environment_so_far self.old.journal) (map string_bytes words.now)
+            (call_of (map string_bytes words.now))) result (trace_of self.old) (trace_of self.new) }
         ensures same { context_of self.new ≡ context_of self.old }
     {
         let alloc = self.alloc;
         match call {
             Call::Adds(record) => self.add_record(words, record),
             Call::Puts { text, newline } => self.add_message(text, newline),
-            Call::Getenv { var, default } => self.getenv(var, default),
+            Call::Getenv { var, default } => self.getenv(words, var, default),
             Call::OwnName => self.own_name(),
-            Call::IsLoaded(names) => self.is_loaded(names),
+            Call::IsLoaded(names) => self.is_loaded(words, names),
             Call::TypedName => {
                 let typed = self.context.typed;
-                self.answer_question(String::from_str(alloc, typed))
+                self.answer_question(words, String::from_str(alloc, typed))
             }
             Call::Info(field) => {
                 let text = self.field_text(field);
-                self.answer_question(String::from_str(alloc, text))
+                self.answer_question(words, String::from_str(alloc, text))
             }
             Call::InfoTest(field, word) => {
                 let is_true = self.field_test(field, word);
-                self.answer_question(String::from_str(alloc, truth(is_true)))
+                self.answer_question(words, String::from_str(alloc, truth(is_true)))
             }
         }
     }
-}
-
-/// The words of a command, with spaces between them.
-fn spaced(alloc: Global, words: &[String]) -> Result<String, AllocError> {
-    let mut text = String::new(alloc);
-    for word in words {
-        if !text.is_empty() {
-            text.push(' ')?;
-        }
-        text.push_str(word.as_str())?;
-    }
-    Ok(text)
 }
 
 /// Adds a message, with a newline or without.
@@ -376,18 +344,14 @@ impl<'a, V: Vars> Host for Runner<'a, V> {
         ensures same { oracle_of (context_of self.new) ≡ oracle_of (context_of self.old) }
     {
         match call_of(self.alloc, words) {
-            Ok(call) => {
-                let answer = self.answer(words, call);
-                self.note_question(words);
-                answer
-            }
+            Ok(call) => self.answer(words, call),
             Err(fault) => self.not_done(fault),
         }
     }
 
     fn read_env(&mut self, name: &str) -> Result<Option<String>, AllocError> {
-        self.asked = true;
-        self.note_variable(name);
-        self.journal.value(name)
+        let value = self.journal.value(name)?;
+        add_variable(self.alloc, &mut self.asked, name, &value)?;
+        Ok(value)
     }
 }

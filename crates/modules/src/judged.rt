@@ -47,7 +47,7 @@ pub fn are_reversible(records: &[Record]) -> bool
 pub(crate) fn verdict_on(ran: &FileRun) -> Verdict
     ensures { (e : Environment) → verdict_view result ≡ verdict_of (ran_view ran.now e) }
 {
-    if ran.asked {
+    if ran.has_asked() {
         Verdict::Asked
     } else if are_reversible(ran.records.as_slice()) {
         Verdict::Plain

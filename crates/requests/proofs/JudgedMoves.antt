@@ -1,5 +1,5 @@
 -- A session of modules that were judged plain is one of plain files, whose records unloading undoes.
-use Rattle.std.proofs.Common.{◌≡◌, true, false, List, [], ◌∷◌, ◌++◌, sym, subst}
+use Rattle.std.proofs.Common.{◌≡◌, true, List, [], ◌∷◌, ◌++◌, sym, subst}
 use Rattle.std.specs.List.{list_all}
 use Rattle.envvars.specs.Texts.{Text}
 use Rattle.modulefile.specs.Moves.{Module, Move, Loads, Unloads}
@@ -18,7 +18,7 @@ use Rattle.requests.proofs.Origins.{IsFrom, AllFrom}
 use Rattle.requests.proofs.PlainMoves.{same_records, moved_left, session_from}
 
 -- the result of the evaluation of the verdict, at the module's own name and path
-judged_of : (s : RequestContext) (name path : Text) → IsJudgedPlain s name path → (ran : Ran) × HasEvaluatedTo s name path ran × (ran.asked ≡ false) × (list_all is_reversible ran.records ≡ true)
+judged_of : (s : RequestContext) (name path : Text) → IsJudgedPlain s name path → (ran : Ran) × HasEvaluatedTo s name path ran × (ran.asked ≡ []) × (list_all is_reversible ran.records ≡ true)
 judged_of s name path j =
     let (m, found, ran, left, unasked, undone) = judged_left s j.env j.typed j.judged in
     let at = j.means m found in

@@ -1,5 +1,5 @@
 -- Verdicts, by the laws of modulefiles.
-use Rattle.std.proofs.Common.{◌≡◌, Bool, true, false, Ok, refl, sym, subst}
+use Rattle.std.proofs.Common.{◌≡◌, Bool, true, false, List, [], ◌∷◌, Ok, refl, sym, subst}
 use Rattle.std.specs.Prelude.{if◌then◌else◌}
 use Rattle.std.specs.List.{list_all}
 use Rattle.envvars.specs.Texts.{Text}
@@ -7,7 +7,8 @@ use Rattle.envvars.specs.Environment.{Environment}
 use Rattle.filetree.specs.Relations.{Is}
 use Rattle.filetree.proofs.OneOutcome.{one_is, one_then}
 use Rattle.modulefile.specs.Answers.{FileContext}
-use Rattle.modulefile.specs.Files.{Ran, RunsFile}
+use Rattle.tclrules.specs.Oracle.{Question}
+use Rattle.modulefile.specs.Files.{Ran, any_question, RunsFile}
 use Rattle.modulefile.specs.Laws as files
 use Rattle.search.specs.Found as search
 use Rattle.reversal.specs.VariableUses.{is_reversible}
@@ -38,6 +39,11 @@ some_verdict file left s e name =
     some_then (some_run file s.limits (verdict_context s name m xs e) m.text) (λ ran.
     some_is (Ok (verdict_of ran)))))
 
+-- where no question was found nothing was asked
+nothing_asked : (asked : List Question) → any_question asked ≡ false → asked ≡ []
+nothing_asked [] h = refl
+nothing_asked (q ∷ asked) h = absurd (cc)
+
 plain_parts : (a r : Bool) → plain ≡ (if a then asked else if r then plain else one_way) → (a ≡ false) × (r ≡ true)
 plain_parts true r e = absurd (cc)
 plain_parts false true e = (refl, refl)
@@ -53,20 +59,20 @@ plain_holds agree s e name h =
     let (ran, runs, h3) = went_on _ _ plain h2 in
     let c = verdict_context s name m xs e in
     let same : plain ≡ verdict_of ran = (let q : Ok plain ≡ Ok (verdict_of ran) = h3 in cc) in
-    let p = plain_parts ran.asked (list_all is_reversible ran.records) same in
-    (m, ran, found, p.1, (λ d o n q r. agree s.limits c d m.text ran o (as_ok c s m.text ran runs) p.0 n q r))
+    let p = plain_parts (any_question ran.asked) (list_all is_reversible ran.records) same in
+    (m, ran, found, p.1, (λ d o n q r. agree s.limits c d m.text ran o (as_ok c s m.text ran runs) (nothing_asked ran.asked p.0) n q r))
 
 -- the result of the evaluation of a verdict, where it is plain
 pub judged_left : (s : RequestContext) (e : Environment) (name : Text) → HasVerdict s e name (Ok plain)
-    → (m : search.FoundModule) × Finds s e name (Ok m) × (ran : Ran) × HasEvaluatedTo s m.name m.path ran × (ran.asked ≡ false) × (list_all is_reversible ran.records ≡ true)
+    → (m : search.FoundModule) × Finds s e name (Ok m) × (ran : Ran) × HasEvaluatedTo s m.name m.path ran × (ran.asked ≡ []) × (list_all is_reversible ran.records ≡ true)
 judged_left s e name h =
     let (xs, read, h1) = went_on (Is (entries_of e)) _ plain h in
     let (m, found, h2) = went_on (Finds s e name) _ plain h1 in
     let (ran, runs, h3) = went_on _ _ plain h2 in
     let c = verdict_context s name m xs e in
     let same : plain ≡ verdict_of ran = (let q : Ok plain ≡ Ok (verdict_of ran) = h3 in cc) in
-    let p = plain_parts ran.asked (list_all is_reversible ran.records) same in
-    (m, found, ran, record { text = m.text; file = found_script s e name m found; context = c; named = refl; at_path = refl; runs = as_ok c s m.text ran runs }, p.0, p.1)
+    let p = plain_parts (any_question ran.asked) (list_all is_reversible ran.records) same in
+    (m, found, ran, record { text = m.text; file = found_script s e name m found; context = c; named = refl; at_path = refl; runs = as_ok c s m.text ran runs }, nothing_asked ran.asked p.0, p.1)
 
 pub judged_is_plain : JudgedIsPlain
 judged_is_plain s e name h = let (m, found, ran, left, unasked, undone) = judged_left s e name h in (m, found, (ran, left, unasked))

@@ -112,7 +112,7 @@ agreed ran other (inl (again, same, records)) = let q : other ≡ again = (let r
 agreed ran other (inr (n, refusal, same)) = absurd (let r : Ok other ≡ Err (refused_by n refusal) = same in cc)
 
 pub same_records : PlainFilesAgree → (s : RequestContext) (name path : Text) (ran other : Ran)
-    → HasEvaluatedTo s name path ran → ran.asked ≡ false → HasEvaluatedTo s name path other
+    → HasEvaluatedTo s name path ran → ran.asked ≡ [] → HasEvaluatedTo s name path other
     → other.records ≡ ran.records
 same_records agree s name path ran other h unasked k =
     agreed ran other (agree s.limits h.context k.context h.text ran (Ok other) h.runs unasked (k.named ∙ sym h.named) (k.at_path ∙ sym h.at_path)

@@ -1,5 +1,5 @@
 -- Runs of modules whose files are plain (own): that an unload undoes what its load did is then no premise.
-use Rattle.std.specs.Prelude.{◌≡◌, false, List, [], ◌∷◌, Ok}
+use Rattle.std.specs.Prelude.{◌≡◌, List, [], ◌∷◌, Ok}
 use Rattle.envvars.specs.Texts.{Text}
 use Rattle.envvars.specs.Environment.{Environment}
 use Rattle.filetree.specs.Modulefiles.{script, modulefile}
@@ -23,7 +23,7 @@ pub record HasEvaluatedTo (s : RequestContext) (name path : Text) (ran : Ran) : 
 
 -- The module is plain: one such evaluation asked nothing of its environment.
 abbrev pub IsPlain : RequestContext → Text → Text → Type 0
-IsPlain s name path = (ran : Ran) × HasEvaluatedTo s name path ran × (ran.asked ≡ false)
+IsPlain s name path = (ran : Ran) × HasEvaluatedTo s name path ran × (ran.asked ≡ [])
 
 -- Each load is of a module that is reversible and apart from the live ones, and whose file is plain.
 abbrev pub ArePlain : RequestContext → (Text → VariableUse) → List Module → List Move → Type 0

@@ -8,7 +8,7 @@ use Rattle.shelltext.specs.declared.shell.Shell.TheVariants.{Sh}
 use Rattle.filetree.specs.Relations.{Is, ◌>>◌}
 use Rattle.modulefile.specs.Effects as modes
 use Rattle.modulefile.specs.Answers.{FileContext}
-use Rattle.modulefile.specs.Files.{Ran, FileReason, RunsFile, IsSameOrRefused}
+use Rattle.modulefile.specs.Files.{Ran, any_question, FileReason, RunsFile, IsSameOrRefused}
 use Rattle.search.specs.Found as search
 use Rattle.reversal.specs.VariableUses.{is_reversible}
 use Rattle.requests.specs.Refusals.{RefusedAs}
@@ -27,7 +27,7 @@ pub data Verdict : Type 0 where
 
 -- the verdict by the result of the evaluation
 abbrev pub verdict_of : Ran → Verdict
-verdict_of ran = if ran.asked then asked else if list_all is_reversible ran.records then plain else one_way
+verdict_of ran = if any_question ran.asked then asked else if list_all is_reversible ran.records then plain else one_way
 
 -- the context of a verdict: for loading, in sh
 abbrev pub verdict_context : RequestContext → Text → search.FoundModule → List Entry → Environment → FileContext

@@ -1,15 +1,17 @@
 -- How modules stand by what each shows by itself, and by what is answered of clashes.
 use Rattle.std.proofs.Common.{◌≡◌, inl, inr, Bool, true, false, cond, not, ◌&&◌, List, [], ◌∷◌, ◌++◌, map, filter, find}
-use Rattle.std.proofs.Common.{Option, Some, None, Result, Ok, Err, refl, ap, sym, ◌∙◌, subst}
+use Rattle.std.proofs.Common.{head, Option, Some, None, Result, Ok, Err, refl, ap, sym, ◌∙◌, subst}
 use Rattle.std.specs.Prelude.{filter_map, flat_map}
 use Rattle.std.specs.List.{list_all, cons_option, AllByRecursion}
 use Rattle.std.proofs.lemmas.Bool.{false≢true, and_parts, and_from}
 use Rattle.envvars.specs.Texts.{Text}
 use Rattle.envvars.specs.Fields.{colon}
 use Rattle.envvars.proofs.TextLemmas.{bytes_eq-same}
-use Rattle.modulefile.specs.Files.{Ran}
+use Rattle.modulefile.specs.Files.{Ran, any_question}
 use Rattle.modulefile.specs.RecordViews.{record_view}
+use Rattle.modulerun.specs.declared.question.Question.{Question}
 use Rattle.modulerun.specs.declared.run.FileRun as code
+use Rattle.modulerun.specs.Questions.{question_view, questions_in}
 use Rattle.modulerun.specs.Running.{ran_view}
 use Rattle.modulefile.specs.Records.{Record}
 use Rattle.modulefile.specs.Moves.{Module}
@@ -79,16 +81,25 @@ plain_with asks m rs = plain_by (cond asks asked (cond (list_all is_reversible r
 plainly : (m : SiteModule) (rs : List Record) → list_all is_reversible rs ≡ true → plain_with false m rs ≡ Some (with_records m rs)
 plainly m rs t = rw t refl
 
-step_by : (m : SiteModule) (asks : Bool) (rs : List Record) (finding : ModuleFinding) → IsFindingOf asks rs finding → (rest : List Module)
-    → steps_of m finding ++ filter is_in_step rest ≡ filter is_in_step (cons_option (plain_with asks m rs) rest)
-step_by m asks rs (Stands Certified) f rest = absurd f
-step_by m asks rs (Stands (Asks question)) f rest = rw f refl
-step_by m asks rs (Stands (OneWay first)) f rest = let n : list_all is_reversible rs ≡ false = not_all is_reversible rs (record_view first) f.1 in rw (f.0, n) refl
-step_by m asks rs (Stands (OutOfStep v x y)) f rest =
+-- what was asked first was asked
+head_asks : (qs : List Question) (q : Question) → head qs ≡ Some q → any_question (questions_in qs) ≡ true
+head_asks [] q h = absurd (cc)
+head_asks (p ∷ qs) q h = refl
+
+head_viewed : (qs : List Question) (q : Question) → head qs ≡ Some q → head (questions_in qs) ≡ Some (question_view q)
+head_viewed [] q h = absurd (cc)
+head_viewed (p ∷ qs) q h = let e : p ≡ q = (let s : Some p ≡ Some q = h in cc) in ap (λ (x : Question). Some (question_view x)) e
+
+step_by : (m : SiteModule) (qs : List Question) (rs : List Record) (finding : ModuleFinding) → IsFindingOf qs rs finding → (rest : List Module)
+    → steps_of m finding ++ filter is_in_step rest ≡ filter is_in_step (cons_option (plain_with (any_question (questions_in qs)) m rs) rest)
+step_by m qs rs (Stands Certified) f rest = absurd f
+step_by m qs rs (Stands (Asks first)) f rest = rw (head_asks qs first f) refl
+step_by m qs rs (Stands (OneWay first)) f rest = let n : list_all is_reversible rs ≡ false = not_all is_reversible rs (record_view first) f.1 in rw (f.0, n) refl
+step_by m qs rs (Stands (OutOfStep v x y)) f rest =
     rw f.0 (left_step (with_records m rs) rest (no_step m rs _ _ _ f.2) ∙ ap (λ (o : Option Module). filter is_in_step (cons_option o rest)) (sym (plainly m rs f.1)))
-step_by m asks rs (Stands (Clashes clash)) f rest = absurd f
-step_by m asks rs (Stands (Refused refusal)) f rest = absurd f
-step_by m asks rs (InStep records) f rest =
+step_by m qs rs (Stands (Clashes clash)) f rest = absurd f
+step_by m qs rs (Stands (Refused refusal)) f rest = absurd f
+step_by m qs rs (InStep records) f rest =
     rw f.0 (ap (λ (l : List Record). with_records m l ∷ filter is_in_step rest) f.3
     ∙ (kept_step (with_records m rs) rest (and_from (list_all is_reversible rs) (are_in_step (used_by rs)) f.1 f.2)
     ∙ ap (λ (o : Option Module). filter is_in_step (cons_option o rest)) (sym (plainly m rs f.1))))
@@ -99,7 +110,7 @@ step_one : (m : SiteModule) (outcome : Result code.FileRun Refusal) (out : Resul
 step_one m (Err refusal) out finding o f rest =
     ap (λ (k : ModuleFinding). steps_of m k ++ filter is_in_step rest) f ∙ sym (ap (λ (x : Result Ran RequestReason). filter is_in_step (cons_option (plain_of (m, x)) rest)) o.2)
 step_one m (Ok ran) out finding o f rest =
-    step_by m ran.asked (map record_view ran.records.items) finding f rest ∙ sym (ap (λ (x : Result Ran RequestReason). filter is_in_step (cons_option (plain_of (m, x)) rest)) o.1)
+    step_by m ran.asked.items (map record_view ran.records.items) finding f rest ∙ sym (ap (λ (x : Result Ran RequestReason). filter is_in_step (cons_option (plain_of (m, x)) rest)) o.1)
 
 -- the modules in step are the plain ones that are
 pub steps_are : (shown : List Shown) (outs : List Evaluated) → AreEvaluations (map (λ s. s.0) shown) outs → AllByRecursion IsShown shown
@@ -156,23 +167,24 @@ answered site ms m rs (Some clash ∷ answers) more j p o t h =
     )
 
 -- a plain module's records
-plain_records : (site : Site) (m : SiteModule) (ran : Ran) → EvaluatesTo site m (Ok ran) → ran.asked ≡ false → list_all is_reversible ran.records ≡ true → HasPlainRecords site m ran.records
+plain_records : (site : Site) (m : SiteModule) (ran : Ran) → EvaluatesTo site m (Ok ran) → ran.asked ≡ [] → list_all is_reversible ran.records ≡ true → HasPlainRecords site m ran.records
 plain_records site m ran h f t = record { ran = ran; evaluated = h; plain = rw (f, t) refl; records = refl }
 
-stands_ran : (site : Site) (ms : List Module) (m : SiteModule) (ran : Ran) (finding : ModuleFinding)
+stands_ran : (site : Site) (ms : List Module) (m : SiteModule) (ran : Ran) (qs : List Question) (finding : ModuleFinding)
     (answers : List (Option Clash)) (more : List Module) → IsJudging site ms → EvaluatesTo site m (Ok ran)
     → IsOfSite site m
-    → IsFindingOf ran.asked ran.records finding → AreAnswers (in_step_of ms) (steps_of m finding ++ more) answers → StandsAs site ms m (standing_with (standing_of finding) answers)
-stands_ran site ms m ran (Stands Certified) answers more j e o f h = absurd f
-stands_ran site ms m ran (Stands (Asks question)) answers more j e o f h = (ran, e, rw f refl)
-stands_ran site ms m ran (Stands (OneWay first)) answers more j e o f h =
+    → ran.asked ≡ questions_in qs → IsFindingOf qs ran.records finding → AreAnswers (in_step_of ms) (steps_of m finding ++ more) answers → StandsAs site ms m (standing_with (standing_of finding) answers)
+stands_ran site ms m ran qs (Stands Certified) answers more j e o same f h = absurd f
+stands_ran site ms m ran qs (Stands (Asks first)) answers more j e o same f h = (ran, e, ap head same ∙ head_viewed qs first f)
+stands_ran site ms m ran qs (Stands (OneWay first)) answers more j e o same f h =
     let n : list_all is_reversible ran.records ≡ false = not_all is_reversible ran.records (record_view first) f.1 in
-    (ran, e, rw (f.0, n) refl, f.1)
-stands_ran site ms m ran (Stands (OutOfStep v x y)) answers more j e o f h = (ran.records, plain_records site m ran e f.0 f.1, f.2)
-stands_ran site ms m ran (Stands (Clashes clash)) answers more j e o f h = absurd f
-stands_ran site ms m ran (Stands (Refused refusal)) answers more j e o f h = absurd f
-stands_ran site ms m ran (InStep records) answers more j e o f h =
-    answered site ms m ran.records answers more j (plain_records site m ran e f.0 f.1) o (and_from (list_all is_reversible ran.records) (are_in_step (used_by ran.records)) f.1 f.2)
+    let none : ran.asked ≡ [] = same ∙ ap questions_in f.0 in
+    (ran, e, rw (none, n) refl, f.1)
+stands_ran site ms m ran qs (Stands (OutOfStep v x y)) answers more j e o same f h = (ran.records, plain_records site m ran e (same ∙ ap questions_in f.0) f.1, f.2)
+stands_ran site ms m ran qs (Stands (Clashes clash)) answers more j e o same f h = absurd f
+stands_ran site ms m ran qs (Stands (Refused refusal)) answers more j e o same f h = absurd f
+stands_ran site ms m ran qs (InStep records) answers more j e o same f h =
+    answered site ms m ran.records answers more j (plain_records site m ran e (same ∙ ap questions_in f.0) f.1) o (and_from (list_all is_reversible ran.records) (are_in_step (used_by ran.records)) f.1 f.2)
     (subst (λ (l : List Record). AreAnswers (in_step_of ms) (with_records m l ∷ more) answers) f.3 h)
 
 stands_one : (site : Site) (ms : List Module) (m : SiteModule) (outcome : Result code.FileRun Refusal)
@@ -182,7 +194,7 @@ stands_one : (site : Site) (ms : List Module) (m : SiteModule) (outcome : Result
 stands_one site ms m (Err refusal) out finding answers more j o f e s h =
     subst (λ (k : ModuleFinding). StandsAs site ms m (standing_with (standing_of k) answers)) (sym f) (o.0, o.1, subst (EvaluatesTo site m) o.2 e)
 stands_one site ms m (Ok ran) out finding answers more j o f e s h =
-    stands_ran site ms m (ran_view ran o.0) finding answers more j (subst (EvaluatesTo site m) o.1 e) s f h
+    stands_ran site ms m (ran_view ran o.0) ran.asked.items finding answers more j (subst (EvaluatesTo site m) o.1 e) s refl f h
 
 more_answers : (all rest : List Module) (m : SiteModule) (finding : ModuleFinding) (answers : List (Option Clash))
     → AreAnswers all (steps_of m finding ++ rest) answers
@@ -220,7 +232,7 @@ files_are ((e, finding) ∷ shown) ((m, out) ∷ outs) answers (one, more) =
 undecided : (standing : Standing) (outcome : Result code.FileRun Refusal) → IsFinding outcome (Stands standing) → is_certified standing ≡ false
 undecided Certified (Ok ran) f = absurd f
 undecided Certified (Err refusal) f = absurd (cc)
-undecided (Asks question) outcome f = refl
+undecided (Asks first) outcome f = refl
 undecided (OneWay first) outcome f = refl
 undecided (OutOfStep v x y) outcome f = refl
 undecided (Clashes clash) outcome f = refl

@@ -11,10 +11,11 @@ use Rattle.filetree.specs.Modulefiles.{modulefile, path_of}
 use Rattle.filetree.specs.Relations.{IsOne}
 use Rattle.filetree.proofs.OneOutcome.{one_is, one_then}
 use Rattle.modulefile.specs.Files as files
-use Rattle.modulefile.specs.Files.{RunsFile}
+use Rattle.modulefile.specs.Files.{any_question, RunsFile}
 use Rattle.modulefile.specs.Laws as laws
 use Rattle.modulefile.specs.RecordViews.{record_view}
 use Rattle.modulerun.specs.declared.run.FileRun.{FileRun}
+use Rattle.modulerun.specs.Questions.{questions_in}
 use Rattle.modulerun.specs.Running.{ran_view}
 use Rattle.search.specs.ListingEntries.{name_of}
 use Rattle.search.specs.declared.listing_entries.ListingEntry.{ListingEntry}
@@ -100,7 +101,7 @@ next_evaluated site dir entries i entry name old new x l e named pushed before n
 -- ---- the directories that evaluated modules add
 
 -- a file that asked nothing is plain by its records
-pub asks_nothing : (ran : FileRun) (b : Bool) → ran.asked ≡ false → b ≡ list_all is_reversible (map record_view ran.records.items) → b ≡ is_plain_ran ran
+pub asks_nothing : (ran : FileRun) (b : Bool) → any_question (questions_in ran.asked.items) ≡ false → b ≡ list_all is_reversible (map record_view ran.records.items) → b ≡ is_plain_ran ran
 asks_nothing ran b quiet same = same ∙ ap (λ (a : Bool). not a && list_all is_reversible (map record_view ran.records.items)) (sym quiet)
 
 by_tests : (ran : files.Ran) (m : SiteModule) (a b : Bool)
@@ -112,7 +113,7 @@ by_tests ran m false false = refl
 
 found_of : (m : SiteModule) (o : Result FileRun Refusal) (p : Result files.Ran RequestReason) → IsOutcome o p → directories_after o ≡ directories_of (m, p)
 found_of m (Ok ran) p (e, same) =
-    sym (ap (λ (q : Result files.Ran RequestReason). directories_of (m, q)) same ∙ by_tests (ran_view ran e) m ran.asked (list_all is_reversible (map record_view ran.records.items)))
+    sym (ap (λ (q : Result files.Ran RequestReason). directories_of (m, q)) same ∙ by_tests (ran_view ran e) m (any_question (questions_in ran.asked.items)) (list_all is_reversible (map record_view ran.records.items)))
 found_of m (Err refusal) p (reason, because, same) = sym (ap (λ (q : Result files.Ran RequestReason). directories_of (m, q)) same)
 
 found_same : (xs : List Evaluation) (os : List Evaluated) → AreEvaluations xs os → directories_found xs ≡ flat_map directories_of os

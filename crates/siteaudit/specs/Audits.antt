@@ -28,6 +28,7 @@ use Rattle.siteaudit.specs.Walks.{IsWalk}
 use Rattle.siteaudit.specs.Folders.{AreBadDefaultFiles}
 use Rattle.siteaudit.specs.Missing.{missing_among}
 use Rattle.siteaudit.specs.NoModulefiles.{AreNoModulefiles}
+use Rattle.modulerun.specs.Questions.{question_view}
 use Rattle.siteaudit.specs.declared.standing.Standing.{Standing}
 use Rattle.siteaudit.specs.declared.standing.Standing.TheVariants.{Certified, Asks, OneWay, OutOfStep, Clashes, Refused}
 use Rattle.siteaudit.specs.declared.auditing.AuditedModule.{AuditedModule}
@@ -37,11 +38,10 @@ use Rattle.siteaudit.specs.declared.auditing.SiteAudit.{SiteAudit}
 -- ---- standings
 
 -- A module of a site, whose plain modules are these, stands as the code says. The other module of a clash has the name
--- and the path that are given, and so many of those in step use the variable as it does; a refusal has its reason. The
--- words of a question are of no clause.
+-- and the path that are given, and so many of those in step use the variable as it does; a refusal has its reason.
 abbrev pub StandsAs : Site → List Module → SiteModule → Standing → Type 0
 StandsAs site ms m Certified = HasStanding site ms m standings.Certified
-StandsAs site ms m (Asks question) = HasStanding site ms m standings.Asks
+StandsAs site ms m (Asks first) = HasStanding site ms m (standings.Asks (question_view first))
 StandsAs site ms m (OneWay first) = HasStanding site ms m (standings.OneWay (record_view first))
 StandsAs site ms m (OutOfStep variable one other) =
     HasStanding site ms m (standings.OutOfStep (string_bytes variable) (use_view one) (use_view other))
@@ -65,7 +65,7 @@ AllStand site ms (m ∷ audited) = StandsAs site ms (audited_file m) m.standing 
 -- it stands as certified
 abbrev pub is_certified : Standing → Bool
 is_certified Certified = true
-is_certified (Asks question) = false
+is_certified (Asks first) = false
 is_certified (OneWay first) = false
 is_certified (OutOfStep variable one other) = false
 is_certified (Clashes clash) = false

@@ -1,10 +1,11 @@
 -- What each module of a site shows by itself, and what the answers about clashes make of it: for this crate's own
 -- contracts alone.
-use Rattle.std.specs.Prelude.{◌≡◌, Bool, true, false, List, [], ◌∷◌, ◌++◌, map, flat_map, Option, Some, None, Result}
+use Rattle.std.specs.Prelude.{◌≡◌, true, false, List, [], ◌∷◌, ◌++◌, map, flat_map, head, Option, Some, None, Result}
 use Rattle.std.specs.Prelude.{Ok, Err, string_bytes}
 use Rattle.std.specs.List.{list_all, AllByRecursion}
 use Rattle.envvars.specs.Fields.{colon}
 use Rattle.modulefile.specs.RecordViews.{record_view}
+use Rattle.modulerun.specs.declared.question.Question.{Question}
 use Rattle.modulerun.specs.declared.run.FileRun.{FileRun}
 use Rattle.modulefile.specs.Records.{Record}
 use Rattle.modulefile.specs.Moves.{Module}
@@ -37,27 +38,27 @@ pub record AreUnlike (ps : List UsedVariable) (unlike : UnlikeUses) : Type 0 whe
   pub second : IsAmong (string_bytes unlike.variable, use_view unlike.other) ((modulepath, Pathed colon) ∷ ps)
   pub differ : same_use (use_view unlike.one) (use_view unlike.other) ≡ false
 
--- By whether its evaluation asked, and by its records, the module stands so, whatever the other modules do.
-abbrev pub IsDecided : Bool → List Record → Standing → Type 0
+-- By what its evaluation asked, and by its records, the module stands so, whatever the other modules do.
+abbrev pub IsDecided : List Question → List Record → Standing → Type 0
 IsDecided asked rs Certified = ⊥
-IsDecided asked rs (Asks question) = asked ≡ true
-IsDecided asked rs (OneWay first) = (asked ≡ false) × IsFirstOneWay rs (record_view first)
+IsDecided asked rs (Asks first) = head asked ≡ Some first
+IsDecided asked rs (OneWay first) = (asked ≡ []) × IsFirstOneWay rs (record_view first)
 IsDecided asked rs (OutOfStep variable one other) =
-    (asked ≡ false) × (list_all is_reversible rs ≡ true)
+    (asked ≡ []) × (list_all is_reversible rs ≡ true)
     × IsUsedTwice rs (string_bytes variable) (use_view one) (use_view other)
 IsDecided asked rs (Clashes clash) = ⊥
 IsDecided asked rs (Refused refusal) = ⊥
 
 -- what a module with these records shows by itself
-abbrev pub IsFindingOf : Bool → List Record → ModuleFinding → Type 0
+abbrev pub IsFindingOf : List Question → List Record → ModuleFinding → Type 0
 IsFindingOf asked rs (Stands standing) = IsDecided asked rs standing
 IsFindingOf asked rs (InStep records) =
-    (asked ≡ false) × (list_all is_reversible rs ≡ true) × (are_in_step (used_by rs) ≡ true)
+    (asked ≡ []) × (list_all is_reversible rs ≡ true) × (are_in_step (used_by rs) ≡ true)
     × (map record_view records.items ≡ rs)
 
 -- what the outcome of its evaluation shows
 abbrev pub IsFinding : Result FileRun Refusal → ModuleFinding → Type 0
-IsFinding (Ok ran) finding = IsFindingOf ran.asked (map record_view ran.records.items) finding
+IsFinding (Ok ran) finding = IsFindingOf ran.asked.items (map record_view ran.records.items) finding
 IsFinding (Err refusal) finding = finding ≡ Stands (Refused refusal)
 
 -- its standing, unless others decide

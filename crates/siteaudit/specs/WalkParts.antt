@@ -12,8 +12,10 @@ use Rattle.filetree.specs.Agreement.{Files, Listings, InEachPair}
 use Rattle.filetree.specs.Causes.{Cause, Applies, memory, device, because}
 use Rattle.modulefile.specs.Answers.{FileContext}
 use Rattle.modulefile.specs.Files as files
+use Rattle.modulefile.specs.Files.{any_question}
 use Rattle.modulefile.specs.RecordViews.{record_view}
 use Rattle.modulerun.specs.declared.run.FileRun.{FileRun}
+use Rattle.modulerun.specs.Questions.{questions_in}
 use Rattle.modulerun.specs.Running.{ran_view}
 use Rattle.modulefile.specs.Effects as modes
 use Rattle.reversal.specs.VariableUses.{is_reversible}
@@ -103,7 +105,7 @@ AreEvaluationsBelow site dir evaluations =
 
 -- the evaluation is that of a plain module
 abbrev pub is_plain_ran : FileRun → Bool
-is_plain_ran ran = not ran.asked && list_all is_reversible (map record_view ran.records.items)
+is_plain_ran ran = not (any_question (questions_in ran.asked.items)) && list_all is_reversible (map record_view ran.records.items)
 
 -- the directories that a module adds whose evaluation leaves this, or is refused so
 abbrev pub directories_after : Result FileRun Refusal → List Text

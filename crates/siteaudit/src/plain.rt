@@ -9,5 +9,5 @@ use modules::are_reversible;
 pub(crate) fn is_plain(ran: &FileRun) -> bool
     ensures { result ≡ is_plain_ran ran.now }
 {
-    !ran.asked && are_reversible(ran.records.as_slice())
+    !ran.has_asked() && are_reversible(ran.records.as_slice())
 }

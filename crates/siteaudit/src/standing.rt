@@ -1,5 +1,5 @@
 //! How each module of a site stands: whether it is certified, and else why it is not.
-ghost use Rattle.std.specs.Prelude.{◌≡◌, true, false, not, ◌++◌, find, map, position, string_bytes, IfOk, MatchOption};
+ghost use Rattle.std.specs.Prelude.{◌≡◌, true, false, not, [], ◌++◌, find, map, position, string_bytes, IfOk, MatchOption};
 ghost use Rattle.std.specs.List.{list_all};
 ghost use Rattle.std.specs.Option.{option_map};
 ghost use Rattle.envvars.specs.Fields.{colon};
@@ -11,7 +11,7 @@ ghost use Rattle.sitecertificate.specs.UseViews.{use_view, used_view};
 ghost use Rattle.siteaudit.specs.Findings.{AreUnlike, IsFinding, IsFindingOf};
 
 use modulefile::{Delimiter, Record};
-use modulerun::{FileRun, records_unless_asked};
+use modulerun::{FileRun, Question, records_unless_asked};
 use modules::{Refusal, is_reversible};
 use sitecertificate::{Clash, UsedVariable, VariableUse, first_unlike, used_by};
 use std::alloc::{AllocError, Global};
@@ -21,9 +21,8 @@ use std::alloc::{AllocError, Global};
 pub enum Standing {
     /// It is plain, in step, and without a clash: its loads and unloads need no judgement.
     Certified,
-    /// Its evaluation asked a question, so that its records may differ elsewhere. These are the words of the first
-    /// question, where there was memory for them.
-    Asks(Option<String>),
+    /// Its evaluation asked this first, so that its records may differ elsewhere.
+    Asks(Question),
     /// It asked nothing, and this is the first of its records that unloading doesn't undo.
     OneWay(Record),
     /// It is plain, and uses the variable in these two ways; or the variable is MODULEPATH, and the second way is that
@@ -133,7 +132,7 @@ fn unlike_in(alloc: Global, records: &[Record]) -> Result<Option<UnlikeUses>, Al
 /// What a plain module shows by itself.
 fn judge_plain(alloc: Global, records: Vec<Record>) -> Result<ModuleFinding, AllocError>
     requires { list_all variable_uses.is_reversible (map record_view records.items) ≡ true }
-    ensures { IfOk result (IsFindingOf false (map record_view records.items)) }
+    ensures { IfOk result (IsFindingOf [] (map record_view records.items)) }
 {
     match unlike_in(alloc, records.as_slice())? {
         Some(unlike) => {
@@ -154,7 +153,7 @@ fn judge_plain(alloc: Global, records: Vec<Record>) -> Result<ModuleFinding, All
 
 /// What a module that asked nothing shows by itself.
 fn judge_records(alloc: Global, records: Vec<Record>) -> Result<ModuleFinding, AllocError>
-    ensures { IfOk result (IsFindingOf false (map record_view records.items)) }
+    ensures { IfOk result (IsFindingOf [] (map record_view records.items)) }
 {
     match first_one_way(records.as_slice()) {
         Some(place) => {
@@ -167,11 +166,11 @@ fn judge_records(alloc: Global, records: Vec<Record>) -> Result<ModuleFinding, A
 
 /// What a module shows by itself, whose evaluation is accepted.
 fn judge_ran(alloc: Global, ran: FileRun) -> Result<ModuleFinding, AllocError>
-    ensures { IfOk result (IsFindingOf ran.asked (map record_view ran.records.items)) }
+    ensures { IfOk result (IsFindingOf ran.asked.items (map record_view ran.records.items)) }
 {
     match records_unless_asked(ran) {
         Ok(records) => judge_records(alloc, records),
-        Err(question) => Ok(ModuleFinding::Stands(Standing::Asks(question))),
+        Err(first) => Ok(ModuleFinding::Stands(Standing::Asks(first))),
     }
 }
 

@@ -1,5 +1,5 @@
 -- A module of a site stands in one way alone.
-use Rattle.std.proofs.Common.{◌≡◌, ℕ, ◌==◌, inl, inr, true, false, List, [], ◌∷◌, Option, Some, None, Result, Ok, Err}
+use Rattle.std.proofs.Common.{◌≡◌, ℕ, ◌==◌, inl, inr, true, false, List, [], ◌∷◌, head, Option, Some, None, Result, Ok, Err}
 use Rattle.std.proofs.Common.{refl, ap, sym, ◌∙◌, subst}
 use Rattle.std.proofs.lemmas.Bool.{false≢true, eq-eqb}
 use Rattle.envvars.specs.Texts.{Text}
@@ -7,6 +7,7 @@ use Rattle.envvars.specs.Fields.{colon}
 use Rattle.filetree.specs.Modulefiles.{modulefile}
 use Rattle.filetree.specs.Relations.{IsOne}
 use Rattle.filetree.proofs.OneOutcome.{one_is, one_then}
+use Rattle.tclrules.specs.Oracle.{Question}
 use Rattle.modulefile.specs.Effects as modes
 use Rattle.modulefile.specs.Records.{Record}
 use Rattle.modulefile.specs.Moves.{Module}
@@ -47,11 +48,19 @@ seen (Err reason) = None
 
 abbrev said : Standing → Seen
 said Certified = Some plain
-said Asks = Some asked
+said (Asks q) = Some asked
 said (OneWay r) = Some one_way
 said (OutOfStep v x y) = Some plain
 said (Clashes v x y n) = Some plain
 said (Refused reason) = None
+
+-- what asked something first has asked
+asked_first : (ran : Ran) (q : Question) → head ran.asked ≡ Some q → verdict_of ran ≡ asked
+asked_first ran q h = go ran.asked refl
+  where
+    go : (qs : List Question) → ran.asked ≡ qs → verdict_of ran ≡ asked
+    go [] e = absurd (let n : None ≡ Some q = sym (ap head e) ∙ h in cc)
+    go (p ∷ qs) e = rw e refl
 
 abbrev Says : Site → SiteModule → Standing → Type 0
 Says site m s = (o : Result Ran RequestReason) × EvaluatesTo site m o × (seen o ≡ said s)
@@ -61,7 +70,7 @@ of_plain site m rs p = (Ok p.ran, p.evaluated, ap (λ (v : Verdict). Some v) p.p
 
 says : (site : Site) (ms : List Module) (m : SiteModule) (s : Standing) → HasStanding site ms m s → Says site m s
 says site ms m Certified h = of_plain site m h.0 h.1
-says site ms m Asks h = (Ok h.0, h.1, ap (λ (v : Verdict). Some v) h.2)
+says site ms m (Asks q) h = (Ok h.0, h.1, ap (λ (v : Verdict). Some v) (asked_first h.0 q h.2))
 says site ms m (OneWay r) h = (Ok h.0, h.1, ap (λ (v : Verdict). Some v) h.2)
 says site ms m (OutOfStep v x y) h = of_plain site m h.0 h.1
 says site ms m (Clashes v x y n) h = of_plain site m h.0 h.1
@@ -139,30 +148,30 @@ by_said one site ms m (OutOfStep v x y) (Clashes w a b n) e h k = absurd (twice_
 by_said one site ms m (Clashes v x y n) Certified e h k = absurd (certified_not_clash one site ms m v x y n k h)
 by_said one site ms m (Clashes v x y n) (OutOfStep w a b) e h k = absurd (twice_not_clash one site ms m w v a b x y n k h)
 by_said one site ms m (Clashes v x y n) (Clashes w a b l) e h k = refl
-by_said one site ms m Asks Asks e h k = refl
+by_said one site ms m (Asks q) (Asks p) e h k = refl
 by_said one site ms m (OneWay r) (OneWay q) e h k = refl
 by_said one site ms m (Refused r) (Refused q) e h k = refl
-by_said one site ms m Certified Asks e h k = absurd (apart Certified Asks refl e)
+by_said one site ms m Certified (Asks k) e h g = absurd (apart Certified (Asks k) refl e)
 by_said one site ms m Certified (OneWay r) e h k = absurd (apart Certified (OneWay r) refl e)
 by_said one site ms m Certified (Refused r) e h k = absurd (apart Certified (Refused r) refl e)
-by_said one site ms m (OutOfStep v x y) Asks e h k = absurd (apart (OutOfStep v x y) Asks refl e)
+by_said one site ms m (OutOfStep v x y) (Asks k) e h g = absurd (apart (OutOfStep v x y) (Asks k) refl e)
 by_said one site ms m (OutOfStep v x y) (OneWay r) e h k = absurd (apart (OutOfStep v x y) (OneWay r) refl e)
 by_said one site ms m (OutOfStep v x y) (Refused r) e h k = absurd (apart (OutOfStep v x y) (Refused r) refl e)
-by_said one site ms m (Clashes v x y n) Asks e h k = absurd (apart (Clashes v x y n) Asks refl e)
+by_said one site ms m (Clashes v x y n) (Asks k) e h g = absurd (apart (Clashes v x y n) (Asks k) refl e)
 by_said one site ms m (Clashes v x y n) (OneWay r) e h k = absurd (apart (Clashes v x y n) (OneWay r) refl e)
 by_said one site ms m (Clashes v x y n) (Refused r) e h k = absurd (apart (Clashes v x y n) (Refused r) refl e)
-by_said one site ms m Asks Certified e h k = absurd (apart Asks Certified refl e)
-by_said one site ms m Asks (OneWay r) e h k = absurd (apart Asks (OneWay r) refl e)
-by_said one site ms m Asks (OutOfStep v x y) e h k = absurd (apart Asks (OutOfStep v x y) refl e)
-by_said one site ms m Asks (Clashes v x y n) e h k = absurd (apart Asks (Clashes v x y n) refl e)
-by_said one site ms m Asks (Refused r) e h k = absurd (apart Asks (Refused r) refl e)
+by_said one site ms m (Asks k) Certified e h g = absurd (apart (Asks k) Certified refl e)
+by_said one site ms m (Asks k) (OneWay r) e h g = absurd (apart (Asks k) (OneWay r) refl e)
+by_said one site ms m (Asks k) (OutOfStep v x y) e h g = absurd (apart (Asks k) (OutOfStep v x y) refl e)
+by_said one site ms m (Asks k) (Clashes v x y n) e h g = absurd (apart (Asks k) (Clashes v x y n) refl e)
+by_said one site ms m (Asks k) (Refused r) e h g = absurd (apart (Asks k) (Refused r) refl e)
 by_said one site ms m (OneWay r) Certified e h k = absurd (apart (OneWay r) Certified refl e)
-by_said one site ms m (OneWay r) Asks e h k = absurd (apart (OneWay r) Asks refl e)
+by_said one site ms m (OneWay r) (Asks k) e h g = absurd (apart (OneWay r) (Asks k) refl e)
 by_said one site ms m (OneWay r) (OutOfStep v x y) e h k = absurd (apart (OneWay r) (OutOfStep v x y) refl e)
 by_said one site ms m (OneWay r) (Clashes v x y n) e h k = absurd (apart (OneWay r) (Clashes v x y n) refl e)
 by_said one site ms m (OneWay r) (Refused q) e h k = absurd (apart (OneWay r) (Refused q) refl e)
 by_said one site ms m (Refused r) Certified e h k = absurd (apart (Refused r) Certified refl e)
-by_said one site ms m (Refused r) Asks e h k = absurd (apart (Refused r) Asks refl e)
+by_said one site ms m (Refused r) (Asks k) e h g = absurd (apart (Refused r) (Asks k) refl e)
 by_said one site ms m (Refused r) (OneWay q) e h k = absurd (apart (Refused r) (OneWay q) refl e)
 by_said one site ms m (Refused r) (OutOfStep v x y) e h k = absurd (apart (Refused r) (OutOfStep v x y) refl e)
 by_said one site ms m (Refused r) (Clashes v x y n) e h k = absurd (apart (Refused r) (Clashes v x y n) refl e)

@@ -1,11 +1,12 @@
 -- Plain modules of a site have one list of records, and stand as certified where they are.
-use Rattle.std.proofs.Common.{◌≡◌, inl, inr, Bool, true, false, cond, Ok, Err, refl, ap, sym, ◌∙◌, subst}
+use Rattle.std.proofs.Common.{◌≡◌, inl, inr, Bool, true, false, cond, List, [], ◌∷◌, Ok, Err, refl, ap, sym, ◌∙◌, subst}
 use Rattle.std.specs.List.{list_all}
 use Rattle.envvars.specs.Texts.{Text}
 use Rattle.filetree.specs.Modulefiles.{script, modulefile}
 use Rattle.filetree.specs.Relations.{Is, ◌>>◌}
 use Rattle.modulefile.specs.Effects as modes
-use Rattle.modulefile.specs.Files.{Ran, refused_by, RunsFile, IsSameOrRefused}
+use Rattle.tclrules.specs.Oracle.{Question}
+use Rattle.modulefile.specs.Files.{Ran, any_question, refused_by, RunsFile, IsSameOrRefused}
 use Rattle.modulefile.specs.Laws.{PlainFilesAgree}
 use Rattle.reversal.specs.VariableUses.{is_reversible}
 use Rattle.requests.specs.Refusals.{RefusedAs}
@@ -23,8 +24,12 @@ unasked_at : (a b : Bool) → cond a asked (cond b plain one_way) ≡ plain → 
 unasked_at true b h = absurd (cc)
 unasked_at false b h = refl
 
-unasked : (ran : Ran) → verdict_of ran ≡ plain → ran.asked ≡ false
-unasked ran h = unasked_at ran.asked (list_all is_reversible ran.records) h
+none_asked : (qs : List Question) → any_question qs ≡ false → qs ≡ []
+none_asked [] h = refl
+none_asked (q ∷ qs) h = absurd (cc)
+
+unasked : (ran : Ran) → verdict_of ran ≡ plain → ran.asked ≡ []
+unasked ran h = none_asked ran.asked (unasked_at (any_question ran.asked) (list_all is_reversible ran.records) h)
 
 pub evaluated : (site : Site) (m : SiteModule) (ran : Ran) → EvaluatesTo site m (Ok ran) → HasEvaluatedTo (over_site site) m.name m.path ran
 evaluated site m ran h =
@@ -45,7 +50,7 @@ agreed ran other (inl (again, same, records)) = let q : other ≡ again = (let r
 agreed ran other (inr (n, refusal, same)) = absurd (let r : Ok other ≡ Err (refused_by n refusal) = same in cc)
 
 same_records : PlainFilesAgree → (s : RequestContext) (name path : Text) (ran other : Ran)
-    → HasEvaluatedTo s name path ran → ran.asked ≡ false → HasEvaluatedTo s name path other
+    → HasEvaluatedTo s name path ran → ran.asked ≡ [] → HasEvaluatedTo s name path other
     → other.records ≡ ran.records
 same_records agree s name path ran other h none k =
     agreed ran other (agree s.limits h.context k.context h.text ran (Ok other) h.runs none (k.named ∙ sym h.named) (k.at_path ∙ sym h.at_path)

@@ -1,5 +1,5 @@
 -- Each module of a site has a standing: the tests of the certificate find it.
-use Rattle.std.proofs.Common.{◌≡◌, ◌⊎◌, inl, inr, Bool, true, false, cond, not, ◌&&◌, ◌||◌, List, [], ◌∷◌, find, Some}
+use Rattle.std.proofs.Common.{◌≡◌, ◌⊎◌, inl, inr, Bool, true, false, cond, not, ◌&&◌, ◌||◌, List, [], ◌∷◌, find, head, Some}
 use Rattle.std.proofs.Common.{Result, Ok, Err, refl, ap, sym, ◌∙◌, subst}
 use Rattle.std.specs.Prelude.{bytes_eq}
 use Rattle.std.specs.List.{list_all, list_any}
@@ -9,6 +9,7 @@ use Rattle.envvars.specs.Fields.{colon}
 use Rattle.envvars.proofs.TextLemmas.{same_text}
 use Rattle.filetree.specs.Modulefiles.{modulefile}
 use Rattle.filetree.specs.Relations.{Is, Then}
+use Rattle.tclrules.specs.Oracle.{Question}
 use Rattle.modulefile.specs.Effects as modes
 use Rattle.modulefile.specs.Records.{Record}
 use Rattle.modulefile.specs.Moves.{Module}
@@ -128,11 +129,13 @@ plain_stands site ms m rs all of_site p reversible =
 
 accepted_stands : (site : Site) (ms : List Module) (m : SiteModule) (ran : Ran) → ArePlainModules site ms → IsOfSite site m → EvaluatesTo site m (Ok ran) → Stands site ms m
 accepted_stands site ms m ran all of_site h =
-    by_test ran.asked _
-    (λ t. (Asks, (ran, h, rw t refl)))
-    (λ f. by_test (list_all is_reversible ran.records) _
-    (λ t. plain_stands site ms m ran.records all of_site (record { ran = ran; evaluated = h; plain = rw (f, t) refl; records = refl }) t)
-    (λ g. let r = first_that_fails is_reversible ran.records g in (OneWay r.0, (ran, h, rw (f, g) refl, r.1))))
+    by_first ran.asked refl
+  where
+    by_first : (qs : List Question) → ran.asked ≡ qs → Stands site ms m
+    by_first (q ∷ qs) e = (Asks q, (ran, h, ap head e))
+    by_first [] e = by_test (list_all is_reversible ran.records) _
+        (λ t. plain_stands site ms m ran.records all of_site (record { ran = ran; evaluated = h; plain = rw (e, t) refl; records = refl }) t)
+        (λ g. let r = first_that_fails is_reversible ran.records g in (OneWay r.0, (ran, h, rw (e, g) refl, r.1)))
 
 evaluated_stands : (site : Site) (ms : List Module) (m : SiteModule) (o : Result Ran RequestReason)
     → ArePlainModules site ms → IsOfSite site m → EvaluatesTo site m o → Stands site ms m

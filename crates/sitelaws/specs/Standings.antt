@@ -1,13 +1,14 @@
 -- How each module of a site stands (own): whether it is certified, and else why it is not.
-use Rattle.std.specs.Prelude.{◌≡◌, true, false, not, List, ◌∷◌, codes, find, Some, Ok, Err}
+use Rattle.std.specs.Prelude.{◌≡◌, true, false, not, List, ◌∷◌, codes, find, head, Some, Ok, Err}
 use Rattle.envvars.specs.Texts.{Text}
 use Rattle.envvars.specs.Fields.{colon}
+use Rattle.tclrules.specs.Oracle.{Question}
 use Rattle.modulefile.specs.Records.{Record}
 use Rattle.modulefile.specs.Moves.{Module}
 use Rattle.modulefile.specs.Files.{Ran}
 use Rattle.reversal.specs.VariableUses.{VariableUse, Pathed, is_reversible}
 use Rattle.requests.specs.Reasons.{RequestReason}
-use Rattle.requests.specs.Verdicts.{asked, one_way, verdict_of}
+use Rattle.requests.specs.Verdicts.{one_way, verdict_of}
 use Rattle.sitecertificate.specs.RecordUses.{IsAmong, used_by, same_use, modulepath, IsInStep}
 use Rattle.sitecertificate.specs.Clashes.{is_other, Clash}
 use Rattle.sitecertificate.specs.Certificates.{IsCertified}
@@ -16,8 +17,8 @@ use Rattle.sitelaws.specs.Sites.{Site, SiteModule, EvaluatesTo, HasPlainRecords,
 pub data Standing : Type 0 where
   -- plain, in step, and without a clash: its loads and unloads need no judgement
   Certified : Standing
-  -- its evaluation asked a question, so that its records may differ elsewhere
-  Asks : Standing
+  -- its evaluation asked this first, so that its records may differ elsewhere
+  Asks : (first : Question) → Standing
   -- it asked nothing, and this is the first of its records that unloading doesn't undo
   OneWay : (first : Record) → Standing
   -- it is plain, and uses the variable in these two ways; or the variable is MODULEPATH, and the second way is that of
@@ -31,7 +32,7 @@ pub data Standing : Type 0 where
 -- the standing in one word
 abbrev pub standing_word : Standing → Text
 standing_word Certified = codes "certified"
-standing_word Asks = codes "asks"
+standing_word (Asks first) = codes "asks"
 standing_word (OneWay first) = codes "one-way"
 standing_word (OutOfStep variable one other) = codes "out-of-step"
 standing_word (Clashes variable own theirs other) = codes "clashes"
@@ -63,7 +64,7 @@ IsPlainAnd site m P = (rs : List Record) × HasPlainRecords site m rs × P (with
 -- of step, or is in step and clashes, or is certified.
 abbrev pub HasStanding : Site → List Module → SiteModule → Standing → Type 0
 HasStanding site ms m Certified = IsPlainAnd site m (λ n. IsCertified ms n)
-HasStanding site ms m Asks = (ran : Ran) × EvaluatesTo site m (Ok ran) × (verdict_of ran ≡ asked)
+HasStanding site ms m (Asks first) = (ran : Ran) × EvaluatesTo site m (Ok ran) × (head ran.asked ≡ Some first)
 HasStanding site ms m (OneWay first) =
     (ran : Ran) × EvaluatesTo site m (Ok ran) × (verdict_of ran ≡ one_way) × IsFirstOneWay ran.records first
 HasStanding site ms m (OutOfStep variable one other) = IsPlainAnd site m (λ n. IsUsedTwice n.records variable one other)

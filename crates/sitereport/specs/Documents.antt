@@ -22,7 +22,8 @@ use Rattle.siteaudit.specs.declared.standing.Standing.{Standing}
 use Rattle.siteaudit.specs.declared.standing.Standing.TheVariants.{Certified, Asks, OneWay, OutOfStep, Clashes, Refused}
 use Rattle.sitereport.specs.declared.selection.Selection.{Selection}
 use Rattle.sitereport.specs.Remarks.{command_of}
-use Rattle.sitereport.specs.Words.{certified_count, is_named, record_words, standing_word}
+use Rattle.modulerun.specs.Questions.{question_view}
+use Rattle.sitereport.specs.Words.{certified_count, is_named, question_words, record_words, standing_word}
 
 -- ---- values
 
@@ -89,8 +90,7 @@ place_value name path = object_of ((codes "name", text_value name) ∷ (codes "p
 -- why a module stands so
 abbrev pub standing_fields : Standing → List Field
 standing_fields Certified = []
-standing_fields (Asks None) = []
-standing_fields (Asks (Some question)) = (codes "question", text_value question) ∷ []
+standing_fields (Asks first) = (codes "question", string (question_words (question_view first))) ∷ []
 standing_fields (OneWay first) = (codes "record", string (record_words first)) ∷ []
 standing_fields (OutOfStep variable one other) = two_uses_fields variable one other
 standing_fields (Clashes c) =

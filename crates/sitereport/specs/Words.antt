@@ -5,11 +5,14 @@ use Rattle.std.specs.Prelude.{ℕ, ◌/◌, ◌%◌, ◌==◌, ◌||◌, ◌&&�
 use Rattle.std.specs.Prelude.{◌++◌, bytes_eq, chars, codes, count_by, decimal, encode_utf8, flat_map, Some, None}
 use Rattle.std.specs.Prelude.{string_bytes}
 use Rattle.std.specs.Char.{digit_char}
+use Rattle.std.specs.List.{join_with_byte}
 use Rattle.envvars.specs.Texts.{Text}
 use Rattle.tcllist.specs.Lists.{list_text}
+use Rattle.tclrules.specs.Oracle.{Question, OfCommand, OfVariable}
 use Rattle.modulefile.specs.declared.records.Record.{Record}
 use Rattle.modulefile.specs.RecordViews.{record_view}
 use Rattle.modulefile.specs.Reports.{shown_words}
+use Rattle.modulerun.specs.Questions.{question_view}
 use Rattle.sitecertificate.specs.declared.uses.VariableUse.{VariableUse}
 use Rattle.sitecertificate.specs.declared.uses.VariableUse.TheVariants.{Fixed, Pathed, Stacked}
 use Rattle.sitecertificate.specs.declared.answers.Clash.{Clash}
@@ -69,7 +72,7 @@ certified_count modules = count_by (λ m. is_certified m.standing) modules
 -- the standing in one word
 abbrev pub standing_word : Standing → Text
 standing_word Certified = codes "certified"
-standing_word (Asks question) = codes "asks"
+standing_word (Asks first) = codes "asks"
 standing_word (OneWay first) = codes "one-way"
 standing_word (OutOfStep variable one other) = codes "out-of-step"
 standing_word (Clashes clash) = codes "clashes"
@@ -103,12 +106,16 @@ clash_words c =
     ++ (codes " in " ++ (string_bytes c.other_name ++ (codes " (" ++ (string_bytes c.other_path
     ++ (codes "); used so by " ++ decimal c.alike)))))))))
 
+-- what was asked, as a modulefile has it: the words of a command with a space between two, or a variable as `$env(VAR)`
+abbrev pub question_words : Question → Text
+question_words (OfCommand words answer) = join_with_byte 32 words
+question_words (OfVariable name value) = codes "$env(" ++ (name ++ codes ")")
+
 -- Why a module stands so: of one that asks its first question, of one that is one way the record, of a refused one the
 -- refusal.
 abbrev pub reason : Standing → Text
 reason Certified = []
-reason (Asks None) = []
-reason (Asks (Some question)) = string_bytes question
+reason (Asks first) = question_words (question_view first)
 reason (OneWay first) = record_words first
 reason (OutOfStep variable one other) = two_uses (string_bytes variable) one other
 reason (Clashes clash) = clash_words clash

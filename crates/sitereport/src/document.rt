@@ -9,7 +9,7 @@ ghost use Rattle.sitereport.specs.Tokens.{AddsTokens, fields_tokens, field_token
 use crate::remarks::command_of;
 use crate::selection::{Selection, certified_count};
 use crate::tokens::{write_all_used, write_path_fields, write_text, write_text_array, write_use};
-use crate::words::{record_words, standing_word};
+use crate::words::{question_words, record_words, standing_word};
 use json::Writer;
 use siteaudit::{AuditedModule, SiteAudit, Standing, UnknownNames};
 use sitecertificate::{Clash, Disagreement, UsedVariable, VariableUse};
@@ -61,8 +61,11 @@ fn write_standing(alloc: Global, writer: &mut Writer, standing: &Standing) -> Re
     ensures { OnOk result (AddsTokens writer.old writer.new (fields_tokens (spec.standing_fields standing.now))) }
 {
     match standing {
-        Standing::Certified | Standing::Asks(None) => Ok(()),
-        Standing::Asks(Some(question)) => write_text(writer, "question", question.as_str()),
+        Standing::Certified => Ok(()),
+        Standing::Asks(first) => {
+            let words = question_words(alloc, first)?;
+            write_text(writer, "question", words.as_str())
+        }
         Standing::OneWay(first) => {
             let words = record_words(alloc, first)?;
             write_text(writer, "record", words.as_str())

@@ -1,8 +1,11 @@
 //! What is said of a module: how it stands in one word, and why.
 ghost use Rattle.std.specs.Prelude.{◌≡◌, IfOk, string_bytes};
+ghost use Rattle.modulerun.specs.Questions.{question_view};
 ghost use Rattle.sitereport.specs.Words as spec;
 
+use envvars::fields::{join, slices};
 use modulefile::Record;
+use modulerun::Question;
 use requests::show_report;
 use siteaudit::Standing;
 use sitecertificate::{Clash, VariableUse};
@@ -74,14 +77,26 @@ fn clash_words(alloc: Global, clash: &Clash) -> Result<String, AllocError>
     format!(in alloc; "{variable}: {own} here, {theirs} in {name} ({path}); used so by {alike}")
 }
 
-/// Why a module stands so. For a certified one it is empty, and for one that asks where there was no memory for its
-/// question.
+/// What was asked, as a modulefile has it: the words of a command with a space between two, or a variable as `$env(VAR)`.
+pub(crate) fn question_words(alloc: Global, question: &Question) -> Result<String, AllocError>
+    ensures { IfOk result (λ words. string_bytes words ≡ spec.question_words (question_view question.now)) }
+{
+    match question {
+        Question::Command(words, _answer) => {
+            let words = slices(alloc, words.as_slice())?;
+            join(alloc, words.as_slice(), ' ')
+        }
+        Question::Variable(name, _value) => format!(in alloc; "$env({name})"),
+    }
+}
+
+/// Why a module stands so. For a certified one it is empty.
 pub(crate) fn reason(alloc: Global, standing: &Standing) -> Result<String, AllocError>
     ensures { IfOk result (λ words. string_bytes words ≡ spec.reason standing.now) }
 {
     match standing {
-        Standing::Certified | Standing::Asks(None) => Ok(String::new(alloc)),
-        Standing::Asks(Some(question)) => String::from_str(alloc, question.as_str()),
+        Standing::Certified => Ok(String::new(alloc)),
+        Standing::Asks(first) => question_words(alloc, first),
         Standing::OneWay(recorded) => record_words(alloc, recorded),
         Standing::OutOfStep {
             variable,

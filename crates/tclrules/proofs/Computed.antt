@@ -26,7 +26,7 @@ use Rattle.tclrules.specs.Playing.{Played}
 use Rattle.tclrules.specs.Plans.{Completion}
 use Rattle.tclrules.specs.Meaning.{Setting, play_file}
 use Rattle.tclrules.specs.Shown.{Shown, Result, Halts, Fails, standard, with_commands, with_depth, with_bytes, within}
-use Rattle.tclrules.specs.Shown.{recorded, shown_of, trace_of, setenv_words}
+use Rattle.tclrules.specs.Shown.{recorded, shown_of, trace_of, setenv_words, asked_for_mode}
 
 -- what a view shows of a playing
 abbrev pub viewed : {A : Type 0} → (EvaluationOutcome Completion → World → A) → Played Completion → Option A
@@ -93,7 +93,7 @@ unfolding computed
 shared_variable_row = refl
 
 pub asked_mode_row : computed (recorded standard (codes "if {[mode] eq \"unload\"} {setenv A 1}")) trace_of 300 ≡ Some
-    (record { records = (setenv_words (codes "A") (codes "1") ∷ []); messages = []; asked = true; refused = None })
+    (record { records = (setenv_words (codes "A") (codes "1") ∷ []); messages = []; asked = asked_for_mode ∷ []; refused = None })
 unfolding computed
 asked_mode_row = refl
 

@@ -1,12 +1,12 @@
 -- How a program builds a derivation from its first step on: each lemma is one step between plans, for every table of
 -- rules.
-use Rattle.std.proofs.Common.{◌≡◌, ℕ, ◌+◌, ◌<◌, ◌≤◌, Bool, true, false, List, Option, refl, ◌∙◌}
+use Rattle.std.proofs.Common.{◌≡◌, ℕ, ◌+◌, ◌<◌, ◌≤◌, true, List, Option, refl, ◌∙◌}
 use Rattle.tclchars.specs.Runs.{Text}
-use Rattle.tclrules.specs.Oracle.{Oracle, Trace, OracleAnswer, trace_after}
+use Rattle.tclrules.specs.Oracle.{Oracle, Question, Trace, OracleAnswer, trace_after}
 use Rattle.tclrules.specs.Derivation.{Halt, TooManyCommands, OutOfMemory, EvaluationOutcome, Ended, Halted, HostReply}
 use Rattle.tclrules.specs.Derivation.{Plan, Ends, Counts, Consults, ReadsEnvironment, Runs, World, Eval, ends, counts}
-use Rattle.tclrules.specs.Derivation.{meets_limit, consults, reads, runs, halts, lacks_memory, replied, asked_trace}
-use Rattle.tclrules.specs.Derivation.{perhaps_asked, perhaps_ask}
+use Rattle.tclrules.specs.Derivation.{meets_limit, consults, reads, runs, halts, lacks_memory, replied, variable_read}
+use Rattle.tclrules.specs.Derivation.{with_questions, having_asked}
 use Rattle.tclrules.specs.Simulates.{Point, point, Simulates}
 
 pub stay : {J R : Type 0} {most : ℕ} {rule : J → Plan J R} {p : Plan J R} {x : Point} → Simulates most rule p x p x
@@ -15,22 +15,21 @@ stay = record { same = refl; by = λ o w d. d }
 pub continue_with : {J R : Type 0} {most : ℕ} {rule : J → Plan J R} {p q r : Plan J R} {x y z : Point} → Simulates most rule p x q y → Simulates most rule q y r z → Simulates most rule p x r z
 continue_with a b = record { same = b.same ∙ a.same; by = λ o w d. a.by o w (b.by o w d) }
 
--- want of memory, anywhere; a host may have been asked before
+-- want of memory, anywhere
 want_by : {J R : Type 0} {oracle : Oracle} {most : ℕ} {rule : J → Plan J R} {p : Plan J R} {v : World}
-    {o : EvaluationOutcome R} {w : World} (asked : Bool)
-    → Eval true oracle most rule (Ends (Halted OutOfMemory)) (perhaps_ask asked v) o w
+    {o : EvaluationOutcome R} {w : World} (asked : List Question)
+    → Eval true oracle most rule (Ends (Halted OutOfMemory)) (having_asked asked v) o w
     → Eval true oracle most rule p v o w
 want_by asked ends = lacks_memory asked refl
-want_by asked (lacks_memory true h) = lacks_memory true h
-want_by asked (lacks_memory false h) = lacks_memory asked h
+want_by asked (lacks_memory again h) = lacks_memory again h
 
 pub want : {J R : Type 0} {most : ℕ} {rule : J → Plan J R} {p : Plan J R} {oracle oracle' : Oracle}
-    {trace trace' : Trace} {n : ℕ} (asked : Bool) → trace' ≡ perhaps_asked asked trace → oracle' ≡ oracle
+    {trace trace' : Trace} {n : ℕ} (asked : List Question) → trace' ≡ with_questions asked trace → oracle' ≡ oracle
     → Simulates most rule p (point oracle trace n) (Ends (Halted OutOfMemory)) (point oracle' trace' n)
 want asked e s = record { same = s; by = λ o w d. want_by asked (rw (s, e) at d) }
 
 pub starve : {J R : Type 0} {most : ℕ} {rule : J → Plan J R} {p : Plan J R} {x : Point} → Simulates most rule p x (Ends (Halted OutOfMemory)) x
-starve = record { same = refl; by = λ o w d. want_by false d }
+starve {x = x} = record { same = refl; by = λ o w d. want_by x.world.trace.asked d }
 
 -- a command or a turn is counted
 pub count_on : {J R : Type 0} {most : ℕ} {rule : J → Plan J R} {p : Plan J R} {oracle : Oracle} {trace : Trace} {n : ℕ}
@@ -52,13 +51,15 @@ count_over h = record { same = refl; by = λ o w d. over_by h d }
 pub hear_on : {J R : Type 0} {most : ℕ} {rule : J → Plan J R} {words : List Text} {k : HostReply → Plan J R}
     {oracle oracle' : Oracle} {trace : Trace} {n : ℕ} {a : OracleAnswer} → oracle.command trace.records words ≡ a
     → oracle' ≡ oracle
-    → Simulates most rule (Consults words k) (point oracle trace n) (replied k a) (point oracle' (trace_after trace a) n)
+    → Simulates most rule (Consults words k) (point oracle trace n) (replied k a)
+    (point oracle' (trace_after trace words a) n)
 hear_on e s = record { same = s; by = λ o w d. consults (rw e (rw s at d)) }
 
 pub read_on : {J R : Type 0} {most : ℕ} {rule : J → Plan J R} {name : Text} {k : Option Text → Plan J R}
     {oracle oracle' : Oracle} {trace : Trace} {n : ℕ} {v : Option Text} → oracle.variable trace.records name ≡ v
     → oracle' ≡ oracle
-    → Simulates most rule (ReadsEnvironment name k) (point oracle trace n) (k v) (point oracle' (asked_trace trace) n)
+    → Simulates most rule (ReadsEnvironment name k) (point oracle trace n) (k v)
+    (point oracle' (variable_read name v trace) n)
 read_on e s = record { same = s; by = λ o w d. reads (rw e (rw s at d)) }
 
 -- a job that ended, and one that halted

@@ -41,8 +41,8 @@ more : {J R : Type 0} (oracle : Oracle) (most : ℕ) (rule : J → Plan J R) (n 
 more oracle most rule zero p w o w' e = absurd (cc)
 more oracle most rule (suc n) (Ends q) w o w' e = e
 more oracle most rule (suc n) (Counts p) w o w' e = on_branch oracle most rule n p w o w' (nat_lt w.used most) (more oracle most rule n p (count w) o w') e
-more oracle most rule (suc n) (Consults words k) w o w' e = more oracle most rule n (replied k (oracle.command w.trace.records words)) (world_after w (oracle.command w.trace.records words)) o w' e
-more oracle most rule (suc n) (ReadsEnvironment name k) w o w' e = more oracle most rule n (k (oracle.variable w.trace.records name)) (ask w) o w' e
+more oracle most rule (suc n) (Consults words k) w o w' e = more oracle most rule n (replied k (oracle.command w.trace.records words)) (world_after w words (oracle.command w.trace.records words)) o w' e
+more oracle most rule (suc n) (ReadsEnvironment name k) w o w' e = more oracle most rule n (k (oracle.variable w.trace.records name)) (ask name (oracle.variable w.trace.records name) w) o w' e
 more oracle most rule (suc n) (Runs j k) w o w' e =
     on_run oracle most rule n k o w' (play oracle most rule n (rule j) w) (play oracle most rule (suc n) (rule j) w)
     (λ a v. more oracle most rule n (rule j) w a v) (λ a v. more oracle most rule n (k a) v o w') e

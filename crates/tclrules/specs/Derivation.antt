@@ -1,11 +1,12 @@
 -- Derivations, for any table of rules: which outcome a plan evaluates to. A plan says what is counted, asked and run,
 -- and in which order; a table has a plan for each job. The rules leave the oracle and the limit
 -- on commands to these. Own.
-use Rattle.std.specs.Prelude.{◌≡◌, ℕ, ◌+◌, ◌<◌, ◌≤◌, ◌⊎◌, ◌||◌, Bool, true, false, List, Option}
+use Rattle.std.specs.Prelude.{◌≡◌, ℕ, ◌+◌, ◌<◌, ◌≤◌, ◌⊎◌, Bool, true, false, List, [], ◌∷◌, ◌++◌, Option}
 use Rattle.tclchars.specs.Runs.{Text}
 use Rattle.tclchars.specs.declared.fault.TextFault.{TextFault}
 use Rattle.tclrules.specs.Oracle as host
 use Rattle.tclrules.specs.Oracle.{CommandWords, Trace, OracleAnswer, Done, Unknown, Refused, Oracle, trace_after}
+use Rattle.tclrules.specs.Oracle.{Question, OfCommand, OfVariable}
 use Rattle.tclrules.specs.Oracle.{is_question, is_refusal, records_with, addition}
 
 -- why an evaluation is halted, which catch(n) doesn't catch
@@ -53,25 +54,23 @@ pub record World : Type 0 where
 abbrev pub count : World → World
 count w = record { used = w.used + 1; trace = w.trace }
 
--- the world after an answer of the host
-abbrev pub world_after : World → OracleAnswer → World
-world_after w a = record { used = w.used; trace = trace_after w.trace a }
+-- the world after an answer of the host to the words of a command
+abbrev pub world_after : World → CommandWords → OracleAnswer → World
+world_after w words a = record { used = w.used; trace = trace_after w.trace words a }
 
--- the trace after a question, as reading the environment is
-abbrev pub asked_trace : Trace → Trace
-asked_trace t = record { records = t.records; messages = t.messages; asked = true; refused = t.refused }
+-- the trace, and the world, with these questions in place of its own
+abbrev pub with_questions : List Question → Trace → Trace
+with_questions asked t = record { records = t.records; messages = t.messages; asked = asked; refused = t.refused }
 
--- the trace where something was perhaps asked, and nothing else happened
-abbrev pub perhaps_asked : Bool → Trace → Trace
-perhaps_asked asked t =
-    record { records = t.records; messages = t.messages; asked = asked || t.asked; refused = t.refused }
+abbrev pub having_asked : List Question → World → World
+having_asked asked w = record { used = w.used; trace = with_questions asked w.trace }
 
--- the world after a question
-abbrev pub ask : World → World
-ask w = record { used = w.used; trace = asked_trace w.trace }
+-- the trace, and the world, after a variable of the environment was read, which had this value
+abbrev pub variable_read : Text → Option Text → Trace → Trace
+variable_read name value t = with_questions (t.asked ++ OfVariable name value ∷ []) t
 
-abbrev pub perhaps_ask : Bool → World → World
-perhaps_ask asked w = record { used = w.used; trace = perhaps_asked asked w.trace }
+abbrev pub ask : Text → Option Text → World → World
+ask name value w = record { used = w.used; trace = variable_read name value w.trace }
 
 -- the plan after an answer of the host
 abbrev pub replied : {J R : Type 0} → (HostReply → Plan J R) → OracleAnswer → Plan J R
@@ -81,7 +80,7 @@ replied k (host.LeftOut name asks) = Ends (Halted (LeftOut name))
 replied k (Refused n name asks) = Ends (Halted (ByHost n))
 
 -- derivations: a plan evaluates from one world to an outcome and another world. Where memory may run out (the flag),
--- that can end it anywhere; a host that had no memory may have marked the trace as asked before
+-- that can end it anywhere, and what was asked is open then
 pub data Eval {J R : Type 0} (may_lack_memory : Bool) (oracle : Oracle) (most : ℕ) (rule : J → Plan J R) : Plan J R
     → World
     → EvaluationOutcome R → World → Type 0 where
@@ -92,10 +91,11 @@ pub data Eval {J R : Type 0} (may_lack_memory : Bool) (oracle : Oracle) (most : 
       → Eval may_lack_memory oracle most rule (Counts p) w (Halted TooManyCommands) w
   consults : {words : List Text} {k : HostReply → Plan J R} {w w' : World} {o : EvaluationOutcome R}
       → Eval may_lack_memory oracle most rule (replied k (oracle.command w.trace.records words))
-      (world_after w (oracle.command w.trace.records words)) o w' → Eval may_lack_memory oracle most rule
+      (world_after w words (oracle.command w.trace.records words)) o w' → Eval may_lack_memory oracle most rule
       (Consults words k) w o w'
   reads : {name : Text} {k : Option Text → Plan J R} {w w' : World} {o : EvaluationOutcome R}
-      → Eval may_lack_memory oracle most rule (k (oracle.variable w.trace.records name)) (ask w) o w'
+      → Eval may_lack_memory oracle most rule (k (oracle.variable w.trace.records name))
+      (ask name (oracle.variable w.trace.records name) w) o w'
       → Eval may_lack_memory oracle most rule (ReadsEnvironment name k) w o w'
   runs : {j : J} {k : R → Plan J R} {w w' w'' : World} {r : R} {o : EvaluationOutcome R}
       → Eval may_lack_memory oracle most rule (rule j) w (Ended r) w' → Eval may_lack_memory oracle most rule
@@ -104,8 +104,8 @@ pub data Eval {J R : Type 0} (may_lack_memory : Bool) (oracle : Oracle) (most : 
   halts : {j : J} {k : R → Plan J R} {w w' : World} {f : Halt} → Eval may_lack_memory oracle most rule (rule j) w
       (Halted f) w'
       → Eval may_lack_memory oracle most rule (Runs j k) w (Halted f) w'
-  lacks_memory : {p : Plan J R} {w : World} (asked : Bool) → may_lack_memory ≡ true
-      → Eval may_lack_memory oracle most rule p w (Halted OutOfMemory) (perhaps_ask asked w)
+  lacks_memory : {p : Plan J R} {w : World} (asked : List Question) → may_lack_memory ≡ true
+      → Eval may_lack_memory oracle most rule p w (Halted OutOfMemory) (having_asked asked w)
 
 -- a consultation of the host: a command, or an environment variable
 pub data Query : Type 0 where
@@ -141,6 +141,17 @@ abbrev pub asks : Oracle → List CommandWords → Query → Bool
 asks oracle records (Command words) = is_question (oracle.command records words)
 asks oracle records (Variable name) = true
 
+-- a consultation as a question, with its answer
+abbrev pub question_of : Oracle → List CommandWords → Query → Question
+question_of oracle records (Command words) = OfCommand words (oracle.command records words)
+question_of oracle records (Variable name) = OfVariable name (oracle.variable records name)
+
+-- where the consultation is a question, it is in the list
+abbrev pub IsNoted : Oracle → List Question → List CommandWords → Query → Type 0
+IsNoted oracle asked records query =
+    asks oracle records query ≡ true → (before after : List Question)
+    × (asked ≡ before ++ question_of oracle records query ∷ after)
+
 -- the second oracle reserves the same names; and commands that are no questions for the first and that it doesn't
 -- refuse, the second answers alike or refuses
 abbrev pub AnswersAlikeUnasked : Oracle → Oracle → Type 0
@@ -148,6 +159,19 @@ AnswersAlikeUnasked first second =
     (second.reserved ≡ first.reserved) × ((records : List CommandWords) (words : List Text)
     → is_question (first.command records words) ≡ false → is_refusal (first.command records words) ≡ false
     → AnswersOrRefuses first second records (Command words))
+
+-- an oracle answers a question anew as it was answered, or refuses it
+abbrev pub AnswersAsBefore : Oracle → List CommandWords → Question → Type 0
+AnswersAsBefore oracle records (OfCommand words answer) = (oracle.command records words ≡ answer)
+    ⊎ ((n : ℕ) × (name : Option Text) × (asks : Bool) × (oracle.command records words ≡ Refused n name asks))
+AnswersAsBefore oracle records (OfVariable name value) = oracle.variable records name ≡ value
+
+-- an oracle answers all that a trace has asked as it was answered, or refuses it, whichever beginning of its records
+-- stood before
+abbrev pub RepeatsAnswers : Oracle → Trace → Type 0
+RepeatsAnswers oracle t =
+    (before after : List Question) (q : Question) → t.asked ≡ before ++ q ∷ after
+    → (records rest : List CommandWords) → t.records ≡ records ++ rest → AnswersAsBefore oracle records q
 
 -- the second records are the first with the additions of the oracle's answers to some commands
 pub data Grows (oracle : Oracle) : List CommandWords → List CommandWords → Type 0 where

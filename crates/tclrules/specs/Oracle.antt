@@ -1,5 +1,5 @@
 -- What a host stands for: the oracle, which is how it answers, and the trace, which is what it has recorded. Own.
-use Rattle.std.specs.Prelude.{ℕ, Bool, true, false, ◌||◌, List, [], ◌∷◌, ◌++◌, Option, Some, None}
+use Rattle.std.specs.Prelude.{ℕ, Bool, true, false, if◌then◌else◌, List, [], ◌∷◌, ◌++◌, Option, Some, None}
 use Rattle.tclchars.specs.Runs.{Text}
 
 -- a record is the words of its command
@@ -38,11 +38,16 @@ pub record HostRefusal : Type 0 where
 abbrev pub unnamed : ℕ → HostRefusal
 unnamed n = record { number = n; name = None }
 
--- the records and messages so far, whether something was asked, and the refusal of a command
+-- what was asked, and what was answered: the words of a command, or the name of an environment variable
+pub data Question : Type 0 where
+  OfCommand : CommandWords → OracleAnswer → Question
+  OfVariable : Text → Option Text → Question
+
+-- the records and messages so far, what was asked so far, and the refusal of a command
 pub record Trace : Type 0 where
   pub records : List CommandWords
   pub messages : List Text
-  pub asked : Bool
+  pub asked : List Question
   pub refused : Option HostRefusal
 
 -- what an answer adds
@@ -74,6 +79,10 @@ messages_with messages Nothing = messages
 messages_with messages (NewRecord r) = messages
 messages_with messages (Message m) = messages ++ m ∷ []
 
+-- words are among what was asked where they are a question
+abbrev pub asked_with : List Question → CommandWords → OracleAnswer → List Question
+asked_with asked words a = if is_question a then asked ++ OfCommand words a ∷ [] else asked
+
 -- the refusal is that of the last command that was refused
 abbrev pub refused_with : Option HostRefusal → OracleAnswer → Option HostRefusal
 refused_with before (Done text adds asks) = before
@@ -81,11 +90,11 @@ refused_with before (Unknown asks) = before
 refused_with before (LeftOut name asks) = before
 refused_with before (Refused n name asks) = Some (record { number = n; name = name })
 
--- the trace after an answer
-abbrev pub trace_after : Trace → OracleAnswer → Trace
-trace_after t a = record {
+-- the trace after an answer to the words of a command
+abbrev pub trace_after : Trace → CommandWords → OracleAnswer → Trace
+trace_after t words a = record {
   records = records_with t.records (addition a);
   messages = messages_with t.messages (addition a);
-  asked = t.asked || is_question a;
+  asked = asked_with t.asked words a;
   refused = refused_with t.refused a;
 }

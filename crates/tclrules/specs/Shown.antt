@@ -1,7 +1,7 @@
 -- How the outcome of a small script is shown, for worked examples. Own.
-use Rattle.std.specs.Prelude.{◌≡◌, ℕ, Bool, false, List, [], ◌∷◌, None, codes}
+use Rattle.std.specs.Prelude.{◌≡◌, ℕ, false, List, [], ◌∷◌, None, codes}
 use Rattle.tclchars.specs.Runs.{Text}
-use Rattle.tclrules.specs.Oracle.{CommandWords, Oracle, Trace, Unknown}
+use Rattle.tclrules.specs.Oracle.{CommandWords, Oracle, Question, OfCommand, Trace, Unknown, Done, Nothing}
 use Rattle.tclrules.specs.Derivation.{Halt, EvaluationOutcome, Ended, Halted, World}
 use Rattle.tclrules.specs.Recording.{commands_of_recorder, answer_of, value_in}
 use Rattle.tclrules.specs.Plans.{Completion, Normal, Raised, Returned, Broken, Continued}
@@ -23,7 +23,7 @@ with_bytes n = record standard { value_bytes = n }
 
 -- the trace before a script
 abbrev pub empty_trace : Trace
-empty_trace = record { records = []; messages = []; asked = false; refused = None }
+empty_trace = record { records = []; messages = []; asked = []; refused = None }
 
 -- a host that has no command and no environment
 abbrev pub nobody : Oracle
@@ -87,11 +87,15 @@ Stops l script h = Sees (within l script) (Halts h)
 abbrev pub HostStops : Limits → Text → Halt → Type 0
 HostStops l script h = Sees (recorded l script) (Halts h)
 
--- its trace has these records and messages, and is marked as asked or not
-abbrev pub HostTraces : Text → List CommandWords → List Text → Bool → Type 0
+-- its trace has these records and messages, and this was asked
+abbrev pub HostTraces : Text → List CommandWords → List Text → List Question → Type 0
 HostTraces script records messages asked = Shows (recorded standard script) trace_of
     (record { records = records; messages = messages; asked = asked; refused = None })
 
 -- the words of a setenv
 abbrev pub setenv_words : Text → Text → CommandWords
 setenv_words name value = codes "setenv" ∷ name ∷ value ∷ []
+
+-- the example host was asked for its mode
+abbrev pub asked_for_mode : Question
+asked_for_mode = OfCommand (codes "mode" ∷ []) (Done (codes "unload") Nothing true)

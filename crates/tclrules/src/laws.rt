@@ -1,9 +1,10 @@
 //! Theorems of evaluations, whatever the oracle.
-ghost use Rattle.std.specs.Prelude.{◌≡◌, ℕ, ◌≤◌, ◌<◌, ◌⊎◌, Bool, true, false, List, Some};
+ghost use Rattle.std.specs.Prelude.{◌≡◌, ℕ, ◌≤◌, ◌<◌, ◌⊎◌, Bool, true, false, List, [], Some};
 ghost use Rattle.tclchars.specs.Runs.{Text};
 ghost use Rattle.tclrules.specs.Oracle.{CommandWords, Oracle, records_with, addition};
 ghost use Rattle.tclrules.specs.Derivation.{EvaluationOutcome, Halted, TooManyCommands, ByHost, World, Throughout};
-ghost use Rattle.tclrules.specs.Derivation.{AnswersOrRefuses, AnswersAlikeUnasked, IsUnrefused, asks, Grows};
+ghost use Rattle.tclrules.specs.Derivation.{AnswersOrRefuses, AnswersAlikeUnasked, RepeatsAnswers, IsUnrefused, IsNoted};
+ghost use Rattle.tclrules.specs.Derivation.{asks, Grows};
 ghost use Rattle.tclrules.specs.Plans.{Completion};
 ghost use Rattle.tclrules.specs.Meaning.{Setting, EvaluatesTo, limited_to, with_oracle, HasNoEnd, PreservedByAnswers};
 ghost use Rattle.tclrules.specs.Meaning.{IsSameOrRefused, play_file};
@@ -36,20 +37,30 @@ pub fn endless()
 
 /// Where a second oracle reserves the same names, and answers each consultation of an evaluation as the first does, or
 /// refuses it, the outcome is the same, or a refusal. Where nothing was asked and nothing refused, it is enough that it
-/// does so for commands that are no questions and that the first doesn't refuse.
+/// does so for commands that are no questions and that the first doesn't refuse; and where something was asked, that it
+/// also answers as before what was asked.
 pub fn two_oracles()
     ensures each { (s : Setting) (second : Oracle) (o o2 : EvaluationOutcome Completion) (w w2 : World) (d : EvaluatesTo s o w)
         → second.reserved ≡ s.oracle.reserved → Throughout (AnswersOrRefuses s.oracle second) d
         → EvaluatesTo (with_oracle second s) o2 w2 → IsSameOrRefused o w o2 w2 }
     ensures unasked { (s : Setting) (second : Oracle) (o o2 : EvaluationOutcome Completion) (w w2 : World)
-        → EvaluatesTo s o w → w.trace.asked ≡ false → ((n : ℕ) → ¬ (o ≡ Halted (ByHost n)))
+        → EvaluatesTo s o w → w.trace.asked ≡ [] → ((n : ℕ) → ¬ (o ≡ Halted (ByHost n)))
+        → AnswersAlikeUnasked s.oracle second → EvaluatesTo (with_oracle second s) o2 w2 → IsSameOrRefused o w o2 w2 }
+    ensures asked { (s : Setting) (second : Oracle) (o o2 : EvaluationOutcome Completion) (w w2 : World)
+        → EvaluatesTo s o w → RepeatsAnswers second w.trace → ((n : ℕ) → ¬ (o ≡ Halted (ByHost n)))
         → AnswersAlikeUnasked s.oracle second → EvaluatesTo (with_oracle second s) o2 w2 → IsSameOrRefused o w o2 w2 }
 {}
 
-/// Where the trace hasn't asked, no consultation was a question.
+/// Where nothing was asked, no consultation was a question.
 pub fn unasked()
     ensures { (s : Setting) (o : EvaluationOutcome Completion) (w : World) (d : EvaluatesTo s o w)
-        → w.trace.asked ≡ false → Throughout (λ records query. asks s.oracle records query ≡ false) d }
+        → w.trace.asked ≡ [] → Throughout (λ records query. asks s.oracle records query ≡ false) d }
+{}
+
+/// Each consultation that is a question is in what was asked, with its answer.
+pub fn noted()
+    ensures { (s : Setting) (o : EvaluationOutcome Completion) (w : World) (d : EvaluatesTo s o w)
+        → Throughout (IsNoted s.oracle w.trace.asked) d }
 {}
 
 /// An evaluation that the host didn't refuse had no consultation that was refused.

@@ -1,8 +1,8 @@
 //! Worked examples: small scripts and their outcomes, by computation, one for each of the main rules.
-ghost use Rattle.std.specs.Prelude.{[], ◌∷◌, true, codes};
+ghost use Rattle.std.specs.Prelude.{[], ◌∷◌, codes};
 ghost use Rattle.tclchars.specs.declared.fault.TextFault.TheVariants as text;
 ghost use Rattle.tclrules.specs.Derivation.{BadText, TooManyCommands, TooDeep, ValueTooLong, ByHost};
-ghost use Rattle.tclrules.specs.Shown.{standard, with_commands, with_depth, with_bytes, setenv_words, Results};
+ghost use Rattle.tclrules.specs.Shown.{standard, with_commands, with_depth, with_bytes, setenv_words, asked_for_mode, Results};
 ghost use Rattle.tclrules.specs.Shown.{RaisesOn, Stops, HostStops, HostTraces};
 
 /// Worked examples of the rules, each named for what it shows.
@@ -19,7 +19,7 @@ pub fn worked_rows()
     ensures proc { Results (codes "proc f {a {b 2} args} {return $a$b$args}; f 1") (codes "12") 3 }
     ensures shared_variable { Results (codes "set x 1; proc f {} {set x 3; global x; set x}; f") (codes "1") 6 }
     ensures asked_mode { HostTraces (codes "if {[mode] eq \"unload\"} {setenv A 1}")
-        (setenv_words (codes "A") (codes "1") ∷ []) [] true }
+        (setenv_words (codes "A") (codes "1") ∷ []) [] (asked_for_mode ∷ []) }
     ensures in_a_procedure { RaisesOn 4 (codes "proc f {} {\nset x\n}\nf")
         (codes "can't read \"x\": no such variable") }
 {}

@@ -1,5 +1,6 @@
-use Rattle.std.specs.Prelude.{◌≡◌, false, List}
-use Rattle.std.proofs.Common.{⊎_elim, inl, inr, subst}
+use Rattle.std.specs.Prelude.{◌≡◌, false, List, []}
+use Rattle.std.proofs.Common.{⊎_elim, inl, inr, subst, sym}
+use Rattle.std.proofs.lemmas.List.{append-nil}
 use Rattle.tclchars.specs.Runs.{Text}
 use Rattle.tclrules.specs.Oracle.{Oracle}
 use Rattle.tclrules.specs.Derivation.{EvaluationOutcome, World, Eval}
@@ -7,7 +8,7 @@ use Rattle.tclrules.specs.Plans.{Completion}
 use Rattle.tclrules.specs.Rules.{rule}
 use Rattle.tclrules.specs.Meaning.{Setting, EvaluatesTo, with_oracle, plan_of, first}
 use Rattle.tclrules.proofs.Outcomes as Laws
-use Rattle.tclrules.proofs.Consultations.{same_or_refused, unasked, unrefused, agree}
+use Rattle.tclrules.proofs.Consultations.{same_or_refused, unasked, unrefused, agree, noted, beginnings, repeats}
 use Rattle.tclrules.proofs.laws.two_oracles.Goals as goal
 
 -- the same plan for an oracle that reserves the same names
@@ -26,3 +27,12 @@ pub returns-clause-unasked : goal.returns-clause-unasked
 returns-clause-unasked c = λ s second o o2 w w2 d a n h d2.
     let d3 = same_plan s second o2 w2 h.0 d2 in
     ⊎_elim (λ i. inl (Laws.one_outcome d3 i)) (λ i. inr (i.0, (Laws.one_outcome d3 i.2).0)) (same_or_refused second d (agree second h d (unasked d a) (unrefused d n)))
+
+pub returns-clause-asked : goal.returns-clause-asked
+returns-clause-asked c = λ s second o o2 w w2 d r n h d2.
+    let d3 = same_plan s second o2 w2 h.0 d2 in
+    ⊎_elim (λ i. inl (Laws.one_outcome d3 i)) (λ i. inr (i.0, (Laws.one_outcome d3 i.2).0))
+    (same_or_refused second d (repeats second w.trace h r d
+        (noted d w.trace.asked [] (sym (append-nil w.trace.asked)))
+        (beginnings d w.trace.records [] (sym (append-nil w.trace.records)))
+        (unrefused d n)))

@@ -3,7 +3,7 @@ use Rattle.std.specs.Prelude.{codes}
 use Rattle.tclchars.specs.declared.fault.TextFault.TheVariants as text
 use Rattle.tclrules.specs.Derivation.{BadText, TooManyCommands, TooDeep, ValueTooLong, ByHost}
 use Rattle.tclrules.specs.Shown.{standard, with_commands, with_depth, with_bytes, within, recorded, trace_of}
-use Rattle.tclrules.specs.Shown.{setenv_words, Result, Fails, Halts}
+use Rattle.tclrules.specs.Shown.{setenv_words, asked_for_mode, Result, Fails, Halts}
 use Rattle.tclrules.proofs.Computed as computed
 use Rattle.tclrules.proofs.Seen.{shows, sights}
 use Rattle.tclrules.proofs.rows.worked_rows.Goals as goal
@@ -43,7 +43,7 @@ returns-clause-shared_variable c = sights (within standard (codes "set x 1; proc
 
 pub returns-clause-asked_mode : goal.returns-clause-asked_mode
 returns-clause-asked_mode c = shows (recorded standard (codes "if {[mode] eq \"unload\"} {setenv A 1}")) trace_of
-    (record { records = (setenv_words (codes "A") (codes "1") ∷ []); messages = []; asked = true; refused = None }) 300
+    (record { records = (setenv_words (codes "A") (codes "1") ∷ []); messages = []; asked = asked_for_mode ∷ []; refused = None }) 300
     computed.asked_mode_row
 
 pub returns-clause-in_a_procedure : goal.returns-clause-in_a_procedure

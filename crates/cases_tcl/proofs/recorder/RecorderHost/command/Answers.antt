@@ -1,7 +1,6 @@
 use Rattle.std.proofs.Common.{◌≡◌, true, false, [], ◌∷◌, ◌++◌, map, Some, refl, ap, ◌∙◌, rules}
 use Rattle.std.specs.Prelude.{string_bytes, codes, bytes_eq}
 use Rattle.std.proofs.lemmas.List.{map-append}
-use Rattle.std.proofs.Math.Bool.{or-false}
 use Rattle.tclrules.specs.Oracle.{NewRecord, Message}
 use Rattle.tclrules.specs.Recording.{record_texts, message_in}
 use Rattle.cases_tcl.proofs.Recorded.{set_answer, put_answer}
@@ -12,7 +11,7 @@ returns-else-is_err-clause-answer c =
     let e : bytes_eq (string_bytes c.name-item.result) (codes "setenv") ≡ true = search rules in
     let q : map record_texts c.push_copy.new.records.items ≡ map record_texts c.args.self.now.records.items ++ map string_bytes c.args.words.now ∷ [] = search rules in
     let a = set_answer (string_bytes c.args.self.now.mode) (map record_texts c.args.self.now.records.items) c.args.words.now c.name-item.result c.in-len1-up.len_at_least c.name-item.is e in
-    (NewRecord (map string_bytes c.args.words.now), false, (rw c.new.ensures.bytes a, rw (a, q, or-false) refl))
+    (NewRecord (map string_bytes c.args.words.now), false, (rw c.new.ensures.bytes a, rw (a, q) refl))
 
 pub returns-else-is_err-2-clause-answer : goal.returns-else-is_err-2-clause-answer
 returns-else-is_err-2-clause-answer c =
@@ -26,4 +25,4 @@ returns-else-is_err-2-clause-answer c =
     let a = put_answer (string_bytes c.args.self.now.mode) (map record_texts c.args.self.now.records.items)
     c.args.words.now c.name-item.result (string_bytes c.in-Some.message) c.in-len1-up.len_at_least c.name-item.is e
     f g in
-    (Message (string_bytes c.in-Some.message), false, (rw c.new-then-eq-2.ensures.bytes a, rw (a, q, or-false) refl))
+    (Message (string_bytes c.in-Some.message), false, (rw c.new-then-eq-2.ensures.bytes a, rw (a, q) refl))

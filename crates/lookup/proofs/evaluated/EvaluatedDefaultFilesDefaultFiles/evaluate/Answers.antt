@@ -3,7 +3,7 @@ use Rattle.std.specs.Prelude.{codes, option_map, string_bytes}
 use Rattle.tclrules.specs.Oracle.{unnamed}
 use Rattle.tclrules.specs.Promise.{texts_of, is_out_of_memory, Evaluates}
 use Rattle.tclrules.specs.Variables.{lookup}
-use Rattle.lookup.specs.DefaultFileResults.{default_oracle, HasResult}
+use Rattle.lookup.specs.DefaultFileResults.{default_oracle, unset_read, HasResult}
 use Rattle.lookup.specs.CommandAnswers.{texts_of_words}
 use Rattle.lookup.proofs.Ends.{globals_of, ending_has_result, fault_has_result}
 use Rattle.lookup.proofs.evaluated.EvaluatedDefaultFilesDefaultFiles.evaluate.Goals as goal
@@ -12,12 +12,12 @@ pub returns-in_ok-version-in-Ok : goal.returns-in_ok-version-in-Ok
 returns-in_ok-version-in-Ok c =
     let g : texts_of c.in_ok-globals.globals.items ≡ globals_of c.args.path.now = search rules in
     let v : Evaluates c.args.self.now.limits c.args.text.now (texts_of c.in_ok-globals.globals.items) default_oracle
-    (record { records = map texts_of_words c.new.result.items; messages = []; asked = false; refused = None })
+    (record { records = map texts_of_words c.new.result.items; messages = []; asked = map unset_read c.new-asked.result.items; refused = None })
     (Ok c.in-Ok.evaluation) (record {
       records = map texts_of_words c.evaluate.new.host.commands.items;
       messages =
           [];
-      asked = c.evaluate.new.host.asked;
+      asked = map unset_read c.evaluate.new.host.asked.items;
       refused = option_map unnamed c.evaluate.new.host.refused;
     }) =
     c.in-Ok.ensures.evaluates in
@@ -30,11 +30,11 @@ returns-else-is_out_of_memory c =
     let g : texts_of c.in_ok-globals.globals.items ≡ globals_of c.args.path.now = search rules in
     let m : is_out_of_memory c.in-Err.fault ≡ false = search rules in
     let v : Evaluates c.args.self.now.limits c.args.text.now (texts_of c.in_ok-globals.globals.items) default_oracle
-    (record { records = map texts_of_words c.new.result.items; messages = []; asked = false; refused = None })
+    (record { records = map texts_of_words c.new.result.items; messages = []; asked = map unset_read c.new-asked.result.items; refused = None })
     (Err c.in-Err.fault) (record {
       records = map texts_of_words c.evaluate.new.host.commands.items;
       messages = [];
-      asked = c.evaluate.new.host.asked;
+      asked = map unset_read c.evaluate.new.host.asked.items;
       refused = option_map unnamed c.evaluate.new.host.refused;
     }) =
     c.in-Err.ensures.evaluates in

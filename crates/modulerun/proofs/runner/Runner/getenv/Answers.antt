@@ -1,4 +1,4 @@
-use Rattle.std.proofs.Common.{◌≡◌, Option, Some, None, IfSome, ap, sym, subst, ◌∙◌}
+use Rattle.std.proofs.Common.{◌≡◌, map, string_bytes, Option, Some, None, IfSome, ap, sym, subst, ◌∙◌}
 use Rattle.std.specs.Option.{option_map}
 use Rattle.envvars.specs.Reasons.{EnvReason, bad_variable, reason_of}
 use Rattle.modulefile.specs.Judgments.{bad_edit}
@@ -19,8 +19,8 @@ pub returns-then-is_variable_name-clause-replies : goal.returns-then-is_variable
 returns-then-is_variable_name-clause-replies g c =
     let value = value_shown (mode_view c.args.self.now.journal.mode) (environment_so_far c.args.self.now.journal) c.args.var.now c.args.default.now in
     let new = trace_with c.answer_question.new.self.journal c.answer_question.new.self.messages c.answer_question.new.self.asked c.answer_question.new.self.refusal in
-    subst (λ old. Replies (variable_answer c.args.var.now value) c.answer_question.result old new) c.value_shown-value.ensures.trace
-    (by_answer _ (question_answer value) c.answer_question.result
+    subst (λ old. Replies (map string_bytes c.args.words.now) (variable_answer c.args.var.now value) c.answer_question.result old new) c.value_shown-value.ensures.trace
+    (by_answer (map string_bytes c.args.words.now) _ (question_answer value) c.answer_question.result
     (trace_with c.value_shown-value.new.self.journal c.value_shown-value.new.self.messages
     c.value_shown-value.new.self.asked c.value_shown-value.new.self.refusal) new
     (read_named c.args.var.now value (sym c.is_variable_name.ensures ∙ c.if-is_variable_name.true))
@@ -28,9 +28,9 @@ returns-then-is_variable_name-clause-replies g c =
 
 pub returns-else-is_variable_name-clause-replies : goal.returns-else-is_variable_name-clause-replies
 returns-else-is_variable_name-clause-replies g c =
-    by_answer _ (not_done (bad_record (bad_edit (bad_variable c.args.var.now)))) c.refuse.result
+    by_answer (map string_bytes c.args.words.now) _ (not_done (bad_record (bad_edit (bad_variable c.args.var.now)))) c.refuse.result
     (trace_with c.args.self.now.journal c.args.self.now.messages c.args.self.now.asked c.args.self.now.refusal)
     (trace_with c.refuse.new.self.journal c.refuse.new.self.messages c.refuse.new.self.asked
     c.refuse.new.self.refusal)
     (read_unnamed c.args.var.now _ (sym c.is_variable_name.ensures ∙ c.if-is_variable_name.false))
-    (c.refuse.ensures.replies (bad_edit (bad_variable c.args.var.now)) (edit_fault (reason_of c.bad_variable.result) (bad_variable c.args.var.now) c.bad_variable.ensures))
+    (c.refuse.ensures.replies (map string_bytes c.args.words.now) (bad_edit (bad_variable c.args.var.now)) (edit_fault (reason_of c.bad_variable.result) (bad_variable c.args.var.now) c.bad_variable.ensures))
