@@ -1,8 +1,8 @@
 -- A file leaves the same records in every context of the same name and path that answers again what it asked, or is
 -- refused.
-use Rattle.std.proofs.Common.{◌≡◌, ℕ, List, [], ◌∷◌, ◌++◌, Result, Ok, Err, refl, ap, sym, ◌∙◌, subst}
+use Rattle.std.proofs.Common.{◌≡◌, ℕ, List, [], ◌∷◌, ◌++◌, Result, Ok, refl, ap, sym, ◌∙◌, subst}
 use Rattle.envvars.specs.Texts.{Text}
-use Rattle.tclrules.specs.Oracle.{CommandWords, Oracle, Question, Trace}
+use Rattle.tclrules.specs.Oracle.{CommandWords, Oracle, Trace}
 use Rattle.tclrules.specs.Derivation.{ByHost, EvaluationOutcome, Ended, Halted, World, AnswersAlikeUnasked, RepeatsAnswers}
 use Rattle.tclrules.specs.Variables.{State}
 use Rattle.tclrules.specs.Plans.{Completion, Normal, Raised, Returned, Broken, Continued}

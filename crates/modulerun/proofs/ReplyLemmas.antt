@@ -9,7 +9,7 @@ use Rattle.envvars.specs.Names.{is_variable_name}
 use Rattle.envvars.specs.Environment.{Environment}
 use Rattle.envvars.specs.Reasons.{bad_variable, inconsistent}
 use Rattle.tclrules.specs.Oracle as oracle
-use Rattle.tclrules.specs.Oracle.{Oracle, OracleAnswer, Trace, NewRecord, trace_after}
+use Rattle.tclrules.specs.Oracle.{Oracle, OracleAnswer, Trace, NewRecord}
 use Rattle.tclrules.specs.Hosts.{Answers}
 use Rattle.tclrules.specs.declared.host.HostAnswer.{HostAnswer}
 use Rattle.tclrules.specs.declared.host.HostAnswer.TheVariants.{Done, Unknown, LeftOut, Refused, OutOfMemory}

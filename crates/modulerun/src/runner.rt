@@ -132,11 +132,7 @@ impl<'a, V: Vars> Runner<'a, V> {
     }
 
     /// Answers the words of a question, which the file has then asked.
-    fn answer_question(
-        &mut self,
-        words: &[String],
-        text: Result<String, AllocError>,
-    ) -> HostAnswer
+    fn answer_question(&mut self, words: &[String], text: Result<String, AllocError>) -> HostAnswer
         ensures replies { (t : Text) → IfOk text (λ s. string_bytes s ≡ t) → Replies (map string_bytes words.now)
             (question_answer t) result (trace_of self.old) (trace_of self.new) }
         ensures same { context_of self.new ≡ context_of self.old }

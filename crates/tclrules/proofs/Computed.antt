@@ -1,5 +1,5 @@
 -- The worked examples, by computation.
-use Rattle.std.proofs.Common.{◌≡◌, ℕ, true, ◌∷◌, Option, Some, None, refl}
+use Rattle.std.proofs.Common.{◌≡◌, ℕ, ◌∷◌, Option, Some, None, refl}
 use Rattle.std.specs.Prelude.{[], codes}
 use Rattle.std.specs.Str.{chars}
 use Rattle.std.specs.Fmt.{digits}

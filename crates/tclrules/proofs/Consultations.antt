@@ -113,9 +113,15 @@ noted (counts g d) all rest h = noted d all rest h
 noted (meets_limit g) all rest h = tt
 noted {oracle = oracle} {w' = w'} (consults {words = words} {w = w} d) all rest h =
     let a = oracle.command w.trace.records words in
-    let m = asks_more d in
-    (λ is. (w.trace.asked, m.0 ++ rest, in_between w.trace.asked m.0 rest (OfCommand words a) all w'.trace.asked
-        (m.1 ∙ ap (λ b. (if b then w.trace.asked ++ OfCommand words a ∷ [] else w.trace.asked) ++ m.0) is) h), noted d all rest h)
+    let m = asks_more d in (
+      λ is. (
+        w.trace.asked,
+        m.0 ++ rest,
+        in_between w.trace.asked m.0 rest (OfCommand words a) all w'.trace.asked
+            (m.1 ∙ ap (λ b. (if b then w.trace.asked ++ OfCommand words a ∷ [] else w.trace.asked) ++ m.0) is) h,
+      ),
+      noted d all rest h,
+    )
 noted {oracle = oracle} {w' = w'} (reads {name = name} {w = w} d) all rest h =
     let m = asks_more d in
     (λ is. (w.trace.asked, m.0 ++ rest, in_between w.trace.asked m.0 rest (OfVariable name (oracle.variable w.trace.records name)) all w'.trace.asked m.1 h), noted d all rest h)
@@ -237,9 +243,9 @@ repeats second last h r (halts d) n b u = repeats second last h r d n b u
 repeats second last h r (lacks_memory asked g) n b u = tt
 
 -- records grow by answers
-pub then : {oracle : Oracle} {rs qs ps : List CommandWords} → Grows oracle rs qs → Grows oracle qs ps → Grows oracle rs ps
-then none g = g
-then (more words f) g = more words (then f g)
+pub grow_on : {oracle : Oracle} {rs qs ps : List CommandWords} → Grows oracle rs qs → Grows oracle qs ps → Grows oracle rs ps
+grow_on none g = g
+grow_on (more words f) g = more words (grow_on f g)
 
 pub grown : {J R : Type 0} {may_lack_memory : Bool} {oracle : Oracle} {most : ℕ} {rule : J → Plan J R} {p : Plan J R}
     {w : World} {o : EvaluationOutcome R} {w' : World} → Eval may_lack_memory oracle most rule p w o w'
@@ -249,7 +255,7 @@ grown (counts g d) = grown d
 grown (meets_limit g) = none
 grown (consults {words = words} d) = more words (grown d)
 grown (reads d) = grown d
-grown (runs d c) = then (grown d) (grown c)
+grown (runs d c) = grow_on (grown d) (grown c)
 grown (halts d) = grown d
 grown (lacks_memory a g) = none
 

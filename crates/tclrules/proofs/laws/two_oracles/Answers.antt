@@ -33,6 +33,6 @@ returns-clause-asked c = λ s second o o2 w w2 d r n h d2.
     let d3 = same_plan s second o2 w2 h.0 d2 in
     ⊎_elim (λ i. inl (Laws.one_outcome d3 i)) (λ i. inr (i.0, (Laws.one_outcome d3 i.2).0))
     (same_or_refused second d (repeats second w.trace h r d
-        (noted d w.trace.asked [] (sym (append-nil w.trace.asked)))
-        (beginnings d w.trace.records [] (sym (append-nil w.trace.records)))
-        (unrefused d n)))
+    (noted d w.trace.asked [] (sym (append-nil w.trace.asked)))
+    (beginnings d w.trace.records [] (sym (append-nil w.trace.records)))
+    (unrefused d n)))

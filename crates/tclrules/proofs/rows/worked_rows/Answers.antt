@@ -1,4 +1,4 @@
-use Rattle.std.proofs.Common.{[], ◌∷◌, true, None}
+use Rattle.std.proofs.Common.{[], ◌∷◌, None}
 use Rattle.std.specs.Prelude.{codes}
 use Rattle.tclchars.specs.declared.fault.TextFault.TheVariants as text
 use Rattle.tclrules.specs.Derivation.{BadText, TooManyCommands, TooDeep, ValueTooLong, ByHost}
