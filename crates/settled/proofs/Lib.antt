@@ -1,0 +1,3 @@
+mod Noted
+mod Rests
+mod Settling

@@ -1,0 +1,108 @@
+-- On what the answers to a modulefile's questions rest (own; getenv, module-info and is-loaded of modulefile(5)).
+use Rattle.std.specs.Prelude.{◌≡◌, Bool, true, false, not, ◌&&◌, List, [], ◌∷◌, codes, bytes_eq, filter_map, Option}
+use Rattle.std.specs.Prelude.{Some, None, Ok}
+use Rattle.std.specs.List.{list_any}
+use Rattle.envvars.specs.Texts.{Text, has}
+use Rattle.envvars.specs.Environment.{Environment, lookup}
+use Rattle.envstate.specs.Roles.{VariableRole, role_of}
+use Rattle.envstate.specs.Roles.VariableRole.{Variable, Counters, Stack, LoadedNames, LoadedFiles, LoadedConflicts}
+use Rattle.envstate.specs.Roles.VariableRole.{LoadedPrereqs, Other}
+use Rattle.tclrules.specs.Oracle.{Question, OfCommand, OfVariable}
+use Rattle.modulefile.specs.Records.{Record, variable_of}
+use Rattle.modulefile.specs.Effects.{Mode, load, unload, display, whatis}
+use Rattle.modulefile.specs.Calls.{InfoField, mode, shell, shell_type, CallForm, getenv, info, info_test, call_of}
+use Rattle.modulefile.specs.Answers.{FileContext}
+
+-- the variables that shells change by themselves
+unfoldable pub shell_variables : List Text
+shell_variables =
+    codes "PWD" ∷ codes "OLDPWD" ∷ codes "SHLVL" ∷ codes "_" ∷ codes "RANDOM" ∷ codes "SRANDOM" ∷ codes "SECONDS"
+    ∷ codes "EPOCHSECONDS" ∷ codes "EPOCHREALTIME" ∷ codes "LINENO" ∷ codes "LINES" ∷ codes "COLUMNS" ∷ codes "PPID"
+    ∷ codes "BASHPID" ∷ codes "PIPESTATUS" ∷ codes "OPTIND" ∷ codes "OPTARG" ∷ codes "REPLY" ∷ codes "HISTCMD" ∷ []
+
+-- the tool keeps its own state in a variable of this role
+abbrev pub is_of_tool : VariableRole → Bool
+is_of_tool (Variable name) = false
+is_of_tool (Counters name) = true
+is_of_tool (Stack name) = true
+is_of_tool LoadedNames = true
+is_of_tool LoadedFiles = true
+is_of_tool LoadedConflicts = true
+is_of_tool LoadedPrereqs = true
+is_of_tool Other = false
+
+-- it is this variable
+abbrev pub is_variable : Text → Option Text → Bool
+is_variable v None = false
+is_variable v (Some name) = bytes_eq v name
+
+-- a variable rests where it is none of the tool's, none that shells change by themselves, and none that the records name
+abbrev pub is_resting : List Record → Text → Bool
+is_resting records v =
+    not (is_of_tool (role_of v)) && (not (has v shell_variables)
+    && not (list_any (λ r. is_variable v (variable_of r)) records))
+
+-- A question of these words rests on the variable that it reads, or on the way of the evaluation: the mode, the half of
+-- a switch, the shell. What is loaded, and the name as it was typed, rest on nothing.
+abbrev pub call_rests : List Record → CallForm → Bool
+call_rests records (Ok (getenv var default)) = is_resting records var
+call_rests records (Ok (info field)) = true
+call_rests records (Ok (info_test field word)) = true
+call_rests records call = false
+
+abbrev pub rests : List Record → Question → Bool
+rests records (OfCommand words answer) = call_rests records (call_of words)
+rests records (OfVariable name value) = is_resting records name
+
+-- the variable that a question reads
+abbrev pub read_by_call : CallForm → Option Text
+read_by_call (Ok (getenv var default)) = Some var
+read_by_call call = None
+
+abbrev pub read_by : Question → Option Text
+read_by (OfCommand words answer) = read_by_call (call_of words)
+read_by (OfVariable name value) = Some name
+
+-- the variables that questions read
+abbrev pub variables_read : List Question → List Text
+variables_read asked = filter_map read_by asked
+
+-- what a question asks of the way
+abbrev pub field_of_call : CallForm → Option InfoField
+field_of_call (Ok (info field)) = Some field
+field_of_call (Ok (info_test field word)) = Some field
+field_of_call call = None
+
+abbrev pub field_of : Question → Option InfoField
+field_of (OfCommand words answer) = field_of_call (call_of words)
+field_of (OfVariable name value) = None
+
+abbrev pub is_mode : Option InfoField → Bool
+is_mode None = false
+is_mode (Some mode) = true
+is_mode (Some shell) = false
+is_mode (Some shell_type) = false
+
+abbrev pub is_shell : Option InfoField → Bool
+is_shell None = false
+is_shell (Some mode) = false
+is_shell (Some shell) = true
+is_shell (Some shell_type) = true
+
+-- The second context is of the same way as the first, as far as the questions ask: where they ask for the mode, of the
+-- same mode and the same half of a switch, and where they ask for the shell, of the same shell.
+pub record IsSameWay (asked : List Question) (c d : FileContext) : Type 0 where
+  pub mode : list_any (λ q. is_mode (field_of q)) asked ≡ true → d.mode ≡ c.mode
+  pub in_switch : list_any (λ q. is_mode (field_of q)) asked ≡ true → d.in_switch ≡ c.in_switch
+  pub shell : list_any (λ q. is_shell (field_of q)) asked ≡ true → d.shell ≡ c.shell
+
+-- the variables have the same values in both environments
+abbrev pub AreAlike : List Text → Environment → Environment → Type 0
+AreAlike names e f = (v : Text) → has v names ≡ true → lookup f v ≡ lookup e v
+
+-- a mode that changes the environment
+abbrev pub is_changing : Mode → Bool
+is_changing load = true
+is_changing unload = true
+is_changing display = false
+is_changing whatis = false

@@ -1,0 +1,5 @@
+//! On what the answers to a modulefile's questions rest, and that a file whose questions all rest does the same again.
+//! Touches nothing: these are definitions and a law, without code.
+#![tactic(auto)]
+
+pub mod laws;
