@@ -1,4 +1,4 @@
--- On what the answers to a modulefile's questions rest (own; getenv, module-info and is-loaded of modulefile(5)).
+-- What the answers to a modulefile's questions rest on (own; getenv, module-info and is-loaded of modulefile(5)).
 use Rattle.std.specs.Prelude.{◌≡◌, Bool, true, false, not, ◌&&◌, List, [], ◌∷◌, codes, bytes_eq, filter_map, Option}
 use Rattle.std.specs.Prelude.{Some, None, Ok}
 use Rattle.std.specs.List.{list_any}

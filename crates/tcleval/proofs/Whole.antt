@@ -58,7 +58,7 @@ evaluated l script globals oracle oracle' trace trace' s used (Ok t) (Err f) led
   used,
   refl,
   led.by (Halted OutOfMemory) (record { used = used; trace = trace' })
-      (lacks_memory false refl),
+      (lacks_memory trace'.asked refl),
 )
 evaluated l script globals oracle oracle' trace trace' s used (Err failure) (Ok end) led a = absurd a
 evaluated l script globals oracle oracle' trace trace' s used (Err failure) (Err f) led a = (failure_outcome failure s, used, a, fed script f a (led.by _ _ (rw (cut_ends failure s) ends)))

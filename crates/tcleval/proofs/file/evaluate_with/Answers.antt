@@ -1,4 +1,4 @@
-use Rattle.std.proofs.Common.{map, refl, false}
+use Rattle.std.proofs.Common.{map, refl}
 use Rattle.std.proofs.lemmas.Result.{err_from_is_err_and}
 use Rattle.tclrules.specs.Derivation.{OutOfMemory, Halted, lacks_memory}
 use Rattle.tclrules.specs.Rules.{file_ended}
@@ -11,7 +11,7 @@ use Rattle.tcleval.proofs.file.evaluate_with.Goals as goal
 pub returns-in_err-variables-clause-evaluates : goal.returns-in_err-variables-clause-evaluates
 returns-in_err-variables-clause-evaluates g c =
     let p = err_from_is_err_and c.from_residual.result c.from_residual.ensures.1 in
-    rw (p.1, p.2) (Halted OutOfMemory, 0, refl, lacks_memory false refl)
+    rw (p.1, p.2) (Halted OutOfMemory, 0, refl, lacks_memory (g.H.Host.trace c.args.host.now).asked refl)
 
 pub returns-in_err-variables-clause-same : goal.returns-in_err-variables-clause-same
 returns-in_err-variables-clause-same g c = refl
