@@ -1,5 +1,5 @@
 -- The questions of a file, as the program holds them (own).
-use Rattle.std.specs.Prelude.{List, map, string_bytes}
+use Rattle.std.specs.Prelude.{◌≡◌, List, ◌∷◌, map, string_bytes}
 use Rattle.std.specs.Option.{option_map}
 use Rattle.tclrules.specs.Oracle as oracle
 use Rattle.tclrules.specs.Oracle.{OfCommand, OfVariable}
@@ -13,3 +13,7 @@ question_view (Variable name value) = OfVariable (string_bytes name) (option_map
 
 abbrev pub questions_in : List Question → List oracle.Question
 questions_in asked = map question_view asked
+
+-- it is the first of the list
+abbrev pub IsFirst : Question → List Question → Type 0
+IsFirst first asked = (later : List Question) × (asked ≡ first ∷ later)

@@ -1,8 +1,8 @@
 //! The run of a modulefile over an environment.
-ghost use Rattle.std.specs.Prelude.{◌≡◌, [], head, Some, IfOk, IfErr, IfSome};
+ghost use Rattle.std.specs.Prelude.{◌≡◌, [], Some, IfOk, IfErr, IfSome};
 ghost use Rattle.tclrules.specs.Promise.{texts_of};
 ghost use Rattle.modulefile.specs.Files.{any_question, globals_of, refused_by};
-ghost use Rattle.modulerun.specs.Questions.{questions_in};
+ghost use Rattle.modulerun.specs.Questions.{questions_in, IsFirst};
 ghost use Rattle.modulerun.specs.Hosting.{refusal_view};
 ghost use Rattle.modulerun.specs.Running.{context_view, eval_reason, file_reason_of, RunsTo, Drafts};
 
@@ -37,7 +37,7 @@ impl FileRun {
 
 /// The records of a module whose evaluation asked nothing. Else they may differ elsewhere: this is its first question.
 pub fn records_unless_asked(ran: FileRun) -> Result<Vec<Record>, Question>
-    ensures asked { IfErr result (λ first. head ran.asked.items ≡ Some first) }
+    ensures asked { IfErr result (λ first. IsFirst first ran.asked.items) }
     ensures unasked { IfOk result (λ records. (ran.asked.items ≡ []) × (records ≡ ran.records)) }
 {
     match ran.asked.into_iter().next() {

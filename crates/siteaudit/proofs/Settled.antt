@@ -1,6 +1,6 @@
 -- How modules stand by what each shows by itself, and by what is answered of clashes.
 use Rattle.std.proofs.Common.{◌≡◌, inl, inr, Bool, true, false, cond, not, ◌&&◌, List, [], ◌∷◌, ◌++◌, map, filter, find}
-use Rattle.std.proofs.Common.{head, Option, Some, None, Result, Ok, Err, refl, ap, sym, ◌∙◌, subst}
+use Rattle.std.proofs.Common.{Option, Some, None, Result, Ok, Err, refl, ap, sym, ◌∙◌, subst}
 use Rattle.std.specs.Prelude.{filter_map, flat_map}
 use Rattle.std.specs.List.{list_all, cons_option, AllByRecursion}
 use Rattle.std.proofs.lemmas.Bool.{false≢true, and_parts, and_from}
@@ -11,7 +11,7 @@ use Rattle.modulefile.specs.Files.{Ran, any_question}
 use Rattle.modulefile.specs.RecordViews.{record_view}
 use Rattle.modulerun.specs.declared.question.Question.{Question}
 use Rattle.modulerun.specs.declared.run.FileRun as code
-use Rattle.modulerun.specs.Questions.{question_view, questions_in}
+use Rattle.modulerun.specs.Questions.{question_view, questions_in, IsFirst}
 use Rattle.modulerun.specs.Running.{ran_view}
 use Rattle.modulefile.specs.Records.{Record}
 use Rattle.modulefile.specs.Moves.{Module}
@@ -82,18 +82,13 @@ plainly : (m : SiteModule) (rs : List Record) → list_all is_reversible rs ≡ 
 plainly m rs t = rw t refl
 
 -- what was asked first was asked
-head_asks : (qs : List Question) (q : Question) → head qs ≡ Some q → any_question (questions_in qs) ≡ true
-head_asks [] q h = absurd (cc)
-head_asks (p ∷ qs) q h = refl
-
-head_viewed : (qs : List Question) (q : Question) → head qs ≡ Some q → head (questions_in qs) ≡ Some (question_view q)
-head_viewed [] q h = absurd (cc)
-head_viewed (p ∷ qs) q h = let e : p ≡ q = (let s : Some p ≡ Some q = h in cc) in ap (λ (x : Question). Some (question_view x)) e
+first_asks : (qs : List Question) (q : Question) → IsFirst q qs → any_question (questions_in qs) ≡ true
+first_asks qs q (later, e) = ap (λ (xs : List Question). any_question (questions_in xs)) e
 
 step_by : (m : SiteModule) (qs : List Question) (rs : List Record) (finding : ModuleFinding) → IsFindingOf qs rs finding → (rest : List Module)
     → steps_of m finding ++ filter is_in_step rest ≡ filter is_in_step (cons_option (plain_with (any_question (questions_in qs)) m rs) rest)
 step_by m qs rs (Stands Certified) f rest = absurd f
-step_by m qs rs (Stands (Asks first)) f rest = rw (head_asks qs first f) refl
+step_by m qs rs (Stands (Asks first)) f rest = rw (first_asks qs first f) refl
 step_by m qs rs (Stands (OneWay first)) f rest = let n : list_all is_reversible rs ≡ false = not_all is_reversible rs (record_view first) f.1 in rw (f.0, n) refl
 step_by m qs rs (Stands (OutOfStep v x y)) f rest =
     rw f.0 (left_step (with_records m rs) rest (no_step m rs _ _ _ f.2) ∙ ap (λ (o : Option Module). filter is_in_step (cons_option o rest)) (sym (plainly m rs f.1)))
@@ -175,7 +170,7 @@ stands_ran : (site : Site) (ms : List Module) (m : SiteModule) (ran : Ran) (qs :
     → IsOfSite site m
     → ran.asked ≡ questions_in qs → IsFindingOf qs ran.records finding → AreAnswers (in_step_of ms) (steps_of m finding ++ more) answers → StandsAs site ms m (standing_with (standing_of finding) answers)
 stands_ran site ms m ran qs (Stands Certified) answers more j e o same f h = absurd f
-stands_ran site ms m ran qs (Stands (Asks first)) answers more j e o same f h = (ran, e, ap head same ∙ head_viewed qs first f)
+stands_ran site ms m ran qs (Stands (Asks first)) answers more j e o same f h = (ran, e, (questions_in f.0, same ∙ ap questions_in f.1))
 stands_ran site ms m ran qs (Stands (OneWay first)) answers more j e o same f h =
     let n : list_all is_reversible ran.records ≡ false = not_all is_reversible ran.records (record_view first) f.1 in
     let none : ran.asked ≡ [] = same ∙ ap questions_in f.0 in

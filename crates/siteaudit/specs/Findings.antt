@@ -1,12 +1,13 @@
 -- What each module of a site shows by itself, and what the answers about clashes make of it: for this crate's own
 -- contracts alone.
-use Rattle.std.specs.Prelude.{◌≡◌, true, false, List, [], ◌∷◌, ◌++◌, map, flat_map, head, Option, Some, None, Result}
+use Rattle.std.specs.Prelude.{◌≡◌, true, false, List, [], ◌∷◌, ◌++◌, map, flat_map, Option, Some, None, Result}
 use Rattle.std.specs.Prelude.{Ok, Err, string_bytes}
 use Rattle.std.specs.List.{list_all, AllByRecursion}
 use Rattle.envvars.specs.Fields.{colon}
 use Rattle.modulefile.specs.RecordViews.{record_view}
 use Rattle.modulerun.specs.declared.question.Question.{Question}
 use Rattle.modulerun.specs.declared.run.FileRun.{FileRun}
+use Rattle.modulerun.specs.Questions.{IsFirst}
 use Rattle.modulefile.specs.Records.{Record}
 use Rattle.modulefile.specs.Moves.{Module}
 use Rattle.reversal.specs.VariableUses.{Pathed, is_reversible, UsedVariable}
@@ -41,7 +42,7 @@ pub record AreUnlike (ps : List UsedVariable) (unlike : UnlikeUses) : Type 0 whe
 -- By what its evaluation asked, and by its records, the module stands so, whatever the other modules do.
 abbrev pub IsDecided : List Question → List Record → Standing → Type 0
 IsDecided asked rs Certified = ⊥
-IsDecided asked rs (Asks first) = head asked ≡ Some first
+IsDecided asked rs (Asks first) = IsFirst first asked
 IsDecided asked rs (OneWay first) = (asked ≡ []) × IsFirstOneWay rs (record_view first)
 IsDecided asked rs (OutOfStep variable one other) =
     (asked ≡ []) × (list_all is_reversible rs ≡ true)

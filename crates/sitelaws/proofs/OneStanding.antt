@@ -1,5 +1,5 @@
 -- A module of a site stands in one way alone.
-use Rattle.std.proofs.Common.{◌≡◌, ℕ, ◌==◌, inl, inr, true, false, List, [], ◌∷◌, head, Option, Some, None, Result, Ok, Err}
+use Rattle.std.proofs.Common.{◌≡◌, ℕ, ◌==◌, inl, inr, true, false, List, [], ◌∷◌, Option, Some, None, Result, Ok, Err}
 use Rattle.std.proofs.Common.{refl, ap, sym, ◌∙◌, subst}
 use Rattle.std.proofs.lemmas.Bool.{false≢true, eq-eqb}
 use Rattle.envvars.specs.Texts.{Text}
@@ -55,12 +55,8 @@ said (Clashes v x y n) = Some plain
 said (Refused reason) = None
 
 -- what asked something first has asked
-asked_first : (ran : Ran) (q : Question) → head ran.asked ≡ Some q → verdict_of ran ≡ asked
-asked_first ran q h = go ran.asked refl
-  where
-    go : (qs : List Question) → ran.asked ≡ qs → verdict_of ran ≡ asked
-    go [] e = absurd (let n : None ≡ Some q = sym (ap head e) ∙ h in cc)
-    go (p ∷ qs) e = rw e refl
+asked_first : (ran : Ran) (q : Question) (later : List Question) → ran.asked ≡ q ∷ later → verdict_of ran ≡ asked
+asked_first ran q later e = rw e refl
 
 abbrev Says : Site → SiteModule → Standing → Type 0
 Says site m s = (o : Result Ran RequestReason) × EvaluatesTo site m o × (seen o ≡ said s)
@@ -70,7 +66,7 @@ of_plain site m rs p = (Ok p.ran, p.evaluated, ap (λ (v : Verdict). Some v) p.p
 
 says : (site : Site) (ms : List Module) (m : SiteModule) (s : Standing) → HasStanding site ms m s → Says site m s
 says site ms m Certified h = of_plain site m h.0 h.1
-says site ms m (Asks q) h = (Ok h.0, h.1, ap (λ (v : Verdict). Some v) (asked_first h.0 q h.2))
+says site ms m (Asks q) h = (Ok h.0, h.1, ap (λ (v : Verdict). Some v) (asked_first h.0 q h.2 h.3))
 says site ms m (OneWay r) h = (Ok h.0, h.1, ap (λ (v : Verdict). Some v) h.2)
 says site ms m (OutOfStep v x y) h = of_plain site m h.0 h.1
 says site ms m (Clashes v x y n) h = of_plain site m h.0 h.1

@@ -1,5 +1,5 @@
 -- Each module of a site has a standing: the tests of the certificate find it.
-use Rattle.std.proofs.Common.{◌≡◌, ◌⊎◌, inl, inr, Bool, true, false, cond, not, ◌&&◌, ◌||◌, List, [], ◌∷◌, find, head, Some}
+use Rattle.std.proofs.Common.{◌≡◌, ◌⊎◌, inl, inr, Bool, true, false, cond, not, ◌&&◌, ◌||◌, List, [], ◌∷◌, find, Some}
 use Rattle.std.proofs.Common.{Result, Ok, Err, refl, ap, sym, ◌∙◌, subst}
 use Rattle.std.specs.Prelude.{bytes_eq}
 use Rattle.std.specs.List.{list_all, list_any}
@@ -132,7 +132,7 @@ accepted_stands site ms m ran all of_site h =
     by_first ran.asked refl
   where
     by_first : (qs : List Question) → ran.asked ≡ qs → Stands site ms m
-    by_first (q ∷ qs) e = (Asks q, (ran, h, ap head e))
+    by_first (q ∷ qs) e = (Asks q, (ran, h, (qs, e)))
     by_first [] e = by_test (list_all is_reversible ran.records) _
         (λ t. plain_stands site ms m ran.records all of_site (record { ran = ran; evaluated = h; plain = rw (e, t) refl; records = refl }) t)
         (λ g. let r = first_that_fails is_reversible ran.records g in (OneWay r.0, (ran, h, rw (e, g) refl, r.1)))

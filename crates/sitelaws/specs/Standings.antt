@@ -1,5 +1,5 @@
 -- How each module of a site stands (own): whether it is certified, and else why it is not.
-use Rattle.std.specs.Prelude.{◌≡◌, true, false, not, List, ◌∷◌, codes, find, head, Some, Ok, Err}
+use Rattle.std.specs.Prelude.{◌≡◌, true, false, not, List, ◌∷◌, codes, find, Some, Ok, Err}
 use Rattle.envvars.specs.Texts.{Text}
 use Rattle.envvars.specs.Fields.{colon}
 use Rattle.tclrules.specs.Oracle.{Question}
@@ -64,7 +64,9 @@ IsPlainAnd site m P = (rs : List Record) × HasPlainRecords site m rs × P (with
 -- of step, or is in step and clashes, or is certified.
 abbrev pub HasStanding : Site → List Module → SiteModule → Standing → Type 0
 HasStanding site ms m Certified = IsPlainAnd site m (λ n. IsCertified ms n)
-HasStanding site ms m (Asks first) = (ran : Ran) × EvaluatesTo site m (Ok ran) × (head ran.asked ≡ Some first)
+HasStanding site ms m (Asks first) =
+    (ran : Ran) × EvaluatesTo site m (Ok ran)
+    × ((later : List Question) × (ran.asked ≡ first ∷ later))
 HasStanding site ms m (OneWay first) =
     (ran : Ran) × EvaluatesTo site m (Ok ran) × (verdict_of ran ≡ one_way) × IsFirstOneWay ran.records first
 HasStanding site ms m (OutOfStep variable one other) = IsPlainAnd site m (λ n. IsUsedTwice n.records variable one other)

@@ -12,7 +12,7 @@ pub returns-in_ok-version-in-Ok : goal.returns-in_ok-version-in-Ok
 returns-in_ok-version-in-Ok c =
     let g : texts_of c.in_ok-globals.globals.items ≡ globals_of c.args.path.now = search rules in
     let v : Evaluates c.args.self.now.limits c.args.text.now (texts_of c.in_ok-globals.globals.items) default_oracle
-    (record { records = map texts_of_words c.new.result.items; messages = []; asked = map unset_read c.new-asked.result.items; refused = None })
+    (record { records = map texts_of_words c.new.result.items; messages = []; asked = map unset_read c.new-2.result.items; refused = None })
     (Ok c.in-Ok.evaluation) (record {
       records = map texts_of_words c.evaluate.new.host.commands.items;
       messages =
@@ -21,7 +21,7 @@ returns-in_ok-version-in-Ok c =
       refused = option_map unnamed c.evaluate.new.host.refused;
     }) =
     c.in-Ok.ensures.evaluates in
-    let d = ending_has_result c.args.self.now.limits c.args.path.now c.args.text.now c.in-Ok.evaluation _ (rw (g, c.new.ensures.items) at v) in
+    let d = ending_has_result c.args.self.now.limits c.args.path.now c.args.text.now c.in-Ok.evaluation _ (rw (g, c.new.ensures.items, c.new-2.ensures.items) at v) in
     let e : option_map string_bytes c.in_ok-version-in-Ok.version ≡ lookup (texts_of c.in-Ok.evaluation.globals.items) (codes "ModulesVersion") = search rules in
     subst (λ v. HasResult c.args.self.now.limits c.args.path.now c.args.text.now (Some (record { commands = map texts_of_words c.evaluate.new.host.commands.items; version = v }))) (sym e) d
 
@@ -30,7 +30,7 @@ returns-else-is_out_of_memory c =
     let g : texts_of c.in_ok-globals.globals.items ≡ globals_of c.args.path.now = search rules in
     let m : is_out_of_memory c.in-Err.fault ≡ false = search rules in
     let v : Evaluates c.args.self.now.limits c.args.text.now (texts_of c.in_ok-globals.globals.items) default_oracle
-    (record { records = map texts_of_words c.new.result.items; messages = []; asked = map unset_read c.new-asked.result.items; refused = None })
+    (record { records = map texts_of_words c.new.result.items; messages = []; asked = map unset_read c.new-2.result.items; refused = None })
     (Err c.in-Err.fault) (record {
       records = map texts_of_words c.evaluate.new.host.commands.items;
       messages = [];
@@ -38,4 +38,4 @@ returns-else-is_out_of_memory c =
       refused = option_map unnamed c.evaluate.new.host.refused;
     }) =
     c.in-Err.ensures.evaluates in
-    fault_has_result c.args.self.now.limits c.args.path.now c.args.text.now c.in-Err.fault _ m (rw (g, c.new.ensures.items) at v)
+    fault_has_result c.args.self.now.limits c.args.path.now c.args.text.now c.in-Err.fault _ m (rw (g, c.new.ensures.items, c.new-2.ensures.items) at v)

@@ -1,11 +1,24 @@
-use Rattle.std.proofs.Common.{map, string_bytes, refl, ap, sym, ◌∙◌}
+use Rattle.std.proofs.Common.{[], map, string_bytes, false, Ok, refl, ap, sym, ◌∙◌}
 use Rattle.modulefile.specs.Calls as calls
 use Rattle.modulefile.specs.CallViews.{call_view, field_view}
-use Rattle.modulefile.specs.Answers.{question_answer, truth}
+use Rattle.tclrules.specs.Oracle.{Message, Done}
+use Rattle.modulefile.specs.Answers.{command_answer, question_answer, truth}
 use Rattle.modulerun.specs.Journals.{environment_so_far}
-use Rattle.modulerun.specs.Hosting.{context_with, trace_with}
-use Rattle.modulerun.proofs.ReplyLemmas.{asked_reply}
+use Rattle.modulerun.specs.Hosting.{context_with, message_of, trace_with}
+use Rattle.modulerun.proofs.ReplyLemmas.{asked_reply, by_answer}
 use Rattle.modulerun.proofs.runner.Runner.answer.Goals as goal
+
+pub returns-in-Puts-clause-replies : goal.returns-in-Puts-clause-replies
+returns-in-Puts-clause-replies g c =
+    by_answer (map string_bytes c.args.words.now) _
+    (Done [] (Message (message_of c.in-Puts.text.now c.in-Puts.newline)) false) c.add_message.result
+    (trace_with c.args.self.now.journal c.args.self.now.messages c.args.self.now.asked c.args.self.now.refusal)
+    (trace_with c.add_message.new.self.journal c.add_message.new.self.messages c.add_message.new.self.asked
+    c.add_message.new.self.refusal)
+    (ap (command_answer (context_with c.args.self.now.journal c.args.self.now.context)
+    (environment_so_far c.args.self.now.journal) (map string_bytes c.args.words.now))
+    (c.requires ∙ ap (λ x. Ok (call_view x)) c.in-Puts.is))
+    (c.add_message.ensures.replies (map string_bytes c.args.words.now))
 
 pub returns-in-TypedName-clause-replies : goal.returns-in-TypedName-clause-replies
 returns-in-TypedName-clause-replies g c =
