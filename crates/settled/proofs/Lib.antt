@@ -1,3 +1,4 @@
 mod Noted
-mod Rests
+pub mod Rests
+pub mod ReadVariables
 mod Settling

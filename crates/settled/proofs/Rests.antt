@@ -27,7 +27,7 @@ use Rattle.reversal.proofs.Frames.{unloads, touched, effect_edits, is_named, kep
 use Rattle.settled.specs.Resting.{is_of_tool, is_variable, is_resting, shell_variables}
 
 -- a variable that is none of the tool's is one that modulefiles may edit, or none that the tool knows
-abbrev IsOfUser : Text → Type 0
+abbrev pub IsOfUser : Text → Type 0
 IsOfUser v = (is_editable v ≡ true) ⊎ (role_of v ≡ Other)
 
 of_user : (v : Text) (r : VariableRole) → role_of v ≡ r → is_of_tool r ≡ false → IsOfUser v
@@ -72,7 +72,7 @@ one_stays display owner r old new v h u n = ap (λ (e : Environment). lookup e v
 one_stays whatis owner r old new v h u n = ap (λ (e : Environment). lookup e v) (same_accepted old new (effect_edits whatis owner r old new h).1)
 
 -- so do variables that none of the records names
-abbrev is_free : Text → List Record → Bool
+abbrev pub is_free : Text → List Record → Bool
 is_free v rs = list_any (λ r. is_variable v (variable_of r)) rs
 
 same_name : (v : Text) (o : Option Text) → is_variable v o ≡ is_named v o
@@ -107,7 +107,7 @@ kept_outcome : (o : Result Environment CallReason) → (o >>= (λ e. Ok e)) ≡ 
 kept_outcome (Ok e) = refl
 kept_outcome (Err reason) = refl
 
-resting_parts : (records : List Record) (v : Text) → is_resting records v ≡ true → IsOfUser v × (is_free v records ≡ false)
+pub resting_parts : (records : List Record) (v : Text) → is_resting records v ≡ true → IsOfUser v × (is_free v records ≡ false)
 resting_parts records v h =
     let p = and_parts (not (is_of_tool (role_of v))) (not (has v shell_variables) && not (is_free v records)) h in
     let q = and_parts (not (has v shell_variables)) (not (is_free v records)) p.1 in

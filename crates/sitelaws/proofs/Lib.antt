@@ -6,6 +6,8 @@ mod OneStanding
 mod Forbidden
 mod Unloaded
 mod Returned
+mod SettledRecords
+mod SettledReturned
 mod Editable
 mod ChangesAgree
 mod Walked

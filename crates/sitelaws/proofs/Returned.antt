@@ -29,7 +29,7 @@ use Rattle.sitelaws.specs.Sites.{Site, over_site, file_of, ArePlainModules}
 use Rattle.sitelaws.specs.Admitted.{IsAdmitted}
 use Rattle.sitelaws.specs.Laws.{PlainRecordsAreAll, IsOneOf, LoadsAreOf, SiteSessionsReturn, AuditsHold}
 use Rattle.sitelaws.specs.Laws.{SiteCommandsReturn}
-use Rattle.sitelaws.proofs.Admissions.{IsFrom, TracedReach, traced, any_shell, session_traced}
+use Rattle.sitelaws.proofs.Admissions.{IsFrom, as_from, TracedReach, traced, any_shell, session_traced}
 use Rattle.sitelaws.proofs.Forbidden.{no_conflict}
 use Rattle.requests.proofs.Undone.{same_list}
 use Rattle.sitelaws.proofs.Unloaded.{of_live}
@@ -45,7 +45,7 @@ certified_records : PlainRecordsAreAll → (site : Site) (ms : List Module) (m c
 certified_records all site ms m c plain certain name path (ran, left, is) =
     is ∙ all site (file_of c) c.records ran ((plain c).0 certain.listed).records (moved_left (over_site site) m.name c.name m.path c.path ran name path left)
 
-same_parts : (m c : Module) → c.name ≡ m.name → c.path ≡ m.path → c.records ≡ m.records → c ≡ m
+pub same_parts : (m c : Module) → c.name ≡ m.name → c.path ≡ m.path → c.records ≡ m.records → c ≡ m
 same_parts m c name path records = λ i. record { name = name i; path = path i; records = records i }
 
 -- a loaded module is certified, and the start agrees with what it uses
@@ -58,7 +58,7 @@ loaded_certified exact all site ms start m plain (c, among, name, path, agrees) 
 
 -- conflicts
 
-none_in_conflict : EntriesHaveConflicts → (site : Site) (start old : Environment) (live : List Module) (m : Module)
+pub none_in_conflict : EntriesHaveConflicts → (site : Site) (start old : Environment) (live : List Module) (m : Module)
     (first : List Entry) → loaded_in start ≡ Some first → IsStartWith (uses_by live) start live old
     → IsAdmitted (Loads m) old → (n : Module) → IsAmong n live → in_conflict m n ≡ false
 none_in_conflict conflicts site start old live m first begin over (xs, read, none) =
@@ -71,7 +71,7 @@ named_at : (name : Text) (m l : Module) (live : List Module) (b : Bool) → cond
 named_at name m l live true h k = inl (let q : Some m ≡ Some l = h in cc)
 named_at name m l live false h k = inr (k h)
 
-named_among : (name : Text) (l : Module) (live : List Module) → live_named name live ≡ Some l → IsAmong l live
+pub named_among : (name : Text) (l : Module) (live : List Module) → live_named name live ≡ Some l → IsAmong l live
 named_among name l [] h = absurd (cc)
 named_among name l (m ∷ live) h = named_at name m l live (bytes_eq name m.name) h (named_among name l live)
 
@@ -89,7 +89,7 @@ undone all site ms live start old m plain layered from new fits =
 
 -- moves
 
-same_env : (m : Move) (old a b : Environment) → moved m old ≡ Ok a → moved m old ≡ Ok b → b ≡ a
+pub same_env : (m : Move) (old a b : Environment) → moved m old ≡ Ok a → moved m old ≡ Ok b → b ≡ a
 same_env m old a b h k = let q : Ok b ≡ Ok a = sym k ∙ h in cc
 
 are_certified : CertifiedAreExact → EntriesHaveConflicts → CertifiedMovesPreserve → PlainRecordsAreAll
@@ -101,7 +101,7 @@ are_certified exact conflicts preserve all site ms live start old new [] plain l
 are_certified exact conflicts preserve all site ms live start old new (Loads m ∷ todo) plain layered
     news loads ((admitted, from), (other, made, traces)) (fits, (mid, move, reach)) =
     let first = list_in_order start layered.begins.order.loaded in
-    let certain = loaded_certified exact all site ms start m plain loads.0 from in
+    let certain = loaded_certified exact all site ms start m plain loads.0 (as_from (over_site site) (Loads m) old from) in
     let apart = none_in_conflict conflicts site start old live m first.0 first.1 layered.start_with_live admitted in
     let h = preserve ms start old mid live (Loads m ∷ []) layered (certain.0, certain.1, apart, tt) (fits, (mid, move, refl)) in (
       certain.0,
@@ -112,7 +112,7 @@ are_certified exact conflicts preserve all site ms live start old new (Loads m �
     )
 are_certified exact conflicts preserve all site ms live start old new (Unloads m ∷ todo) plain layered
     news loads ((admitted, from), (other, made, traces)) (fits, (mid, move, reach)) =
-    let u = undone all site ms live start old m plain layered from news.0 fits in
+    let u = undone all site ms live start old m plain layered (as_from (over_site site) (Unloads m) old from) news.0 fits in
     let h = preserve ms start old mid live (Unloads m ∷ []) layered (u, tt) (fits, (mid, move, refl)) in (
       u,
       are_certified exact conflicts preserve all site ms (without_live m.name live) start mid new todo plain h.0 news.1 loads
@@ -131,7 +131,7 @@ site_commands_return leads exact conflicts preserve all site ms shell start e li
 
 -- sessions
 
-front_session : (s : RequestContext) (e : Environment) (rs : List Request) (before after : List Response) → Session s e rs (before ++ after) → (qs : List Request) × Session s e qs before
+pub front_session : (s : RequestContext) (e : Environment) (rs : List Request) (before after : List Response) → Session s e rs (before ++ after) → (qs : List Request) × Session s e qs before
 front_session s e rs [] after h = ([], tt)
 front_session s e [] (o ∷ before) after h = absurd h
 front_session s e (r ∷ rs) (o ∷ before) after h =
@@ -141,13 +141,13 @@ joined : (a b c : List Move) → (a ++ b) ++ c ≡ a ++ (b ++ c)
 joined [] b c = refl
 joined (m ∷ a) b c = ap (λ (l : List Move). m ∷ l) (joined a b c)
 
-moves_parts : (before after : List Response) → session_moves (before ++ after) ≡ session_moves before ++ session_moves after
+pub moves_parts : (before after : List Response) → session_moves (before ++ after) ≡ session_moves before ++ session_moves after
 moves_parts [] after = refl
 moves_parts (o ∷ before) after =
     ap (λ (l : List Move). moves.moves_of (outcome_of o) ++ l) (moves_parts before after)
     ∙ sym (joined (moves.moves_of (outcome_of o)) (session_moves before) (session_moves after))
 
-front_new : (start : Environment) (ms ns : List Move) → AreNew start (ms ++ ns) → AreNew start ms
+pub front_new : (start : Environment) (ms ns : List Move) → AreNew start (ms ++ ns) → AreNew start ms
 front_new start [] ns h = tt
 front_new start (m ∷ ms) ns h = (h.0, front_new start ms ns h.1)
 

@@ -2,4 +2,5 @@ pub mod Sites
 pub mod Standings
 pub mod Admitted
 pub mod Laws
+pub mod SettledSites
 pub mod DirectorySets

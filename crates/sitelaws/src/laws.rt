@@ -3,6 +3,7 @@ ghost use Rattle.sitelaws.specs.Laws.{StepsAreAdmitted, SessionsAreAdmitted, Nam
 ghost use Rattle.sitelaws.specs.Laws.{ModulesFound, PlainModulesFound, PlainRecordsAreAll, EachStands, OneStanding};
 ghost use Rattle.sitelaws.specs.Laws.{CertifiedStand, SiteSessionsReturn, AuditsHold, SiteCommandsReturn};
 ghost use Rattle.sitelaws.specs.Laws.{ChangesAgree};
+ghost use Rattle.sitelaws.specs.SettledSites.{SettledRecordsAreAll, SettledSessionsReturn};
 
 /// Nothing that was loaded at the moment of an accepted load forbade it: neither a conflict that the loaded list records,
 /// nor a conflict of the module itself, nor a prereq. So it is for requests, and for sessions.
@@ -64,6 +65,19 @@ pub fn command_returns()
     admissions();
     plain_records();
     requests::outcomes();
+    sitecertificate::laws::certified();
+    sitecertificate::laws::conflicts();
+    sitecertificate::laws::steps();
+}
+
+/// So it is for certified modules that ask only what rests, and nothing of the way of their evaluation, where what they
+/// read has the values of the audit in the start and no module of them uses it: their records are then those of the audit.
+pub fn settled_sessions_return()
+    ensures records { SettledRecordsAreAll }
+    ensures sessions { SettledSessionsReturn }
+{
+    settled::laws::settled();
+    requests::sessions();
     sitecertificate::laws::certified();
     sitecertificate::laws::conflicts();
     sitecertificate::laws::steps();
