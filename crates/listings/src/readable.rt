@@ -19,8 +19,8 @@ pub(crate) struct ReadableModules {
     pub unreadable: Vec<String>,
 }
 
-/// Lists the modules that texts select, where something can't be read: again and again, each time without what couldn't
-/// be read the time before.
+/// Lists the modules that texts select, where something can't be read: once, and again where what was seen before can't
+/// be read any more.
 fn list_without<T: Tree + Drop, D: DefaultFiles>(
     alloc: Global,
     tree: &mut HidingTree<T>,
@@ -45,7 +45,7 @@ fn list_without<T: Tree + Drop, D: DefaultFiles>(
             Err(TreeFault::OutOfMemory) => return Err(TreeFault::OutOfMemory),
             Err(TreeFault::Device) => {
                 if !tree.hide_failed()? {
-                    return Err(TreeFault::OutOfMemory);
+                    return Err(TreeFault::Device);
                 }
             }
         }
