@@ -20,10 +20,10 @@ use std::alloc::Global;
 use tclrules::Limits;
 
 /// The variable with the directories that are searched.
-pub(crate) const MODULEPATH: &str = "MODULEPATH";
+const MODULEPATH: &str = "MODULEPATH";
 
 /// The directories that are searched; without the variable there are none.
-pub(crate) fn modulepath(env: &Env) -> &str
+pub fn modulepath(env: &Env) -> &str
     ensures { result.now ≡ modulepath env.now }
 {
     env.get(MODULEPATH).unwrap_or("")

@@ -12,7 +12,7 @@ use std::alloc::Global;
 
 /// The modules along a MODULEPATH, but for what can't be read.
 #[derive(Drop)]
-pub(crate) struct ReadableModules {
+pub struct ReadableModules {
     /// The modules of each directory.
     pub listings: Vec<DirectoryListing>,
     /// The paths that can't be read.
@@ -56,7 +56,7 @@ fn list_without<T: Tree + Drop, D: DefaultFiles>(
 /// The modules along a MODULEPATH that texts select, as `search::selected` has them, but without what can't be read.
 ///
 /// It fails with `Device` only where the device failed at more than a thousand paths, and for want of memory.
-pub(crate) fn readable_modules<T: Tree + Drop, D: DefaultFiles>(
+pub fn readable_modules<T: Tree + Drop, D: DefaultFiles>(
     alloc: Global,
     tree: &mut HidingTree<T>,
     default_files: &D,
