@@ -42,7 +42,7 @@ fn searched(alloc: Global, word: &str) -> Result<Vec<String>, AllocError>
         return Ok(Vec::new(alloc));
     }
     let word = String::from_str(alloc, word)?;
-    vec![in alloc; word]
+    Ok(vec![in alloc; word]?)
 }
 
 /// Adds the names of modules.

@@ -1,5 +1,5 @@
 //! The options of `use` and `unuse`, and the words behind them.
-ghost use Rattle.std.specs.Prelude.{map, string_bytes};
+ghost use Rattle.std.specs.Prelude.{◌≡◌, map, string_bytes};
 ghost use Rattle.message.specs.Answers.{Gives};
 ghost use Rattle.functioncommand.specs.Faults.{reason_of};
 ghost use Rattle.functioncommand.specs.Options as spec;

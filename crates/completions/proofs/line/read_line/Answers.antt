@@ -1,8 +1,7 @@
-use Rattle.std.proofs.Common.{◌≡◌, List, Bor, ◌++◌, [], ◌∷◌, map, ap, sym, ◌∙◌, refl}
+use Rattle.std.proofs.Common.{◌≡◌, Bor, ◌++◌, [], ◌∷◌, ap, sym, ◌∙◌}
 use Rattle.std.proofs.lemmas.List.{map-append}
 use Rattle.envvars.specs.Texts.{Text, slice_texts}
-use Rattle.completions.specs.Lines.{command_before, last_of, others_of, pieces, read_line}
-use Rattle.completions.specs.Texts.{filled}
+use Rattle.completions.specs.Lines.{pieces}
 use Rattle.completions.proofs.LineLemmas.{read_of}
 use Rattle.completions.proofs.line.read_line.Goals as goal
 
