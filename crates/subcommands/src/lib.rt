@@ -1,4 +1,4 @@
-//! The subcommands of `module` with their options, and which of them a word means (module(1)).
+//! The subcommands of `module`, their options, what words mean (module(1)).
 //! Touches nothing and takes no memory.
 #![tactic(auto)]
 
