@@ -175,7 +175,7 @@ def test_the_usage_tells_what_the_program_does(folder, built):
 
 def test_completion_offers_what_the_program_does(built):
     names = subprocess.run([built("module"), "sh", "names", "subcommands"], capture_output=True, check=True)
-    same(names.stdout.decode().split(), sorted([*SUBCOMMANDS, *OF_FUNCTIONS, *ADDED]), "the names for completion")
+    same(sorted(names.stdout.decode().split()), sorted([*SUBCOMMANDS, *OF_FUNCTIONS, *ADDED]), "the names for completion")
 
 
 def test_the_pages_are_well_formed():
@@ -353,7 +353,7 @@ COMPLETED = {
     "module list b": ["foo/1.0", "baz/3"],
     "module load --": ["--auto"],
     "module list -": ["--terse", "-t"],
-    "module use -": ["--append", "-a"],
+    "module use -": ["--append", "--prepend", "-a", "-p"],
     "module use ": [],
     "module odd ": [],
     "ml avail -": [

@@ -1,24 +1,22 @@
 //! The kinds of names that shells complete.
+ghost use Rattle.std.specs.Prelude.{◌≡◌};
+ghost use Rattle.completions.specs.Kinds as spec;
+
+use subcommands::Subcommand;
 
 /// A kind of names.
 #[derive(Clone, Copy, Debug, PartialEq, Eq)]
 pub enum NameKind {
     /// The names of subcommands.
     Subcommands,
+    /// The options of a subcommand.
+    Options(Subcommand),
     /// The shells that `modulecmd` writes for.
     Shells,
     /// The options of `modaudit`.
     AuditOptions,
     /// The options of `modport`.
     PortOptions,
-    /// The options of `load` and `unload`.
-    LoadOptions,
-    /// The options of `avail`.
-    AvailOptions,
-    /// The options of `list`.
-    ListOptions,
-    /// The options of `use`.
-    UseOptions,
     /// The loaded modules.
     Loaded,
     /// The loaded modules, each behind a hyphen, as `ml` unloads them.
@@ -31,8 +29,22 @@ pub enum NameKind {
     Available,
 }
 
+impl NameKind {
+    /// Whether these are the modules that can be loaded.
+    pub(crate) fn is_available(self) -> bool
+        ensures { result ≡ spec.is_available self }
+    {
+        match self {
+            NameKind::Available => true,
+            _ => false,
+        }
+    }
+}
+
 /// The kind that a word asks for by its own name, where it is one.
-pub fn kind_named(word: &str) -> Option<NameKind> {
+pub fn kind_named(word: &str) -> Option<NameKind>
+    ensures { result ≡ spec.kind_named word.now }
+{
     match word {
         "subcommands" => Some(NameKind::Subcommands),
         "shells" => Some(NameKind::Shells),

@@ -2,12 +2,14 @@
 //! Takes memory; reads the environment, files and directories through the `Tree`, that it is given.
 #![tactic(auto)]
 
+mod available;
 mod kind;
 mod line;
 mod names;
+mod offered;
 mod place;
 
+pub use available::names_offered;
 pub use kind::{NameKind, kind_named};
-pub use line::{Line, caller_named, read_line};
-pub use names::names_of;
-pub use place::{Caller, kinds_at};
+pub use line::{Line, read_line};
+pub use place::{Caller, caller_named, kinds_at};

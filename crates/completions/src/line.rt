@@ -1,6 +1,14 @@
 //! A line that is typed, as tcsh hands it to what completes it.
+ghost use Rattle.std.specs.Prelude.{◌≡◌, map, string_bytes, IfOk};
+ghost use Rattle.std.specs.List.{flat_map};
+ghost use Rattle.std.specs.Option.{option_map};
+ghost use Rattle.envvars.specs.Texts.{slice_texts, texts_in};
+ghost use Rattle.completions.specs.Lines as spec;
+ghost use Rattle.completions.specs.Texts.{filled};
+ghost use Rattle.completions.specs.Views.{line_view};
 
-use crate::place::Caller;
+use crate::place::{Caller, caller_named};
+use envvars::fields::{owned, parts};
 use std::alloc::{AllocError, Global};
 
 /// A command that is typed.
@@ -14,47 +22,65 @@ pub struct Line {
     pub word: String,
 }
 
-/// Whether a character stands between words.
-fn is_blank(character: char) -> bool {
-    character == ' ' || character == '\t'
-}
-
-/// The function of this name, where one has it.
-pub fn caller_named(name: &str) -> Option<Caller> {
-    match name {
-        "module" => Some(Caller::Module),
-        "ml" => Some(Caller::Ml),
-        _ => None,
+/// The pieces of some texts between their tabulators.
+fn pieces_of_all<'a>(alloc: Global, texts: &[&'a str]) -> Result<Vec<&'a str>, AllocError>
+    ensures { IfOk result (λ v. slice_texts v.items ≡ flat_map (spec.pieces_at 9) (slice_texts texts.now)) }
+{
+    let mut pieces = Vec::new(alloc);
+    for text in texts {
+        pieces.extend_from_slice(&parts(alloc, text, '\t')?)?;
     }
+    Ok(pieces)
 }
 
-/// The words of a line.
-fn words_of(alloc: Global, line: &str) -> Result<Vec<String>, AllocError> {
-    let mut words = Vec::new(alloc);
-    for word in line.split(is_blank) {
-        if !word.is_empty() {
-            words.push(String::from_str(alloc, word)?)?;
+/// The pieces of a line between its blanks and tabulators.
+fn pieces_of(alloc: Global, line: &str) -> Result<Vec<&str>, AllocError>
+    ensures { IfOk result (λ v. slice_texts v.items ≡ spec.pieces line.now) }
+{
+    let texts = parts(alloc, line, ' ')?;
+    pieces_of_all(alloc, &texts)
+}
+
+/// The texts that aren't empty.
+pub(crate) fn filled<'a>(alloc: Global, texts: &[&'a str]) -> Result<Vec<&'a str>, AllocError>
+    ensures { IfOk result (λ v. slice_texts v.items ≡ filled (slice_texts texts.now)) }
+{
+    let mut found = Vec::new(alloc);
+    for text in texts {
+        if !text.is_empty() {
+            found.push(*text)?;
         }
     }
-    Ok(words)
+    Ok(found)
+}
+
+/// The command of these words before the last one, which is the last; nothing where they name neither function.
+fn command_of(alloc: Global, words: &[&str], word: &str) -> Result<Option<Line>, AllocError>
+    ensures { IfOk result (λ line. option_map line_view line ≡ spec.command_of (slice_texts words.now) word.now) }
+{
+    let [name, words @ ..] = words else {
+        return Ok(None);
+    };
+    let Some(caller) = caller_named(name) else {
+        return Ok(None);
+    };
+    Ok(Some(Line {
+        caller,
+        before: owned(alloc, words)?,
+        word: String::from_str(alloc, word)?,
+    }))
 }
 
 /// Reads a line up to the cursor; nothing where it calls neither of both functions.
-pub fn read_line(alloc: Global, line: &str) -> Result<Option<Line>, AllocError> {
-    let mut words = words_of(alloc, line)?;
-    if line.ends_with(is_blank) {
-        words.push(String::new(alloc))?;
-    }
-    let Some(word) = words.pop() else {
+///
+/// It fails for want of memory.
+pub fn read_line(alloc: Global, line: &str) -> Result<Option<Line>, AllocError>
+    ensures { IfOk result (λ read. option_map line_view read ≡ spec.read_line line.now) }
+{
+    let mut pieces = pieces_of(alloc, line)?;
+    let Some(word) = pieces.pop() else {
         return Ok(None);
     };
-    if words.is_empty() {
-        return Ok(None);
-    }
-    let name = words.remove(0);
-    Ok(caller_named(name.as_str()).map(|caller| Line {
-        caller,
-        before: words,
-        word,
-    }))
+    let words = filled(alloc, &pieces)?;
+    command_of(alloc, &words, word)
 }

@@ -1,75 +1,17 @@
 //! The names of a kind.
+ghost use Rattle.std.specs.Prelude.{◌≡◌, map, string_bytes, IfOk};
+ghost use Rattle.std.specs.Option.{option_map};
+ghost use Rattle.envvars.specs.Texts.{slice_texts, texts_in};
+ghost use Rattle.subcommands.specs.Views.{option_view, row_view};
+ghost use Rattle.completions.specs.Names as spec;
 
 use crate::kind::NameKind;
+use crate::line::filled;
+use envvars::fields::{elements, owned};
 use envvars::{Env, Vars};
-use filetree::{Tree, TreeFault};
-use lookup::EvaluatedDefaultFiles;
-use search::selected;
+use message::texts::copies;
 use std::alloc::{AllocError, Global};
-use tclrules::Limits;
-
-/// The subcommands under all their names.
-const SUBCOMMANDS: &[&str] = &[
-    "add",
-    "apropos",
-    "avail",
-    "del",
-    "display",
-    "help",
-    "is-avail",
-    "is-loaded",
-    "keyword",
-    "list",
-    "load",
-    "purge",
-    "reload",
-    "remove",
-    "restore",
-    "rm",
-    "save",
-    "savelist",
-    "saverm",
-    "saveshow",
-    "show",
-    "swap",
-    "switch",
-    "unload",
-    "unuse",
-    "use",
-    "whatis",
-];
-
-const SHELLS: &[&str] = &["bash", "csh", "fish", "ksh", "sh", "tcsh", "zsh"];
-
-const AUDIT_OPTIONS: &[&str] = &["--help", "--json", "--quiet"];
-
-const PORT_OPTIONS: &[&str] = &[
-    "--check",
-    "--help",
-    "--host",
-    "--json",
-    "--one-version",
-    "--stdin",
-];
-
-const LOAD_OPTIONS: &[&str] = &["--auto"];
-
-const AVAIL_OPTIONS: &[&str] = &[
-    "--contains",
-    "--default",
-    "--icase",
-    "--latest",
-    "--terse",
-    "-C",
-    "-L",
-    "-d",
-    "-i",
-    "-t",
-];
-
-const LIST_OPTIONS: &[&str] = &["--terse", "-t"];
-
-const USE_OPTIONS: &[&str] = &["--append", "-a"];
+use subcommands::{OptionName, SubcommandName, options_of, subcommand_names};
 
 /// The variable with the names of the loaded modules.
 const LOADEDMODULES: &str = "LOADEDMODULES";
@@ -77,82 +19,103 @@ const LOADEDMODULES: &str = "LOADEDMODULES";
 /// The variable with the directories that are searched.
 const MODULEPATH: &str = "MODULEPATH";
 
-/// Copies of texts.
-fn copies(alloc: Global, texts: &[&str]) -> Result<Vec<String>, AllocError> {
-    let mut copied = Vec::with_capacity(alloc, texts.len())?;
-    for text in texts {
-        copied.push(String::from_str(alloc, text)?)?;
-    }
-    Ok(copied)
+/// The shells.
+#[tactic(auto, unfolding(crate::specs::Names::shells))]
+fn shells() -> &'static [&'static str]
+    ensures { slice_texts result.now ≡ spec.shells }
+{
+    &["bash", "csh", "fish", "ksh", "sh", "tcsh", "zsh"]
 }
 
-/// The elements of a list in a variable, each behind a text.
-fn elements(alloc: Global, env: &Env, name: &str, front: &str) -> Result<Vec<String>, AllocError> {
-    let mut found = Vec::new(alloc);
-    for element in env.get(name).unwrap_or("").split(':') {
-        if !element.is_empty() {
-            let mut text = String::from_str(alloc, front)?;
-            text.push_str(element)?;
-            found.push(text)?;
-        }
-    }
-    Ok(found)
+/// The options of `modaudit`.
+#[tactic(auto, unfolding(crate::specs::Names::audit_options))]
+fn audit_options() -> &'static [&'static str]
+    ensures { slice_texts result.now ≡ spec.audit_options }
+{
+    &["--help", "--json", "--quiet"]
 }
 
-/// Whether a word as it is typed means another text: it has quotes, or what takes their meaning away.
-fn is_quoted(word: &str) -> bool {
-    word.contains('\'') || word.contains('"') || word.contains('\\')
+/// The options of `modport`.
+#[tactic(auto, unfolding(crate::specs::Names::port_options))]
+fn port_options() -> &'static [&'static str]
+    ensures { slice_texts result.now ≡ spec.port_options }
+{
+    &[
+        "--check",
+        "--help",
+        "--host",
+        "--json",
+        "--one-version",
+        "--stdin",
+    ]
 }
 
-/// The modules that can be loaded, whose names begin with a word; all of them where it is typed with quotes, since the
-/// shell takes those that begin with what it means.
-fn available<T: Tree>(
-    alloc: Global,
-    env: &Env,
-    word: &str,
-    tree: &mut T,
-    limits: Limits,
-) -> Result<Vec<String>, TreeFault> {
-    let mut texts = Vec::new(alloc);
-    if !is_quoted(word) {
-        texts.push(String::from_str(alloc, word)?)?;
-    }
-    let default_files = EvaluatedDefaultFiles { limits };
-    let modulepath = env.get(MODULEPATH).unwrap_or("");
+/// The names that aren't options.
+fn plain_names(alloc: Global, rows: &[SubcommandName]) -> Result<Vec<String>, AllocError>
+    ensures { IfOk result (λ v. texts_in v ≡ spec.plain (map (λ row. row.0) (map row_view rows.now))) }
+{
     let mut names = Vec::new(alloc);
-    for listing in selected(alloc, tree, &default_files, texts.as_slice(), modulepath)? {
-        for entry in listing.modules {
-            names.push(entry.name)?;
+    for row in rows {
+        if !row.name.starts_with('-') {
+            names.push(String::from_str(alloc, row.name)?)?;
         }
     }
     Ok(names)
 }
 
-/// The names of a kind, in the order in which they are shown; of the modules that can be loaded those that begin with a
-/// word. Collections lie on the disk, where this crate doesn't look: it has none.
-///
-/// It fails as the tree does, and for want of memory.
-pub fn names_of<T: Tree>(
+/// The names of options.
+fn option_names(alloc: Global, rows: &[OptionName]) -> Result<Vec<String>, AllocError>
+    ensures { IfOk result (λ v. texts_in v ≡ map (λ row. row.0) (map option_view rows.now)) }
+{
+    let mut names = Vec::new(alloc);
+    for row in rows {
+        names.push(String::from_str(alloc, row.name)?)?;
+    }
+    Ok(names)
+}
+
+/// The texts, each behind another.
+fn all_behind(alloc: Global, front: &str, texts: &[&str]) -> Result<Vec<String>, AllocError>
+    ensures { IfOk result (λ v. texts_in v ≡ map (spec.behind front.now) (slice_texts texts.now)) }
+{
+    let mut names = Vec::new(alloc);
+    for text in texts {
+        let mut name = String::from_str(alloc, front)?;
+        name.push_str(text)?;
+        names.push(name)?;
+    }
+    Ok(names)
+}
+
+/// The elements of a list in a variable, each behind a text.
+fn listed(alloc: Global, env: &Env, name: &str, front: &str) -> Result<Vec<String>, AllocError>
+    ensures { IfOk result (λ v. texts_in v ≡ map (spec.behind front.now) (spec.listed env.now name.now)) }
+{
+    let elements = elements(alloc, env.get(name))?;
+    let filled = filled(alloc, &elements)?;
+    all_behind(alloc, front, &filled)
+}
+
+/// The names of a kind, of which those of modules that can be loaded are given. Collections lie on the disk, where this
+/// crate doesn't look: it has none.
+pub(crate) fn names_of(
     alloc: Global,
-    kind: NameKind,
     env: &Env,
-    word: &str,
-    tree: &mut T,
-    limits: Limits,
-) -> Result<Vec<String>, TreeFault> {
+    available: &[String],
+    kind: NameKind,
+) -> Result<Vec<String>, AllocError>
+    ensures { IfOk result (λ v. texts_in v ≡ spec.names_of env.now (map string_bytes available.now) kind) }
+{
     match kind {
-        NameKind::Subcommands => Ok(copies(alloc, SUBCOMMANDS)?),
-        NameKind::Shells => Ok(copies(alloc, SHELLS)?),
-        NameKind::AuditOptions => Ok(copies(alloc, AUDIT_OPTIONS)?),
-        NameKind::PortOptions => Ok(copies(alloc, PORT_OPTIONS)?),
-        NameKind::LoadOptions => Ok(copies(alloc, LOAD_OPTIONS)?),
-        NameKind::AvailOptions => Ok(copies(alloc, AVAIL_OPTIONS)?),
-        NameKind::ListOptions => Ok(copies(alloc, LIST_OPTIONS)?),
-        NameKind::UseOptions => Ok(copies(alloc, USE_OPTIONS)?),
-        NameKind::Loaded => Ok(elements(alloc, env, LOADEDMODULES, "")?),
-        NameKind::LoadedToUnload => Ok(elements(alloc, env, LOADEDMODULES, "-")?),
-        NameKind::Directories => Ok(elements(alloc, env, MODULEPATH, "")?),
-        NameKind::Available => available(alloc, env, word, tree, limits),
+        NameKind::Subcommands => plain_names(alloc, subcommand_names()),
+        NameKind::Options(subcommand) => option_names(alloc, options_of(subcommand)),
+        NameKind::Shells => owned(alloc, shells()),
+        NameKind::AuditOptions => owned(alloc, audit_options()),
+        NameKind::PortOptions => owned(alloc, port_options()),
+        NameKind::Loaded => listed(alloc, env, LOADEDMODULES, ""),
+        NameKind::LoadedToUnload => listed(alloc, env, LOADEDMODULES, "-"),
+        NameKind::Directories => listed(alloc, env, MODULEPATH, ""),
+        NameKind::Available => copies(alloc, available),
         NameKind::Collections => Ok(Vec::new(alloc)),
     }
 }

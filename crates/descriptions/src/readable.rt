@@ -36,10 +36,10 @@ fn push_unreadable(text: &mut String, paths: &[String]) -> Result<(), AllocError
 }
 
 /// Describes all modules that can be loaded, or those whose report mentions a text, as `describe` does, but without what
-/// can't be read: behind the modules that are left out it has a line of each such path. It describes again and again,
-/// each time without what couldn't be read the time before.
+/// can't be read: behind the modules that are left out it has a line of each such path. It describes once, and again where
+/// what was seen before can't be read any more.
 ///
-/// Errors: want of memory (31, 41), in one of the requests too; 43 where the listing failed a thousand times.
+/// Errors: want of memory (31, 41), in one of the requests too; 43 where it failed at more than a thousand paths.
 pub fn describe_readable<T: Tree + Drop>(
     alloc: Global,
     shell: Shell,
@@ -61,7 +61,7 @@ pub fn describe_readable<T: Tree + Drop>(
             }
             Err(Refusal::Find(FindFault::Device)) => {
                 if !tree.hide_failed()? {
-                    return Err(Refusal::OutOfMemory);
+                    return Err(Refusal::Find(FindFault::Device));
                 }
             }
             Err(refusal) => return Err(refusal),

@@ -1,5 +1,5 @@
 //! The options of `use` and `unuse`, and the words behind them.
-ghost use Rattle.std.specs.Prelude.{map, string_bytes};
+ghost use Rattle.std.specs.Prelude.{◌≡◌, map, string_bytes};
 ghost use Rattle.message.specs.Answers.{Gives};
 ghost use Rattle.functioncommand.specs.Faults.{reason_of};
 ghost use Rattle.functioncommand.specs.Options as spec;
@@ -7,6 +7,7 @@ ghost use Rattle.functioncommand.specs.Views.{texts_of, end_view};
 
 use crate::fault::FunctionFault;
 use envpaths::End;
+use subcommands::{CommandOption, Subcommand, option_of};
 
 /// The words, where there are some.
 fn some_words<'a>(words: &'a [String]) -> Result<&'a [String], FunctionFault<'a>>
@@ -18,6 +19,17 @@ fn some_words<'a>(words: &'a [String]) -> Result<&'a [String], FunctionFault<'a>
     }
 }
 
+/// The end at which an option of `use` puts directories, in place of this one.
+fn end_by(option: CommandOption, end: End) -> End
+    ensures { result ≡ spec.end_by option end }
+{
+    match option {
+        CommandOption::Behind => End::Back,
+        CommandOption::InFront => End::Front,
+        _ => end,
+    }
+}
+
 /// The words of `use` behind its options, and the end at which they are put: options stand first, the last of them
 /// counts, and `--` ends them.
 pub(crate) fn words_to_use<'a>(
@@ -26,20 +38,20 @@ pub(crate) fn words_to_use<'a>(
 ) -> Result<(End, &'a [String]), FunctionFault<'a>>
     ensures { Gives reason_of end_view result (spec.words_to_use end (map string_bytes words.entry.now)) }
 {
-    let [word, rest @ ..] = words else {
+    let [first, rest @ ..] = words else {
         return Err(FunctionFault::BadArguments);
     };
-    match word.as_str() {
-        "--" => Ok((end, some_words(rest)?)),
-        "-a" | "--append" => words_to_use(End::Back, rest),
-        "-p" | "--prepend" => words_to_use(End::Front, rest),
-        other => {
-            if other.starts_with('-') {
-                return Err(FunctionFault::NoOption(other));
-            }
-            Ok((end, words))
-        }
+    let word = first.as_str();
+    if word == "--" {
+        return Ok((end, some_words(rest)?));
     }
+    if let Some(option) = option_of(Subcommand::Use, word) {
+        return words_to_use(end_by(option, end), rest);
+    }
+    if word.starts_with('-') {
+        return Err(FunctionFault::NoOption(word));
+    }
+    Ok((end, words))
 }
 
 /// The words of `unuse`, which has no option; `--` may stand before them.

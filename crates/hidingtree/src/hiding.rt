@@ -1,15 +1,25 @@
 //! A tree in which nothing stands at some paths.
-ghost use Rattle.std.specs.Prelude.{◌≡◌, ◌≤◌, ◌+◌, [], length, map, refl, string_bytes, IsErrOf};
-ghost use Rattle.hidingtree.specs.Hidden.{AgreesWithout, count_of, is_hidden, without};
+ghost use Rattle.std.specs.Prelude.{◌≡◌, ◌≤◌, ◌+◌, ◌++◌, [], ◌∷◌, false, length, map, string_bytes, IfErr, IfOk, OnOk};
+ghost use Rattle.filetree.specs.declared.tree.TreeFault.TheVariants as faults;
+ghost use Rattle.hidingtree.specs.Hidden.{AreApart, MayAgreeWithout, count_of, hidden_with, hides_more};
+ghost use Rattle.hidingtree.specs.Hidden.{is_among, without};
+ghost use Rattle.hidingtree.specs.Left.{left_without};
 
 use filetree::{Tree, TreeFault};
 use std::alloc::{AllocError, Global};
 
-/// How many paths are hidden at most, one after another, before it is given up.
+/// How many paths are hidden at most before it is given up.
 pub const MOST_HIDDEN: usize = 1_000;
 
-/// A tree without what stands at some paths: there no file is seen, and no directory. It keeps at which path the tree
-/// failed last.
+/// Whether a path is one of some.
+fn is_among(paths: &[String], path: &str) -> bool
+    ensures { result ≡ is_among (map string_bytes paths.now) path.now }
+{
+    paths.iter().any(|other| path == other.as_str())
+}
+
+/// A tree without what stands at some paths: there no file is seen, and no directory. A path at which the tree fails is
+/// hidden at once, unless something was seen there before.
 #[derive(Drop)]
 pub struct HidingTree<T: Tree + Drop> {
     alloc: Global,
@@ -17,10 +27,14 @@ pub struct HidingTree<T: Tree + Drop> {
     pub tree: T,
     /// The paths at which nothing is seen.
     pub hidden: Vec<String>,
-    /// The path at which the device failed last, where memory sufficed to keep it and it isn't hidden yet.
+    /// The paths at which something was seen.
+    seen: Vec<String>,
+    /// The path at which the device failed last, of those that could not be hidden at once.
     failed_at: Option<String>,
     /// The device has failed for each of these paths.
     ghost counted: { length hidden.items + count_of failed_at ≤ T.failures tree },
+    /// Nothing was seen at a hidden path.
+    ghost apart: { AreApart (map string_bytes hidden.items) (map string_bytes seen.items) },
 }
 
 impl<T: Tree + Drop> HidingTree<T> {
@@ -33,84 +47,137 @@ impl<T: Tree + Drop> HidingTree<T> {
             alloc,
             tree,
             hidden: Vec::new(alloc),
+            seen: Vec::new(alloc),
             failed_at: None,
         }
     }
 
-    /// Hides what stands at the path at which the device failed last. Whether there is one.
+    /// Hides what stands at the path at which the device failed last, of those that weren't hidden at once. Whether
+    /// there is one, and fewer than a thousand are hidden. What is to be seen then is asked for anew.
     ///
     /// It fails for want of memory.
     pub fn hide_failed(&mut self) -> Result<bool, AllocError>
         ensures tree { self.new.tree ≡ self.old.tree }
+        ensures more { IfOk result (λ more. more ≡ hides_more self.old.hidden.items self.old.failed_at) }
+        ensures hidden { OnOk result (self.new.hidden.items ≡ hidden_with self.old.hidden.items self.old.failed_at) }
+        ensures kept { IfErr result (λ e. self.new.hidden.items ≡ self.old.hidden.items) }
     {
         let Some(path) = self.failed_at.take() else {
             return Ok(false);
         };
+        if self.hidden.len() >= MOST_HIDDEN {
+            return Ok(false);
+        }
+        self.seen.clear();
         self.hidden.push(path)?;
         Ok(true)
     }
 
-    /// Whether nothing is seen at the path.
-    fn is_hidden(&self, path: &str) -> bool
-        ensures { result ≡ is_hidden (map string_bytes self.now.hidden.items) path.now }
-    {
-        self.hidden.iter().any(|hidden| path == hidden.as_str())
-    }
-
-    /// Keeps the path of an answer, where that is a failure of the device.
-    fn keep<X>(&mut self, path: &str, answer: &Result<X, TreeFault>)
-        requires { IsErrOf answer.now TreeFault.Device
-            → length self.old.hidden.items + 1 ≤ T.failures self.old.tree }
+    /// Keeps that something was seen at a path.
+    fn keep_seen(&mut self, path: &str) -> Result<(), AllocError>
+        requires { is_among (map string_bytes self.old.hidden.items) path.now ≡ false }
         ensures tree { self.new.tree ≡ self.old.tree }
         ensures hidden { self.new.hidden ≡ self.old.hidden }
+        ensures seen { OnOk result (map string_bytes self.new.seen.items
+            ≡ map string_bytes self.old.seen.items ++ path.now ∷ []) }
+        ensures kept { IfErr result (λ e. self.new.seen.items ≡ self.old.seen.items) }
     {
-        if let Err(TreeFault::Device) = answer {
-            self.failed_at = String::from_str(self.alloc, path).ok();
+        let path = String::from_str(self.alloc, path)?;
+        self.seen.push(path)?;
+        Ok(())
+    }
+
+    /// Hides what stands at a path at which the tree has this fault, where that is the device's, nothing was seen there
+    /// and fewer than a thousand are hidden. Else it fails with the fault, or for want of memory.
+    fn hide(&mut self, path: &str, fault: TreeFault) -> Result<(), TreeFault>
+        requires { fault ≡ faults.Device
+            → length self.old.hidden.items + count_of self.old.failed_at + 1 ≤ T.failures self.old.tree }
+        ensures tree { self.new.tree ≡ self.old.tree }
+        ensures seen { self.new.seen ≡ self.old.seen }
+        ensures hidden { OnOk result (map string_bytes self.new.hidden.items
+            ≡ map string_bytes self.old.hidden.items ++ path.now ∷ []) }
+        ensures unseen { OnOk result (is_among (map string_bytes self.old.seen.items) path.now ≡ false) }
+        ensures kept { IfErr result (λ e. self.new.hidden.items ≡ self.old.hidden.items) }
+        ensures fault { IfErr result (λ e. e ≡ faults.Device → fault ≡ faults.Device) }
+    {
+        if let TreeFault::OutOfMemory = fault {
+            return Err(fault);
         }
+        let kept = String::from_str(self.alloc, path)?;
+        if is_among(&self.seen, path) || self.hidden.len() >= MOST_HIDDEN {
+            self.failed_at = Some(kept);
+            return Err(fault);
+        }
+        self.hidden.push(kept)?;
+        Ok(())
     }
 }
 
 impl<T: Tree + Drop> Tree for HidingTree<T> {
     ghost failures = { λ t. T.failures t.tree };
 
-    ghost failed = { λ t. T.failed t.tree };
-
-    ghost agrees = { λ t. AgreesWithout (map string_bytes t.hidden.items) (T.agrees t.tree) };
+    ghost agrees = { λ t. MayAgreeWithout (map string_bytes t.hidden.items) (map string_bytes t.seen.items)
+        (T.agrees t.tree) };
 
     ghost satisfiable = { λ t. let some = T.satisfiable t.tree in (
       without (map string_bytes t.hidden.items) some.0,
       without (map string_bytes t.hidden.items) some.1,
-      record { all_files = some.0; all_folders = some.1; agree = some.2; files_left = refl; folders_left = refl },
+      left_without (map string_bytes t.hidden.items) (map string_bytes t.seen.items) (T.agrees t.tree) t.apart
+          some.0 some.1 some.2,
     ) };
 
     fn read(&mut self, path: &str) -> Result<Option<Vec<u8>>, TreeFault> {
-        if self.is_hidden(path) {
+        if is_among(&self.hidden, path) {
             return Ok(None);
         }
-        let answer = self.tree.read(path);
-        self.keep(path, &answer);
-        answer
+        match self.tree.read(path) {
+            Ok(Some(bytes)) => {
+                self.keep_seen(path)?;
+                Ok(Some(bytes))
+            }
+            Ok(None) => Ok(None),
+            Err(fault) => {
+                self.hide(path, fault)?;
+                Ok(None)
+            }
+        }
     }
 
     fn begins_with(&mut self, path: &str, prefix: &[u8]) -> Result<bool, TreeFault> {
-        if self.is_hidden(path) {
+        if is_among(&self.hidden, path) {
             return Ok(false);
         }
-        let answer = self.tree.begins_with(path, prefix);
-        self.keep(path, &answer);
-        answer
+        match self.tree.begins_with(path, prefix) {
+            Ok(true) => {
+                self.keep_seen(path)?;
+                Ok(true)
+            }
+            Ok(false) => Ok(false),
+            Err(fault) => {
+                self.hide(path, fault)?;
+                Ok(false)
+            }
+        }
     }
 
     fn may_list(&self, path: &str) -> bool {
-        !self.is_hidden(path) && self.tree.may_list(path)
+        !is_among(&self.hidden, path) && self.tree.may_list(path)
     }
 
     fn entries(&mut self, dir: &str) -> Result<Option<Vec<String>>, TreeFault> {
-        if self.is_hidden(dir) {
+        if is_among(&self.hidden, dir) {
             return Ok(None);
         }
-        let answer = self.tree.entries(dir);
-        self.keep(dir, &answer);
-        answer
+        match self.tree.entries(dir) {
+            Ok(Some(names)) => {
+                self.keep_seen(dir)?;
+                Ok(Some(names))
+            }
+            Ok(None) => Ok(None),
+            Err(fault) => {
+                self.hide(dir, fault)?;
+                Ok(None)
+            }
+        }
     }
 }

@@ -1,8 +1,13 @@
 -- The options of `avail` and `list`, and the texts behind them (module(1)).
-use Rattle.std.specs.Prelude.{Bool, true, false, ◌||◌, List, [], ◌∷◌, codes, bytes_eq, nat_eq, if◌then◌else◌}
-use Rattle.std.specs.Prelude.{Result, Ok, Err}
-use Rattle.std.specs.List.{starts_with}
+use Rattle.std.specs.Prelude.{true, false, List, [], ◌∷◌, if◌then◌else◌, Result, Ok, Err}
 use Rattle.message.specs.Messages.{Text}
+use Rattle.subcommands.specs.Meanings.{is_option}
+use Rattle.subcommands.specs.Options.{by_option, is_end, option_named}
+use Rattle.subcommands.specs.declared.options.CommandOption.{CommandOption}
+use Rattle.subcommands.specs.declared.options.CommandOption.TheVariants as options
+use Rattle.subcommands.specs.declared.table.Subcommand.{Subcommand}
+use Rattle.subcommands.specs.declared.table.Subcommand.TheVariants as subcommands
+use Rattle.subcommands.specs.declared.table.Subcommand.TheVariants.{Avail}
 use Rattle.listings.specs.Faults.{ListingReason, no_avail_option, no_list_option}
 use Rattle.listings.specs.declared.options.Options.{Options}
 use Rattle.listings.specs.declared.options.Versions.TheVariants.{Every, Default, Latest}
@@ -11,40 +16,36 @@ use Rattle.listings.specs.declared.options.Versions.TheVariants.{Every, Default,
 abbrev pub no_options : Options
 no_options = record { lines = false; versions = Every; within = false; any_case = false }
 
--- the word is one of two spellings of an option
-abbrev pub is_either : Text → Text → Text → Bool
-is_either short long word = bytes_eq word short || bytes_eq word long
-
--- the word ends the options
-abbrev pub is_end : Text → Bool
-is_end word = bytes_eq word (codes "--")
-
--- the word begins with a hyphen
-abbrev pub is_option : Text → Bool
-is_option word = starts_with nat_eq word (codes "-")
+-- the same with an option of a report; the other options are none of its own
+abbrev pub with_option : CommandOption → Options → Options
+with_option options.Lines o = record o { lines = true }
+with_option options.Default o = record o { versions = Default }
+with_option options.Latest o = record o { versions = Latest }
+with_option options.Within o = record o { within = true }
+with_option options.AnyCase o = record o { any_case = true }
+with_option other o = o
 
 -- options, with the texts behind them
 abbrev pub Words : Type 0
 Words = Options × List Text
 
--- The options and the texts of `avail`. Options stand first, and `--` ends them.
-abbrev pub avail_words : Options → List Text → Result Words ListingReason
-avail_words o [] = Ok (o, [])
-avail_words o (word ∷ words) =
+-- The options of a report, and the texts behind them. Options stand first, and `--` ends them; or an option that the
+-- subcommand doesn't have.
+abbrev pub words_of : Subcommand → Options → List Text → Result Words Text
+words_of subcommand o [] = Ok (o, [])
+words_of subcommand o (word ∷ words) =
     if is_end word then Ok (o, words)
-    else if is_either (codes "-t") (codes "--terse") word then avail_words (record o { lines = true }) words
-    else if is_either (codes "-d") (codes "--default") word then avail_words (record o { versions = Default }) words
-    else if is_either (codes "-L") (codes "--latest") word then avail_words (record o { versions = Latest }) words
-    else if is_either (codes "-C") (codes "--contains") word then avail_words (record o { within = true }) words
-    else if is_either (codes "-i") (codes "--icase") word then avail_words (record o { any_case = true }) words
-    else if is_option word then Err (no_avail_option word)
-    else Ok (o, word ∷ words)
+    else by_option (option_named subcommand word) (λ option. words_of subcommand (with_option option o) words)
+    (if is_option word then Err word else Ok (o, word ∷ words))
 
--- The options and the texts of `list`, which has one option.
+-- the same, where such an option is the reason why there is no report
+abbrev pub refused_by : (Text → ListingReason) → Result Words Text → Result Words ListingReason
+refused_by no_option (Ok words) = Ok words
+refused_by no_option (Err word) = Err (no_option word)
+
+-- the options and the texts of `avail`, and of `list`
+abbrev pub avail_words : Options → List Text → Result Words ListingReason
+avail_words o words = refused_by no_avail_option (words_of Avail o words)
+
 abbrev pub list_words : Options → List Text → Result Words ListingReason
-list_words o [] = Ok (o, [])
-list_words o (word ∷ words) =
-    if is_end word then Ok (o, words)
-    else if is_either (codes "-t") (codes "--terse") word then list_words (record o { lines = true }) words
-    else if is_option word then Err (no_list_option word)
-    else Ok (o, word ∷ words)
+list_words o words = refused_by no_list_option (words_of subcommands.List o words)

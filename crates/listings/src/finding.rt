@@ -20,10 +20,10 @@ use std::alloc::Global;
 use tclrules::Limits;
 
 /// The variable with the directories that are searched.
-pub(crate) const MODULEPATH: &str = "MODULEPATH";
+const MODULEPATH: &str = "MODULEPATH";
 
 /// The directories that are searched; without the variable there are none.
-pub(crate) fn modulepath(env: &Env) -> &str
+pub fn modulepath(env: &Env) -> &str
     ensures { result.now ≡ modulepath env.now }
 {
     env.get(MODULEPATH).unwrap_or("")
@@ -106,8 +106,8 @@ pub fn is_available<T: Tree>(
     is_one_found(alloc, tree, modulepath(env), names, limits)
 }
 
-/// Whether the search finds a module for one of the names where something can't be read: again and again, each time
-/// without what couldn't be read the time before.
+/// Whether the search finds a module for one of the names where something can't be read: once, and again where what was
+/// seen before can't be read any more.
 fn is_one_found_without<T: Tree + Drop>(
     alloc: Global,
     tree: &mut HidingTree<T>,
@@ -126,7 +126,7 @@ fn is_one_found_without<T: Tree + Drop>(
         match is_one_found(alloc, tree, modulepath, names, limits) {
             Err(ListingFault::Device) => {
                 if !tree.hide_failed()? {
-                    return Err(ListingFault::OutOfMemory);
+                    return Err(ListingFault::Device);
                 }
             }
             answer => return answer,

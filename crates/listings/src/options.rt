@@ -1,11 +1,12 @@
 //! The options of `avail` and `list`, and the texts behind them.
-ghost use Rattle.std.specs.Prelude.{◌≡◌, map, true, string_bytes, IfErr};
+ghost use Rattle.std.specs.Prelude.{◌≡◌, map, true, string_bytes, IfErr, MatchResult, Ok, Err};
 ghost use Rattle.message.specs.Answers.{Gives};
 ghost use Rattle.listings.specs.Faults.{has_reason, reason_of};
 ghost use Rattle.listings.specs.Options as spec;
 ghost use Rattle.listings.specs.Views.{words_view};
 
 use crate::fault::ListingFault;
+use subcommands::{CommandOption, Subcommand, option_of};
 
 /// Which versions of each module are listed.
 #[derive(Clone, Copy)]
@@ -44,45 +45,51 @@ impl Options {
         }
     }
 
-    /// The same with one name a line.
-    fn in_lines(self) -> Options
-        ensures { result ≡ record self { lines = true } }
+    /// The same with an option of a report; the other options are none of its own.
+    fn with(self, option: CommandOption) -> Options
+        ensures { result ≡ spec.with_option option self }
     {
-        Options {
-            lines: true,
-            ..self
+        let mut options = self;
+        match option {
+            CommandOption::Lines => options.lines = true,
+            CommandOption::Default => options.versions = Versions::Default,
+            CommandOption::Latest => options.versions = Versions::Latest,
+            CommandOption::Within => options.within = true,
+            CommandOption::AnyCase => options.any_case = true,
+            CommandOption::Automatic | CommandOption::Behind | CommandOption::InFront => {}
         }
-    }
-
-    /// The same with these versions.
-    fn of_versions(self, versions: Versions) -> Options
-        ensures { result ≡ record self { versions = versions } }
-    {
-        Options { versions, ..self }
-    }
-
-    /// The same with texts anywhere in names.
-    fn within_names(self) -> Options
-        ensures { result ≡ record self { within = true } }
-    {
-        Options {
-            within: true,
-            ..self
-        }
-    }
-
-    /// The same with texts in any case.
-    fn in_any_case(self) -> Options
-        ensures { result ≡ record self { any_case = true } }
-    {
-        Options {
-            any_case: true,
-            ..self
-        }
+        options
     }
 }
 
-/// The options and the texts of `avail`: options stand first, of `-d` and `-L` the last counts, and `--` ends them.
+/// The options of a report, and the texts behind them: options stand first, and `--` ends them. It fails with the first
+/// option that the subcommand doesn't have.
+fn words_of<'a>(
+    subcommand: Subcommand,
+    options: Options,
+    words: &'a [String],
+) -> Result<(Options, &'a [String]), &'a str>
+    ensures { MatchResult result
+        (λ found. spec.words_of subcommand options (map string_bytes words.entry.now) ≡ Ok (words_view found))
+        (λ word. spec.words_of subcommand options (map string_bytes words.entry.now) ≡ Err word.now) }
+{
+    let [first, rest @ ..] = words else {
+        return Ok((options, words));
+    };
+    let word = first.as_str();
+    if word == "--" {
+        return Ok((options, rest));
+    }
+    if let Some(option) = option_of(subcommand, word) {
+        return words_of(subcommand, options.with(option), rest);
+    }
+    if word.starts_with('-') {
+        return Err(word);
+    }
+    Ok((options, words))
+}
+
+/// The options and the texts of `avail`, of whose options `-d` and `-L` the last counts.
 pub(crate) fn avail_words<'a>(
     options: Options,
     words: &'a [String],
@@ -90,26 +97,13 @@ pub(crate) fn avail_words<'a>(
     ensures words { Gives reason_of words_view result (spec.avail_words options (map string_bytes words.entry.now)) }
     ensures reason { IfErr result (λ fault. has_reason fault ≡ true) }
 {
-    let [word, rest @ ..] = words else {
-        return Ok((options, words));
-    };
-    match word.as_str() {
-        "--" => Ok((options, rest)),
-        "-t" | "--terse" => avail_words(options.in_lines(), rest),
-        "-d" | "--default" => avail_words(options.of_versions(Versions::Default), rest),
-        "-L" | "--latest" => avail_words(options.of_versions(Versions::Latest), rest),
-        "-C" | "--contains" => avail_words(options.within_names(), rest),
-        "-i" | "--icase" => avail_words(options.in_any_case(), rest),
-        other => {
-            if other.starts_with('-') {
-                return Err(ListingFault::NoAvailOption(other));
-            }
-            Ok((options, words))
-        }
+    match words_of(Subcommand::Avail, options, words) {
+        Ok(found) => Ok(found),
+        Err(word) => Err(ListingFault::NoAvailOption(word)),
     }
 }
 
-/// The options and the texts of `list`: `-t` may stand first, and `--` ends the options.
+/// The options and the texts of `list`.
 pub(crate) fn list_words<'a>(
     options: Options,
     words: &'a [String],
@@ -117,17 +111,8 @@ pub(crate) fn list_words<'a>(
     ensures words { Gives reason_of words_view result (spec.list_words options (map string_bytes words.entry.now)) }
     ensures reason { IfErr result (λ fault. has_reason fault ≡ true) }
 {
-    let [word, rest @ ..] = words else {
-        return Ok((options, words));
-    };
-    match word.as_str() {
-        "--" => Ok((options, rest)),
-        "-t" | "--terse" => list_words(options.in_lines(), rest),
-        other => {
-            if other.starts_with('-') {
-                return Err(ListingFault::NoListOption(other));
-            }
-            Ok((options, words))
-        }
+    match words_of(Subcommand::List, options, words) {
+        Ok(found) => Ok(found),
+        Err(word) => Err(ListingFault::NoListOption(word)),
     }
 }

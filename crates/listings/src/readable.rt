@@ -12,15 +12,15 @@ use std::alloc::Global;
 
 /// The modules along a MODULEPATH, but for what can't be read.
 #[derive(Drop)]
-pub(crate) struct ReadableModules {
+pub struct ReadableModules {
     /// The modules of each directory.
     pub listings: Vec<DirectoryListing>,
     /// The paths that can't be read.
     pub unreadable: Vec<String>,
 }
 
-/// Lists the modules that texts select, where something can't be read: again and again, each time without what couldn't
-/// be read the time before.
+/// Lists the modules that texts select, where something can't be read: once, and again where what was seen before can't
+/// be read any more.
 fn list_without<T: Tree + Drop, D: DefaultFiles>(
     alloc: Global,
     tree: &mut HidingTree<T>,
@@ -45,7 +45,7 @@ fn list_without<T: Tree + Drop, D: DefaultFiles>(
             Err(TreeFault::OutOfMemory) => return Err(TreeFault::OutOfMemory),
             Err(TreeFault::Device) => {
                 if !tree.hide_failed()? {
-                    return Err(TreeFault::OutOfMemory);
+                    return Err(TreeFault::Device);
                 }
             }
         }
@@ -56,7 +56,7 @@ fn list_without<T: Tree + Drop, D: DefaultFiles>(
 /// The modules along a MODULEPATH that texts select, as `search::selected` has them, but without what can't be read.
 ///
 /// It fails with `Device` only where the device failed at more than a thousand paths, and for want of memory.
-pub(crate) fn readable_modules<T: Tree + Drop, D: DefaultFiles>(
+pub fn readable_modules<T: Tree + Drop, D: DefaultFiles>(
     alloc: Global,
     tree: &mut HidingTree<T>,
     default_files: &D,

@@ -11,10 +11,7 @@ use modules::STANDARD_LIMITS;
 use requests::last_meant;
 use shelltext::Shell;
 use std::process::ExitCode;
-use subcommands::{Subcommand, WordFault, subcommand_of};
-
-/// The option that automates one command.
-const AUTO: &str = "--auto";
+use subcommands::{CommandOption, Subcommand, WordFault, option_of, subcommand_of};
 
 /// The variable that is `1` where each load and unload is automated.
 const AUTO_HANDLING: &str = "MODULES_AUTO_HANDLING";
@@ -25,11 +22,17 @@ fn is_set(given: &Given) -> bool {
 }
 
 /// Whether a subcommand with these words is automated, and the names among the words.
-fn names_in<'a>(given: &Given, words: &'a [String]) -> (bool, &'a [String]) {
-    match words {
-        [first, names @ ..] if first.as_str() == AUTO => (true, names),
-        names => (is_set(given), names),
+fn names_in<'a>(
+    given: &Given,
+    subcommand: Subcommand,
+    words: &'a [String],
+) -> (bool, &'a [String]) {
+    if let [first, names @ ..] = words {
+        if let Some(CommandOption::Automatic) = option_of(subcommand, first.as_str()) {
+            return (true, names);
+        }
     }
+    (is_set(given), words)
 }
 
 /// The first of the words that begins with a hyphen: it is taken for an option, and never for the name of a module.
@@ -150,7 +153,7 @@ fn do_automatic(
     given: &Given,
     words: &[String],
 ) -> Option<ExitCode> {
-    let (is_automatic, names) = names_in(given, words);
+    let (is_automatic, names) = names_in(given, subcommand, words);
     if let Some(option) = option_in(names) {
         return Some(refused(rt, option));
     }

@@ -3,9 +3,10 @@
 
 use crate::given::Given;
 use collectionfiles::{DiskStorage, list_collections};
-use completions::{NameKind, caller_named, kind_named, kinds_at, names_of, read_line};
+use completions::{Caller, NameKind, caller_named, kind_named, kinds_at, names_offered, read_line};
 use envvars::Vars;
 use filetree::DiskTree;
+use hidingtree::HidingTree;
 use modules::STANDARD_LIMITS;
 use std::io::Write;
 use std::process::ExitCode;
@@ -31,30 +32,24 @@ fn write_collections(rt: &HostRuntime, given: &Given) {
     }
 }
 
-/// Writes the names of a kind, of which those of modules that can be loaded begin with a word.
-fn write_kind(rt: &HostRuntime, given: &Given, kind: NameKind, word: &str) {
-    if kind == NameKind::Collections {
+/// Writes the names of some kinds, of which those of modules that can be loaded begin with a word. Collections stand alone.
+fn write_kinds(rt: &HostRuntime, given: &Given, kinds: &[NameKind], word: &str) {
+    if let [NameKind::Collections] = kinds {
         return write_collections(rt, given);
     }
-    let mut tree = DiskTree::new(rt);
-    if let Ok(names) = names_of(
-        rt.alloc(),
-        kind,
-        &given.env,
-        word,
-        &mut tree,
-        STANDARD_LIMITS,
-    ) {
+    let alloc = rt.alloc();
+    let mut tree = HidingTree::new(alloc, DiskTree::new(rt));
+    if let Ok(names) = names_offered(alloc, kinds, &given.env, word, &mut tree, STANDARD_LIMITS) {
         for name in &names {
             write_name(rt, name.as_str());
         }
     }
 }
 
-/// Writes the names of some kinds.
-fn write_kinds(rt: &HostRuntime, given: &Given, kinds: &[NameKind], word: &str) {
-    for kind in kinds {
-        write_kind(rt, given, *kind, word);
+/// Writes what can stand where a word is typed, behind these words of a command.
+fn write_at(rt: &HostRuntime, given: &Given, caller: Caller, before: &[String], word: &str) {
+    if let Ok(kinds) = kinds_at(rt.alloc(), caller, before, word) {
+        write_kinds(rt, given, &kinds, word);
     }
 }
 
@@ -63,16 +58,14 @@ fn write_place(rt: &HostRuntime, given: &Given, caller: &str, words: &[String]) 
     let ([before @ .., word], Some(caller)) = (words, caller_named(caller)) else {
         return;
     };
-    let kinds = kinds_at(caller, before, word.as_str());
-    write_kinds(rt, given, kinds, word.as_str());
+    write_at(rt, given, caller, before, word.as_str());
 }
 
 /// Writes what can stand at the end of the line in COMMAND_LINE.
 fn write_line(rt: &HostRuntime, given: &Given) {
     let line = given.env.get(COMMAND_LINE).unwrap_or("");
     if let Ok(Some(line)) = read_line(rt.alloc(), line) {
-        let kinds = kinds_at(line.caller, line.before.as_slice(), line.word.as_str());
-        write_kinds(rt, given, kinds, line.word.as_str());
+        write_at(rt, given, line.caller, &line.before, &line.word);
     }
 }
 
@@ -83,7 +76,7 @@ fn write_named(rt: &HostRuntime, given: &Given, name: &str, words: &[String]) {
         [] => "",
     };
     if let Some(kind) = kind_named(name) {
-        write_kind(rt, given, kind, word);
+        write_kinds(rt, given, &[kind], word);
     }
 }
 

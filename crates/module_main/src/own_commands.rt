@@ -96,7 +96,7 @@ fn write_directories(rt: &HostRuntime, path: &str) -> Result<(), Refusal> {
         return Ok(());
     };
     let directories = site_directories(rt.alloc(), text)?;
-    match rt.stdout().write_all(directories.as_bytes()) {
+    match rt.stdout().write_all(&directories) {
         Ok(()) => Ok(()),
         Err(_) => Err(Refusal::WriteFailed),
     }

@@ -1,4 +1,5 @@
 pub mod Subcommands
+pub mod Options
 pub mod Views
 pub mod Nearness
 pub mod Meanings

@@ -1,4 +1,4 @@
-//! The subcommands of `module`, and which of them a word means (module(1)).
+//! The subcommands of `module`, their options, what words mean (module(1)).
 //! Touches nothing and takes no memory.
 #![tactic(auto)]
 
@@ -6,10 +6,12 @@ mod fault;
 mod laws;
 mod meaning;
 mod nearness;
+mod options;
 mod table;
 
 pub use fault::WordFault;
 pub use laws::words_mean;
 pub use meaning::subcommand_of;
 pub use nearness::differ_by_one;
-pub use table::Subcommand;
+pub use options::{CommandOption, OptionName, option_of, options_of};
+pub use table::{Subcommand, SubcommandName, subcommand_names};

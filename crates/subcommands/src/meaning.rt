@@ -9,55 +9,57 @@ ghost use Rattle.subcommands.specs.Views.{row_view};
 
 use crate::fault::WordFault;
 use crate::nearness::differ_by_one;
-use crate::table::{Row, Subcommand, rows};
+use crate::table::{Subcommand, SubcommandName, subcommand_names};
 
 /// Whether the name of the row begins with the word.
-fn begins(word: &str, row: &Row) -> bool
+fn begins(word: &str, row: &SubcommandName) -> bool
     ensures { result ≡ begins word.now (row_view row.now) }
 {
     row.name.as_bytes().starts_with(word.as_bytes())
 }
 
 /// Whether the name of the row doesn't begin with the word, or is one of this subcommand.
-fn leaves(word: &str, subcommand: Subcommand, row: &Row) -> bool
+fn leaves(word: &str, subcommand: Subcommand, row: &SubcommandName) -> bool
     ensures { result ≡ spec.leaves word.now subcommand (row_view row.now) }
 {
     !begins(word, row) || row.subcommand.name() == subcommand.name()
 }
 
 /// Whether the name of the row is near the word.
-fn is_near(word: &str, row: &Row) -> bool
+fn is_near(word: &str, row: &SubcommandName) -> bool
     ensures { result ≡ spec.is_near word.now (row_view row.now) }
 {
     differ_by_one(word.as_bytes(), row.name.as_bytes())
 }
 
 /// The row whose name is the word.
-fn named(word: &str) -> Option<&'static Row>
+fn named(word: &str) -> Option<&'static SubcommandName>
     ensures { option_map row_view (option_copied result) ≡ find (is_named word.now) rows }
 {
-    rows().iter().find(|row| word == row.name)
+    subcommand_names().iter().find(|row| word == row.name)
 }
 
 /// The first row whose name begins with the word.
-fn begun(word: &str) -> Option<&'static Row>
+fn begun(word: &str) -> Option<&'static SubcommandName>
     ensures { option_map row_view (option_copied result) ≡ find (begins word.now) rows }
 {
-    rows().iter().find(|row| begins(word, row))
+    subcommand_names().iter().find(|row| begins(word, row))
 }
 
 /// The first row whose name is near the word.
-fn nearest(word: &str) -> Option<&'static Row>
+fn nearest(word: &str) -> Option<&'static SubcommandName>
     ensures { option_map row_view (option_copied result) ≡ spec.nearest word.now }
 {
-    rows().iter().find(|row| is_near(word, row))
+    subcommand_names().iter().find(|row| is_near(word, row))
 }
 
 /// Whether each name that begins with the word is one of this subcommand.
 fn is_alone(word: &str, subcommand: Subcommand) -> bool
     ensures { result ≡ spec.is_alone word.now subcommand }
 {
-    rows().iter().all(|row| leaves(word, subcommand, row))
+    subcommand_names()
+        .iter()
+        .all(|row| leaves(word, subcommand, row))
 }
 
 /// Why a word that begins no name means nothing.

@@ -63,8 +63,10 @@ impl Subcommand {
 
 /// A name, and the subcommand that it is a name of.
 #[derive(Clone, Copy)]
-pub(crate) struct Row {
+pub struct SubcommandName {
+    /// The name.
     pub name: &'static str,
+    /// The subcommand.
     pub subcommand: Subcommand,
 }
 
@@ -108,14 +110,14 @@ macro_rules! table {
 }
 
 macro_rules! rows {
-    ($($name:literal => $subcommand:expr,)*) => { [$(Row { name: $name, subcommand: $subcommand }),*] };
+    ($($name:literal => $subcommand:expr,)*) => { [$(SubcommandName { name: $name, subcommand: $subcommand }),*] };
 }
 
-const ROWS: [Row; 31] = table!(rows);
+const ROWS: [SubcommandName; 31] = table!(rows);
 
 /// The names of all subcommands.
 #[tactic(auto, unfolding(crate::specs::Subcommands::rows))]
-pub(crate) fn rows() -> &'static [Row]
+pub fn subcommand_names() -> &'static [SubcommandName]
     ensures { map row_view result.now ≡ spec.rows }
 {
     &ROWS

@@ -10,6 +10,6 @@ pub returns-in_default-2-clause-answer : goal.returns-in_default-2-clause-answer
 returns-in_default-2-clause-answer g c =
     let tree = c.is_one_found.new.tree in
     let texts : List (String Global) → List Text = λ l. map (λ (s : String Global). string_bytes s) l in
-    found_without c.is_one_found.result (texts tree.hidden.items) (g.T.Tree.failures tree.tree) (g.T.Tree.agrees tree.tree)
+    found_without c.is_one_found.result (texts tree.hidden.items) (texts tree.seen.items) (g.T.Tree.failures tree.tree) (g.T.Tree.agrees tree.tree)
     (λ files folders found. IsOneFound (HasResult c.args.limits) files folders c.args.modulepath.now (texts c.args.names.now) found)
-    (omega (arith, length-map tree.hidden.items (λ (s : String Global). string_bytes s), tree.counted)) c.is_one_found.ensures.answer
+    tree.apart (omega (arith, length-map tree.hidden.items (λ (s : String Global). string_bytes s), tree.counted)) c.is_one_found.ensures.answer

@@ -5,12 +5,12 @@ use Rattle.std.proofs.lemmas.Iterator.{YieldsList-from_slice}
 use Rattle.std.proofs.lemmas.List.Folds.{list_all-map}
 use Rattle.subcommands.specs.Meanings.{leaves}
 use Rattle.subcommands.specs.Views.{row_view}
-use Rattle.subcommands.specs.declared.table.Row.{Row}
+use Rattle.subcommands.specs.declared.table.SubcommandName.{SubcommandName}
 use Rattle.subcommands.proofs.meaning.is_alone.Goals as goal
 
 pub returns : goal.returns
 returns c =
-    all_from_yields_List (λ (x : Row). leaves c.args.word.now c.args.subcommand (row_view x)) _ _
-    c.all.result c.all.ensures.ran (YieldsList-from_slice c.rows.result.now cc) (λ x b q k. search (rules, tests))
-    ∙ (sym (list_all-map (leaves c.args.word.now c.args.subcommand) row_view c.rows.result.now)
-    ∙ ap (list_all (leaves c.args.word.now c.args.subcommand)) c.rows.ensures)
+    all_from_yields_List (λ (x : SubcommandName). leaves c.args.word.now c.args.subcommand (row_view x)) _ _
+    c.all.result c.all.ensures.ran (YieldsList-from_slice c.subcommand_names.result.now cc) (λ x b q k. search (rules, tests))
+    ∙ (sym (list_all-map (leaves c.args.word.now c.args.subcommand) row_view c.subcommand_names.result.now)
+    ∙ ap (list_all (leaves c.args.word.now c.args.subcommand)) c.subcommand_names.ensures)

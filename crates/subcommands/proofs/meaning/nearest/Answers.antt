@@ -3,13 +3,13 @@ use Rattle.std.proofs.lemmas.Iterator.Search.{find_from_yields_List}
 use Rattle.std.proofs.lemmas.Iterator.{YieldsList-from_slice}
 use Rattle.subcommands.specs.Meanings.{is_near}
 use Rattle.subcommands.specs.Views.{row_view}
-use Rattle.subcommands.specs.declared.table.Row.{Row}
+use Rattle.subcommands.specs.declared.table.SubcommandName.{SubcommandName}
 use Rattle.subcommands.proofs.RowLemmas.{find_seen}
 use Rattle.subcommands.proofs.meaning.nearest.Goals as goal
 
 pub returns : goal.returns
 returns c =
-    find_seen (is_near c.args.word.now) row_view c.rows.result.now _ c.find.result
-    (find_from_yields_List (λ (x : Row). is_near c.args.word.now (row_view x)) _ _ c.find.result c.find.ensures.ran
-    (YieldsList-from_slice c.rows.result.now cc) (λ x b q k. search (rules, tests)))
-    c.rows.ensures
+    find_seen (is_near c.args.word.now) row_view c.subcommand_names.result.now _ c.find.result
+    (find_from_yields_List (λ (x : SubcommandName). is_near c.args.word.now (row_view x)) _ _ c.find.result c.find.ensures.ran
+    (YieldsList-from_slice c.subcommand_names.result.now cc) (λ x b q k. search (rules, tests)))
+    c.subcommand_names.ensures

@@ -2,10 +2,10 @@ use Rattle.std.proofs.Common.{rules, tests, string_bytes, bytes_eq, String, Glob
 use Rattle.std.proofs.lemmas.Iterator.Search.{any_from_yields_List}
 use Rattle.std.proofs.lemmas.Iterator.{YieldsList-from_slice}
 use Rattle.hidingtree.proofs.HidingLemmas.{any_seen}
-use Rattle.hidingtree.proofs.hiding.HidingTree.is_hidden.Goals as goal
+use Rattle.hidingtree.proofs.hiding.is_among.Goals as goal
 
 pub returns : goal.returns
-returns g c =
+returns c =
     any_from_yields_List (λ (s : String Global). bytes_eq c.args.path.now (string_bytes s)) _ _ c.any.result
-    c.any.ensures.ran (YieldsList-from_slice c.deref.result.now cc) (λ x b q k. search (rules, tests))
-    ∙ rw (c.deref.ensures.value) (any_seen (bytes_eq c.args.path.now) (λ (s : String Global). string_bytes s) c.args.self.now.hidden.items)
+    c.any.ensures.ran (YieldsList-from_slice c.args.paths.now cc) (λ x b q k. search (rules, tests))
+    ∙ any_seen (bytes_eq c.args.path.now) (λ (s : String Global). string_bytes s) c.args.paths.now
