@@ -42,7 +42,7 @@ use Rattle.sitelaws.proofs.Unloaded.{of_live}
 
 -- the live module is one of the settled ones, and the start has the values that it reads
 abbrev IsSettledLive : Site → List SettledModule → Environment → Module → Type 0
-IsSettledLive site ss start l = (s : SettledModule) × IsAmong s ss × (s.module ≡ l) × AreAlike s.reads site.env start
+IsSettledLive site ss start l = (s : SettledModule) × IsAmong s ss × (s.the_module ≡ l) × AreAlike s.reads site.env start
 
 abbrev AreSettledLive : Site → List SettledModule → Environment → List Module → Type 0
 AreSettledLive site ss start [] = Unit {0}
@@ -74,9 +74,9 @@ not_used : (site : Site) (ss : List SettledModule) (s : SettledModule) (start : 
     → AreSettledLive site ss start live → has v s.reads ≡ true → uses_by live v ≡ Untouched
 not_used site ss s start live v a apart settled h = by_cases (first_or_none v (used_by_modules live))
     (λ i. let u = user_of v (first_use v (used_by_modules live)) live i in
-        let (t, among, same, alike) = live_one site ss start live u.user settled u.there in
-        absurd (apart s t v (first_use v (used_by_modules live)) a among h
-            (subst (λ (m : Module). Uses m.records v (first_use v (used_by_modules live))) (sym same) u.uses)))
+    let (t, among, same, alike) = live_one site ss start live u.user settled u.there in
+    absurd (apart s t v (first_use v (used_by_modules live)) a among h
+    (subst (λ (m : Module). Uses m.records v (first_use v (used_by_modules live))) (sym same) u.uses)))
     (λ n. n.untouched)
 
 of_user : (site : Site) (m : SiteModule) (rs : List Record) (reads : List Text) (v : Text) → HasSettledRecords site m rs reads → has v reads ≡ true → IsOfUser v
@@ -86,7 +86,7 @@ of_user site m rs reads v p h =
 as_start : (site : Site) (ss : List SettledModule) (s : SettledModule) (start old : Environment) (live : List Module) → AreSettled site ss → AreReadApart ss
     → IsAmong s ss → AreSettledLive site ss start live → IsStartWith (uses_by live) start live old → AreAlike s.reads site.env start → AreAlike s.reads site.env old
 as_start site ss s start old live all apart a settled over alike v h =
-    by_cases (of_user site (file_of s.module) s.module.records s.reads v (all s a) h)
+    by_cases (of_user site (file_of s.the_module) s.the_module.records s.reads v (all s a) h)
     (λ editable. value_untouched start old v live (uses_by live v) (not_used site ss s start live v a apart settled h) (over.variables v editable))
     (λ other. over.others v other)
     ∙ alike v h
@@ -100,21 +100,21 @@ is_move (Unloads m) = refl
 same_file : (m c : Module) → c.name ≡ m.name → c.path ≡ m.path → file_of c ≡ file_of m
 same_file m c name path = λ i. record { name = name i; path = path i }
 
-move_records : SettledRecordsAreAll → (site : Site) (m : Move) (s : SettledModule) (old : Environment) → HasSettledRecords site (file_of s.module) s.module.records s.reads
-    → s.module.name ≡ (moves.module_of_move m).name → s.module.path ≡ (moves.module_of_move m).path → IsFromAt (over_site site) m old → AreAlike s.reads site.env old
-    → (moves.module_of_move m).records ≡ s.module.records
+move_records : SettledRecordsAreAll → (site : Site) (m : Move) (s : SettledModule) (old : Environment) → HasSettledRecords site (file_of s.the_module) s.the_module.records s.reads
+    → s.the_module.name ≡ (moves.module_of_move m).name → s.the_module.path ≡ (moves.module_of_move m).path → IsFromAt (over_site site) m old → AreAlike s.reads site.env old
+    → (moves.module_of_move m).records ≡ s.the_module.records
 move_records law site m s old p name path (ran, left, is, before, mode) alike =
     let moved_module : Module = moves.module_of_move m in
-    is ∙ law site (file_of moved_module) s.module.records s.reads ran left
-    (subst (λ (f : SiteModule). HasSettledRecords site f s.module.records s.reads) (same_file moved_module s.module name path) p)
+    is ∙ law site (file_of moved_module) s.the_module.records s.reads ran left
+    (subst (λ (f : SiteModule). HasSettledRecords site f s.the_module.records s.reads) (same_file moved_module s.the_module name path) p)
     (ap is_changing mode ∙ is_move m)
     (subst (λ (e : Environment). AreAlike s.reads site.env e) (sym before) alike)
 
 -- ---- moves
 
-among_modules : (ss : List SettledModule) (s : SettledModule) → IsAmong s ss → IsAmong s.module (modules_of ss)
+among_modules : (ss : List SettledModule) (s : SettledModule) → IsAmong s ss → IsAmong s.the_module (modules_of ss)
 among_modules [] s a = absurd a
-among_modules (t ∷ ss) s (inl e) = inl (ap (λ (x : SettledModule). x.module) e)
+among_modules (t ∷ ss) s (inl e) = inl (ap (λ (x : SettledModule). x.the_module) e)
 among_modules (t ∷ ss) s (inr a) = inr (among_modules ss s a)
 
 settled_certified : CertifiedAreExact → EntriesHaveConflicts → CertifiedMovesPreserve → SettledRecordsAreAll
@@ -128,8 +128,8 @@ settled_certified exact conflicts preserve law site ss live start old new (Loads
     let first = list_in_order start layered.begins.order.loaded in
     let now = as_start site ss s start old live all apart among settled layered.start_with_live alike in
     let records = move_records law site (Loads m) s old (all s among) name path from now in
-    let same : s.module ≡ m = same_parts m s.module name path (sym records) in
-    let is_certain : IsCertified (modules_of ss) m = subst (IsCertified (modules_of ss)) same ((exact (modules_of ss) s.module).0 certain) in
+    let same : s.the_module ≡ m = same_parts m s.the_module name path (sym records) in
+    let is_certain : IsCertified (modules_of ss) m = subst (IsCertified (modules_of ss)) same ((exact (modules_of ss) s.the_module).0 certain) in
     let agreeing : AgreesWith (used_by m.records) start = subst (λ (x : Module). AgreesWith (used_by x.records) start) same agrees in
     let free = none_in_conflict conflicts site start old live m first.0 first.1 layered.start_with_live admitted in
     let h = preserve (modules_of ss) start old mid live (Loads m ∷ []) layered (is_certain, agreeing, free, tt) (fits, (mid, move, refl)) in (
