@@ -1,39 +1,30 @@
 -- Sessions of certified modules that ask only what rests, by the law of moves.
-use Rattle.std.proofs.Common.{◌≡◌, ◌⊎◌, inl, inr, ⊎_elim, Bool, true, false, cond, List, [], ◌∷◌, ◌++◌, map, Some, Ok, refl, ap, sym, ◌∙◌}
+use Rattle.std.proofs.Common.{◌≡◌, inl, inr, Bool, true, false, cond, List, [], ◌∷◌, ◌++◌, refl, ap, sym, ◌∙◌}
 use Rattle.std.proofs.Common.{subst}
 use Rattle.std.specs.Prelude.{bytes_eq}
-use Rattle.std.specs.List.{list_all}
 use Rattle.envvars.specs.Texts.{Text, has}
 use Rattle.envvars.specs.Environment.{Environment, lookup}
-use Rattle.envstate.specs.Roles.{role_of, is_editable}
-use Rattle.envstate.specs.Roles.VariableRole.{Other}
 use Rattle.envstate.proofs.StateLemmas.{list_in_order}
-use Rattle.modulefile.specs.Effects as modes
-use Rattle.modulefile.specs.Effects.{Mode}
 use Rattle.modulefile.specs.Records.{Record}
-use Rattle.modulefile.specs.Moves.{Module, Move, Loads, Unloads, Fits, moved, MovesReach}
-use Rattle.modulefile.specs.Files.{Ran}
+use Rattle.modulefile.specs.Moves.{Module, Move, Loads, Unloads, module_of_move, MovesReach}
 use Rattle.reversal.specs.VariableUses.{VariableUse, Untouched}
 use Rattle.reversal.specs.Starts.{HasVariable, IsStartWith}
-use Rattle.reversal.specs.Requests as moves
 use Rattle.reversal.specs.Undone.{undo_of}
 use Rattle.reversal.specs.Runs.{without_live, Undoes}
-use Rattle.requests.specs.Requests.{Request}
-use Rattle.requests.specs.PlainRuns.{HasEvaluatedTo}
-use Rattle.requests.specs.Sessions.{Response, Session, end_environment, session_moves}
-use Rattle.requests.specs.Returning.{IsNew, AreNew}
+use Rattle.requests.specs.Sessions.{end_environment, session_moves}
+use Rattle.requests.specs.Returning.{AreNew}
 use Rattle.requests.specs.Laws.{SessionsReach}
 use Rattle.sitecertificate.specs.RecordUses.{IsAmong, Uses, used_by, used_by_modules, first_use, uses_by}
-use Rattle.sitecertificate.specs.Certificates.{IsCertified, certified, AgreesWith}
+use Rattle.sitecertificate.specs.Certificates.{IsCertified, AgreesWith}
 use Rattle.sitecertificate.specs.Laws.{CertifiedAreExact, AreCertified, EntriesHaveConflicts, AreLayered}
 use Rattle.sitecertificate.specs.Laws.{CertifiedMovesPreserve, NoneIsLayered}
 use Rattle.sitecertificate.proofs.UsedLemmas.{by_cases, first_or_none, user_of}
-use Rattle.settled.specs.Resting.{variables_read, is_changing, AreAlike}
+use Rattle.settled.specs.Resting.{is_changing, AreAlike}
 use Rattle.settled.proofs.Rests.{IsOfUser, resting_parts}
 use Rattle.settled.proofs.ReadVariables.{read_rests}
 use Rattle.sitelaws.specs.Sites.{Site, SiteModule, over_site, file_of}
 use Rattle.sitelaws.specs.SettledSites.{HasSettledRecords, SettledModule, modules_of, AreSettled, AreReadApart}
-use Rattle.sitelaws.specs.SettledSites.{SettledRecordsAreAll, IsOneSettled, LoadsAreSettled, SettledSessionsReturn}
+use Rattle.sitelaws.specs.SettledSites.{SettledRecordsAreAll, LoadsAreSettled, SettledSessionsReturn}
 use Rattle.sitelaws.proofs.Admissions.{mode_of, IsFromAt, TracedReach, session_traced}
 use Rattle.sitelaws.proofs.Returned.{same_parts, none_in_conflict, named_among, same_env, front_session, moves_parts, front_new}
 use Rattle.sitelaws.proofs.Unloaded.{of_live}
@@ -101,10 +92,10 @@ same_file : (m c : Module) → c.name ≡ m.name → c.path ≡ m.path → file_
 same_file m c name path = λ i. record { name = name i; path = path i }
 
 move_records : SettledRecordsAreAll → (site : Site) (m : Move) (s : SettledModule) (old : Environment) → HasSettledRecords site (file_of s.the_module) s.the_module.records s.reads
-    → s.the_module.name ≡ (moves.module_of_move m).name → s.the_module.path ≡ (moves.module_of_move m).path → IsFromAt (over_site site) m old → AreAlike s.reads site.env old
-    → (moves.module_of_move m).records ≡ s.the_module.records
+    → s.the_module.name ≡ (module_of_move m).name → s.the_module.path ≡ (module_of_move m).path → IsFromAt (over_site site) m old → AreAlike s.reads site.env old
+    → (module_of_move m).records ≡ s.the_module.records
 move_records law site m s old p name path (ran, left, is, before, mode) alike =
-    let moved_module : Module = moves.module_of_move m in
+    let moved_module : Module = module_of_move m in
     is ∙ law site (file_of moved_module) s.the_module.records s.reads ran left
     (subst (λ (f : SiteModule). HasSettledRecords site f s.the_module.records s.reads) (same_file moved_module s.the_module name path) p)
     (ap is_changing mode ∙ is_move m)
