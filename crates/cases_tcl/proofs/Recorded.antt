@@ -3,7 +3,7 @@ use Rattle.std.proofs.Common.{◌≡◌, ◌<◌, true, false, List, [], ◌∷�
 use Rattle.std.proofs.Common.{◌∙◌, arith, Some}
 use Rattle.std.specs.Prelude.{string_bytes, codes, bytes_eq}
 use Rattle.message.specs.Messages.{Text}
-use Rattle.tclrules.specs.Oracle.{CommandWords, NewRecord, Message, Done}
+use Rattle.tclrules.specs.Oracle.{CommandWords, Nothing, NewRecord, Message, Done}
 use Rattle.tclrules.specs.Recording.{message_in, named_answer, answer_of}
 
 named : (mode : Text) (r : List CommandWords) (ws : List (String Global)) (n : String Global) → 0 < length ws
@@ -22,3 +22,9 @@ pub put_answer : (mode : Text) (r : List CommandWords) (ws : List (String Global
     → bytes_eq (string_bytes n) (codes "puts") ≡ true → Some m ≡ message_in (map string_bytes ws)
     → answer_of mode r (map string_bytes ws) ≡ Done [] (Message m) false
 put_answer mode r ws n m h e t u g = named mode r ws n h e ∙ (rw (t, u, ← g) refl)
+
+pub mode_answer : (mode : Text) (r : List CommandWords) (ws : List (String Global)) (n : String Global) → 0 < length ws
+    → n ≡ get_or ws 0 n → bytes_eq (string_bytes n) (codes "setenv") ≡ false
+    → bytes_eq (string_bytes n) (codes "puts") ≡ false → bytes_eq (string_bytes n) (codes "mode") ≡ true
+    → answer_of mode r (map string_bytes ws) ≡ Done mode Nothing true
+mode_answer mode r ws n h e t u w = named mode r ws n h e ∙ (rw (t, u, w) refl)

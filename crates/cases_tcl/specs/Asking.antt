@@ -1,6 +1,6 @@
 -- What the example host was asked (own): its mode never changes, nor does its environment.
 use Rattle.std.specs.Prelude.{true, map, string_bytes}
-use Rattle.tclchars.specs.Runs.{Text}
+use Rattle.message.specs.Messages.{Text}
 use Rattle.tclrules.specs.Oracle.{Question, OfCommand, OfVariable, Done, Nothing}
 use Rattle.tclrules.specs.Variables.{Variables, lookup}
 use Rattle.cases_tcl.specs.declared.recorder.Asked.{Asked}

@@ -40,9 +40,9 @@ some_verdict file left s e name =
     some_is (Ok (verdict_of ran)))))
 
 -- where no question was found nothing was asked
-nothing_asked : (asked : List Question) → any_question asked ≡ false → asked ≡ []
+nothing_asked : (qs : List Question) → any_question qs ≡ false → qs ≡ []
 nothing_asked [] h = refl
-nothing_asked (q ∷ asked) h = absurd (cc)
+nothing_asked (q ∷ qs) h = absurd (cc)
 
 plain_parts : (a r : Bool) → plain ≡ (if a then asked else if r then plain else one_way) → (a ≡ false) × (r ≡ true)
 plain_parts true r e = absurd (cc)

@@ -1,8 +1,7 @@
 -- What was asked was answered by the oracle, after some of the commands.
 use Rattle.std.proofs.Common.{◌≡◌, ℕ, Bool, true, false, if◌then◌else◌, List, [], ◌∷◌, ◌++◌, ◌⊎◌, ⊎_elim, inl, inr}
-use Rattle.std.proofs.Common.{refl, ap, sym, subst, ◌∙◌}
+use Rattle.std.proofs.Common.{refl, ap, subst, ◌∙◌}
 use Rattle.std.proofs.lemmas.List.{append_assoc}
-use Rattle.tclchars.specs.Runs.{Text}
 use Rattle.tclrules.specs.Oracle.{CommandWords, OracleAnswer, Oracle, Question, OfCommand, OfVariable, is_question, asked_with}
 use Rattle.tclrules.specs.Derivation.{EvaluationOutcome, Plan, Query, Command, Variable, World, Eval, ends, counts}
 use Rattle.tclrules.specs.Derivation.{meets_limit, consults, reads, runs, halts, lacks_memory, question_of}

@@ -1,12 +1,10 @@
 -- A resting variable has, after any of the records, the value that it had before them.
-use Rattle.std.proofs.Common.{◌≡◌, ◌⊎◌, inl, inr, ⊎_elim, Bool, true, false, not, ◌&&◌, ◌||◌, List, [], ◌∷◌, ◌++◌, Option, Some, None}
+use Rattle.std.proofs.Common.{◌≡◌, ◌⊎◌, inl, inr, Bool, true, false, not, ◌&&◌, ◌||◌, List, [], ◌∷◌, ◌++◌, Option, Some, None}
 use Rattle.std.proofs.Common.{Result, Ok, Err, refl, ap, sym, subst, ◌∙◌}
-use Rattle.std.specs.Prelude.{bytes_eq}
 use Rattle.std.specs.List.{list_any}
-use Rattle.std.proofs.lemmas.Bool.{false≢true, and_parts}
+use Rattle.std.proofs.lemmas.Bool.{and_parts}
 use Rattle.envvars.specs.Texts.{Text, has}
 use Rattle.envvars.specs.Environment.{Environment, lookup}
-use Rattle.envvars.specs.Reasons.{EnvReason}
 use Rattle.envstate.specs.Roles.{VariableRole, role_of, is_editable, IsNameOf}
 use Rattle.envstate.proofs.RoleLemmas.{name_of_role}
 use Rattle.envstate.specs.Roles.VariableRole.{Variable, Counters, Stack, LoadedNames, LoadedFiles, LoadedConflicts}
@@ -19,7 +17,7 @@ use Rattle.modulefile.specs.Effects.{Mode, load, unload, display, whatis, unload
 use Rattle.modulefile.specs.Results.{◌>>=◌}
 use Rattle.modulefile.specs.Calls.{CallReason, call_of}
 use Rattle.modulefile.specs.Answers.{FileContext, record_of, records_in, record_outcome, or_before, environment_after}
-use Rattle.modulefile.proofs.Bound.{bound, bind_ok, same_value}
+use Rattle.modulefile.proofs.Bound.{bound, bind_ok}
 use Rattle.modulefile.proofs.Effected.{parts}
 use Rattle.reversal.specs.VariableUses.{is_reversible}
 use Rattle.reversal.proofs.RecordKinds.{Touched, touched_loaded, same_accepted}

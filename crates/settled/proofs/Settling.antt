@@ -1,23 +1,23 @@
 -- A settled file leaves the same records again.
-use Rattle.std.proofs.Common.{◌≡◌, ◌⊎◌, inl, inr, ⊎_elim, ℕ, Bool, true, false, ◌&&◌, ◌||◌, List, [], ◌∷◌, ◌++◌, Option, Some, None}
-use Rattle.std.proofs.Common.{Result, Ok, Err, refl, ap, sym, subst, ◌∙◌}
-use Rattle.std.specs.Prelude.{bytes_eq, codes, filter_map, unwrap_or}
+use Rattle.std.proofs.Common.{◌≡◌, inl, inr, ⊎_elim, Bool, true, false, ◌||◌, List, [], ◌∷◌, Option, Some, None}
+use Rattle.std.proofs.Common.{Ok, Err, refl, ap, sym, subst, ◌∙◌}
+use Rattle.std.specs.Prelude.{bytes_eq, unwrap_or}
 use Rattle.std.specs.List.{list_all, list_any, cons_option}
 use Rattle.std.proofs.lemmas.Bool.{and_parts}
 use Rattle.envvars.specs.Texts.{Text, has}
 use Rattle.envvars.proofs.TextLemmas.{bytes_eq-same}
 use Rattle.envvars.specs.Environment.{Environment, lookup}
-use Rattle.tclrules.specs.Oracle.{CommandWords, Oracle, OracleAnswer, Question, OfCommand, OfVariable, Trace}
-use Rattle.tclrules.specs.Derivation.{Query, Command, Variable, question_of, AnswersAsBefore, EvaluationOutcome, Ended, Halted, World}
-use Rattle.tclrules.specs.Plans.{Completion, Normal, Raised, Returned, Broken, Continued}
+use Rattle.tclrules.specs.Oracle.{CommandWords, OracleAnswer, Question, Trace}
+use Rattle.tclrules.specs.Derivation.{Query, Command, Variable, question_of, AnswersAsBefore, Ended, Halted}
+use Rattle.tclrules.specs.Plans.{Normal, Raised, Returned, Broken, Continued}
 use Rattle.tclrules.specs.declared.limits.Limits.{Limits}
 use Rattle.modulefile.specs.Records.{Record}
 use Rattle.modulefile.specs.Effects.{Mode, load, unload, display, whatis, effects}
-use Rattle.modulefile.specs.Calls.{InfoField, mode, shell, shell_type, Call, CallForm, adds_record, adds_message, getenv, is_loaded}
+use Rattle.modulefile.specs.Calls.{InfoField, mode, shell, shell_type, CallForm, adds_record, adds_message, getenv, is_loaded}
 use Rattle.modulefile.specs.Calls.{own_name, typed_name, info, info_test, call_of}
 use Rattle.modulefile.specs.Answers.{FileContext, command_answer, environment_after, field_text, field_test, oracle_of, question_answer}
 use Rattle.modulefile.specs.Answers.{records_in, record_outcome, truth, value_shown, variable_answer}
-use Rattle.modulefile.specs.Files.{Ran, ran_of, RunsFile, FinishesFile, setting_of}
+use Rattle.modulefile.specs.Files.{Ran, ran_of, RunsFile}
 use Rattle.modulefile.specs.Laws.{AnswersAgain, AnsweredFilesAgree}
 use Rattle.modulefile.specs.Results.{◌>>=◌}
 use Rattle.modulefile.proofs.Bound.{bound, same_value}

@@ -1,5 +1,5 @@
 -- A module of a site stands in one way alone.
-use Rattle.std.proofs.Common.{◌≡◌, ℕ, ◌==◌, inl, inr, true, false, List, [], ◌∷◌, Option, Some, None, Result, Ok, Err}
+use Rattle.std.proofs.Common.{◌≡◌, ℕ, ◌==◌, inl, inr, false, List, [], ◌∷◌, Option, Some, None, Result, Ok, Err}
 use Rattle.std.proofs.Common.{refl, ap, sym, ◌∙◌, subst}
 use Rattle.std.proofs.lemmas.Bool.{false≢true, eq-eqb}
 use Rattle.envvars.specs.Texts.{Text}
@@ -66,7 +66,7 @@ of_plain site m rs p = (Ok p.ran, p.evaluated, ap (λ (v : Verdict). Some v) p.p
 
 says : (site : Site) (ms : List Module) (m : SiteModule) (s : Standing) → HasStanding site ms m s → Says site m s
 says site ms m Certified h = of_plain site m h.0 h.1
-says site ms m (Asks q) h = (Ok h.0, h.1, ap (λ (v : Verdict). Some v) (asked_first h.0 q h.2 h.3))
+says site ms m (Asks q) h = (Ok h.0, h.1, ap (λ (v : Verdict). Some v) (asked_first h.0 q h.2.0 h.2.1))
 says site ms m (OneWay r) h = (Ok h.0, h.1, ap (λ (v : Verdict). Some v) h.2)
 says site ms m (OutOfStep v x y) h = of_plain site m h.0 h.1
 says site ms m (Clashes v x y n) h = of_plain site m h.0 h.1

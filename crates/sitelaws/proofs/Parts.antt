@@ -1,5 +1,5 @@
 -- Steps that went on, and the text of a module that was found.
-use Rattle.std.proofs.Common.{◌≡◌, Result, Ok, subst, sym}
+use Rattle.std.proofs.Common.{◌≡◌, Ok, subst, sym}
 use Rattle.modulename.specs.ModuleName.{Text}
 use Rattle.envvars.specs.Environment.{Environment}
 use Rattle.filetree.specs.Modulefiles.{FileContent, absent, no_cookie, not_utf8, script, modulefile}
@@ -7,7 +7,7 @@ use Rattle.lookup.specs.DefaultFileResults.{HasResult}
 use Rattle.modulefile.specs.Answers.{FileContext}
 use Rattle.modulefile.specs.Files.{Ran, RunsFile}
 use Rattle.search.specs.Found.{FoundModule, Found}
-use Rattle.requests.specs.Refusals.{refused_as, RefusedAs}
+use Rattle.requests.specs.Refusals.{RefusedAs}
 use Rattle.requests.specs.Reasons.{missed, file_refused}
 use Rattle.requests.specs.Steps.{RequestContext, Finds, modulepath, script_at}
 use Rattle.requests.proofs.Bound.{ok_of_refused_as}

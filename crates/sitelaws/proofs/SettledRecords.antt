@@ -1,5 +1,5 @@
 -- A settled module leaves the same records wherever the variables that it reads have the values of the audit.
-use Rattle.std.proofs.Common.{◌≡◌, inl, inr, true, false, List, [], Some, Ok, Err, refl, ap, sym, ◌∙◌, subst}
+use Rattle.std.proofs.Common.{◌≡◌, inl, inr, false, List, Ok, Err, refl, ap, sym, ◌∙◌, subst}
 use Rattle.std.proofs.lemmas.Bool.{false≢true}
 use Rattle.envvars.specs.Texts.{Text}
 use Rattle.envvars.specs.Environment.{Environment}
@@ -11,12 +11,11 @@ use Rattle.modulefile.specs.Files.{Ran, refused_by, RunsFile, IsSameOrRefused}
 use Rattle.requests.specs.Refusals.{RefusedAs}
 use Rattle.requests.specs.Reasons.{file_refused}
 use Rattle.requests.specs.Steps.{RequestContext, entries_of, script_at, context_of}
-use Rattle.requests.specs.PlainRuns.{HasEvaluatedTo}
 use Rattle.requests.proofs.Bound.{went_on}
 use Rattle.settled.specs.Resting.{variables_read, IsSameWay, AreAlike}
 use Rattle.settled.specs.Laws.{SettledFilesAgree}
 use Rattle.sitelaws.specs.Sites.{Site, SiteModule, over_site, EvaluatesTo}
-use Rattle.sitelaws.specs.SettledSites.{HasSettledRecords, SettledRecordsAreAll}
+use Rattle.sitelaws.specs.SettledSites.{SettledRecordsAreAll}
 use Rattle.sitelaws.proofs.Parts.{ran_ok, script_held}
 
 -- the evaluation of the audit: the text, and the run in its context

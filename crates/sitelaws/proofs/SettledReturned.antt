@@ -1,39 +1,30 @@
 -- Sessions of certified modules that ask only what rests, by the law of moves.
-use Rattle.std.proofs.Common.{◌≡◌, ◌⊎◌, inl, inr, ⊎_elim, Bool, true, false, cond, List, [], ◌∷◌, ◌++◌, map, Some, Ok, refl, ap, sym, ◌∙◌}
+use Rattle.std.proofs.Common.{◌≡◌, inl, inr, Bool, true, false, cond, List, [], ◌∷◌, ◌++◌, refl, ap, sym, ◌∙◌}
 use Rattle.std.proofs.Common.{subst}
 use Rattle.std.specs.Prelude.{bytes_eq}
-use Rattle.std.specs.List.{list_all}
 use Rattle.envvars.specs.Texts.{Text, has}
 use Rattle.envvars.specs.Environment.{Environment, lookup}
-use Rattle.envstate.specs.Roles.{role_of, is_editable}
-use Rattle.envstate.specs.Roles.VariableRole.{Other}
 use Rattle.envstate.proofs.StateLemmas.{list_in_order}
-use Rattle.modulefile.specs.Effects as modes
-use Rattle.modulefile.specs.Effects.{Mode}
 use Rattle.modulefile.specs.Records.{Record}
-use Rattle.modulefile.specs.Moves.{Module, Move, Loads, Unloads, Fits, moved, MovesReach}
-use Rattle.modulefile.specs.Files.{Ran}
+use Rattle.modulefile.specs.Moves.{Module, Move, Loads, Unloads, module_of_move, MovesReach}
 use Rattle.reversal.specs.VariableUses.{VariableUse, Untouched}
 use Rattle.reversal.specs.Starts.{HasVariable, IsStartWith}
-use Rattle.reversal.specs.Requests as moves
 use Rattle.reversal.specs.Undone.{undo_of}
 use Rattle.reversal.specs.Runs.{without_live, Undoes}
-use Rattle.requests.specs.Requests.{Request}
-use Rattle.requests.specs.PlainRuns.{HasEvaluatedTo}
-use Rattle.requests.specs.Sessions.{Response, Session, end_environment, session_moves}
-use Rattle.requests.specs.Returning.{IsNew, AreNew}
+use Rattle.requests.specs.Sessions.{end_environment, session_moves}
+use Rattle.requests.specs.Returning.{AreNew}
 use Rattle.requests.specs.Laws.{SessionsReach}
 use Rattle.sitecertificate.specs.RecordUses.{IsAmong, Uses, used_by, used_by_modules, first_use, uses_by}
-use Rattle.sitecertificate.specs.Certificates.{IsCertified, certified, AgreesWith}
+use Rattle.sitecertificate.specs.Certificates.{IsCertified, AgreesWith}
 use Rattle.sitecertificate.specs.Laws.{CertifiedAreExact, AreCertified, EntriesHaveConflicts, AreLayered}
 use Rattle.sitecertificate.specs.Laws.{CertifiedMovesPreserve, NoneIsLayered}
 use Rattle.sitecertificate.proofs.UsedLemmas.{by_cases, first_or_none, user_of}
-use Rattle.settled.specs.Resting.{variables_read, is_changing, AreAlike}
+use Rattle.settled.specs.Resting.{is_changing, AreAlike}
 use Rattle.settled.proofs.Rests.{IsOfUser, resting_parts}
 use Rattle.settled.proofs.ReadVariables.{read_rests}
 use Rattle.sitelaws.specs.Sites.{Site, SiteModule, over_site, file_of}
 use Rattle.sitelaws.specs.SettledSites.{HasSettledRecords, SettledModule, modules_of, AreSettled, AreReadApart}
-use Rattle.sitelaws.specs.SettledSites.{SettledRecordsAreAll, IsOneSettled, LoadsAreSettled, SettledSessionsReturn}
+use Rattle.sitelaws.specs.SettledSites.{SettledRecordsAreAll, LoadsAreSettled, SettledSessionsReturn}
 use Rattle.sitelaws.proofs.Admissions.{mode_of, IsFromAt, TracedReach, session_traced}
 use Rattle.sitelaws.proofs.Returned.{same_parts, none_in_conflict, named_among, same_env, front_session, moves_parts, front_new}
 use Rattle.sitelaws.proofs.Unloaded.{of_live}
@@ -42,7 +33,7 @@ use Rattle.sitelaws.proofs.Unloaded.{of_live}
 
 -- the live module is one of the settled ones, and the start has the values that it reads
 abbrev IsSettledLive : Site → List SettledModule → Environment → Module → Type 0
-IsSettledLive site ss start l = (s : SettledModule) × IsAmong s ss × (s.module ≡ l) × AreAlike s.reads site.env start
+IsSettledLive site ss start l = (s : SettledModule) × IsAmong s ss × (s.the_module ≡ l) × AreAlike s.reads site.env start
 
 abbrev AreSettledLive : Site → List SettledModule → Environment → List Module → Type 0
 AreSettledLive site ss start [] = Unit {0}
@@ -74,9 +65,9 @@ not_used : (site : Site) (ss : List SettledModule) (s : SettledModule) (start : 
     → AreSettledLive site ss start live → has v s.reads ≡ true → uses_by live v ≡ Untouched
 not_used site ss s start live v a apart settled h = by_cases (first_or_none v (used_by_modules live))
     (λ i. let u = user_of v (first_use v (used_by_modules live)) live i in
-        let (t, among, same, alike) = live_one site ss start live u.user settled u.there in
-        absurd (apart s t v (first_use v (used_by_modules live)) a among h
-            (subst (λ (m : Module). Uses m.records v (first_use v (used_by_modules live))) (sym same) u.uses)))
+    let (t, among, same, alike) = live_one site ss start live u.user settled u.there in
+    absurd (apart s t v (first_use v (used_by_modules live)) a among h
+    (subst (λ (m : Module). Uses m.records v (first_use v (used_by_modules live))) (sym same) u.uses)))
     (λ n. n.untouched)
 
 of_user : (site : Site) (m : SiteModule) (rs : List Record) (reads : List Text) (v : Text) → HasSettledRecords site m rs reads → has v reads ≡ true → IsOfUser v
@@ -86,7 +77,7 @@ of_user site m rs reads v p h =
 as_start : (site : Site) (ss : List SettledModule) (s : SettledModule) (start old : Environment) (live : List Module) → AreSettled site ss → AreReadApart ss
     → IsAmong s ss → AreSettledLive site ss start live → IsStartWith (uses_by live) start live old → AreAlike s.reads site.env start → AreAlike s.reads site.env old
 as_start site ss s start old live all apart a settled over alike v h =
-    by_cases (of_user site (file_of s.module) s.module.records s.reads v (all s a) h)
+    by_cases (of_user site (file_of s.the_module) s.the_module.records s.reads v (all s a) h)
     (λ editable. value_untouched start old v live (uses_by live v) (not_used site ss s start live v a apart settled h) (over.variables v editable))
     (λ other. over.others v other)
     ∙ alike v h
@@ -100,21 +91,21 @@ is_move (Unloads m) = refl
 same_file : (m c : Module) → c.name ≡ m.name → c.path ≡ m.path → file_of c ≡ file_of m
 same_file m c name path = λ i. record { name = name i; path = path i }
 
-move_records : SettledRecordsAreAll → (site : Site) (m : Move) (s : SettledModule) (old : Environment) → HasSettledRecords site (file_of s.module) s.module.records s.reads
-    → s.module.name ≡ (moves.module_of_move m).name → s.module.path ≡ (moves.module_of_move m).path → IsFromAt (over_site site) m old → AreAlike s.reads site.env old
-    → (moves.module_of_move m).records ≡ s.module.records
+move_records : SettledRecordsAreAll → (site : Site) (m : Move) (s : SettledModule) (old : Environment) → HasSettledRecords site (file_of s.the_module) s.the_module.records s.reads
+    → s.the_module.name ≡ (module_of_move m).name → s.the_module.path ≡ (module_of_move m).path → IsFromAt (over_site site) m old → AreAlike s.reads site.env old
+    → (module_of_move m).records ≡ s.the_module.records
 move_records law site m s old p name path (ran, left, is, before, mode) alike =
-    let moved_module : Module = moves.module_of_move m in
-    is ∙ law site (file_of moved_module) s.module.records s.reads ran left
-    (subst (λ (f : SiteModule). HasSettledRecords site f s.module.records s.reads) (same_file moved_module s.module name path) p)
+    let moved_module : Module = module_of_move m in
+    is ∙ law site (file_of moved_module) s.the_module.records s.reads ran left
+    (subst (λ (f : SiteModule). HasSettledRecords site f s.the_module.records s.reads) (same_file moved_module s.the_module name path) p)
     (ap is_changing mode ∙ is_move m)
     (subst (λ (e : Environment). AreAlike s.reads site.env e) (sym before) alike)
 
 -- ---- moves
 
-among_modules : (ss : List SettledModule) (s : SettledModule) → IsAmong s ss → IsAmong s.module (modules_of ss)
+among_modules : (ss : List SettledModule) (s : SettledModule) → IsAmong s ss → IsAmong s.the_module (modules_of ss)
 among_modules [] s a = absurd a
-among_modules (t ∷ ss) s (inl e) = inl (ap (λ (x : SettledModule). x.module) e)
+among_modules (t ∷ ss) s (inl e) = inl (ap (λ (x : SettledModule). x.the_module) e)
 among_modules (t ∷ ss) s (inr a) = inr (among_modules ss s a)
 
 settled_certified : CertifiedAreExact → EntriesHaveConflicts → CertifiedMovesPreserve → SettledRecordsAreAll
@@ -128,8 +119,8 @@ settled_certified exact conflicts preserve law site ss live start old new (Loads
     let first = list_in_order start layered.begins.order.loaded in
     let now = as_start site ss s start old live all apart among settled layered.start_with_live alike in
     let records = move_records law site (Loads m) s old (all s among) name path from now in
-    let same : s.module ≡ m = same_parts m s.module name path (sym records) in
-    let is_certain : IsCertified (modules_of ss) m = subst (IsCertified (modules_of ss)) same ((exact (modules_of ss) s.module).0 certain) in
+    let same : s.the_module ≡ m = same_parts m s.the_module name path (sym records) in
+    let is_certain : IsCertified (modules_of ss) m = subst (IsCertified (modules_of ss)) same ((exact (modules_of ss) s.the_module).0 certain) in
     let agreeing : AgreesWith (used_by m.records) start = subst (λ (x : Module). AgreesWith (used_by x.records) start) same agrees in
     let free = none_in_conflict conflicts site start old live m first.0 first.1 layered.start_with_live admitted in
     let h = preserve (modules_of ss) start old mid live (Loads m ∷ []) layered (is_certain, agreeing, free, tt) (fits, (mid, move, refl)) in (

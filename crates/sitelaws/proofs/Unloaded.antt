@@ -1,16 +1,12 @@
 -- What is unloaded and wasn't loaded at the start is a live module, by its name and its file.
-use Rattle.std.proofs.Common.{◌≡◌, Bool, true, false, cond, ◌&&◌, ◌||◌, List, [], ◌∷◌, ◌++◌, Some, refl, sym, ◌∙◌}
+use Rattle.std.proofs.Common.{◌≡◌, Bool, true, false, cond, ◌&&◌, ◌||◌, List, [], ◌∷◌, Some, refl, sym, ◌∙◌}
 use Rattle.std.proofs.Common.{subst}
 use Rattle.std.specs.Prelude.{bytes_eq}
 use Rattle.std.specs.List.{list_any}
-use Rattle.std.proofs.lemmas.Bool.{and_parts}
-use Rattle.std.proofs.lemmas.List.{map-append}
 use Rattle.std.proofs.lemmas.List.Folds.{list_any-append}
 use Rattle.envvars.specs.Texts.{Text, has}
 use Rattle.envvars.specs.Fields.{are_distinct}
 use Rattle.envvars.specs.Environment.{Environment}
-use Rattle.envvars.proofs.ChangeLemmas.{are_distinct-push}
-use Rattle.envvars.proofs.TextLemmas.{same_text}
 use Rattle.envloaded.specs.Loaded.{Entry, names_of, loaded_in, AreLoadedInOrder}
 use Rattle.envstate.proofs.StateLemmas.{list_in_order}
 use Rattle.modulefile.specs.Moves.{Module, Unloads, entry_of, Fits}

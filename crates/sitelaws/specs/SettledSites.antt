@@ -33,23 +33,23 @@ pub record HasSettledRecords (site : Site) (m : SiteModule) (rs : List Record) (
 
 -- a module, and the variables that it reads
 pub record SettledModule : Type 0 where
-  pub module : Module
+  pub the_module : Module
   pub reads : List Text
 
 -- the modules alone
 abbrev pub modules_of : List SettledModule → List Module
-modules_of settled = map (λ s. s.module) settled
+modules_of settled = map (λ s. s.the_module) settled
 
 -- each of them is settled
 abbrev pub AreSettled : Site → List SettledModule → Type 0
 AreSettled site settled =
-    (s : SettledModule) → IsAmong s settled → HasSettledRecords site (file_of s.module) s.module.records s.reads
+    (s : SettledModule) → IsAmong s settled → HasSettledRecords site (file_of s.the_module) s.the_module.records s.reads
 
 -- none of them uses a variable that one of them reads
 abbrev pub AreReadApart : List SettledModule → Type 0
 AreReadApart settled =
     (s t : SettledModule) (v : Text) (x : VariableUse) → IsAmong s settled → IsAmong t settled
-    → has v s.reads ≡ true → Uses t.module.records v x → ⊥
+    → has v s.reads ≡ true → Uses t.the_module.records v x → ⊥
 
 -- The records of a settled module are those that every accepted evaluation of its file for loading or unloading leaves,
 -- in whatever shell and half of a switch, where the variables that it reads have the values of the audit.
@@ -63,8 +63,8 @@ SettledRecordsAreAll =
 -- it reads has there the values of the audit.
 abbrev pub IsOneSettled : Site → List SettledModule → Environment → Text → Text → Type 0
 IsOneSettled site settled start name path =
-    (s : SettledModule) × IsAmong s settled × IsAmong s.module (certified (modules_of settled))
-    × (s.module.name ≡ name) × (s.module.path ≡ path) × AgreesWith (used_by s.module.records) start
+    (s : SettledModule) × IsAmong s settled × IsAmong s.the_module (certified (modules_of settled))
+    × (s.the_module.name ≡ name) × (s.the_module.path ≡ path) × AgreesWith (used_by s.the_module.records) start
     × AreAlike s.reads site.env start
 
 -- Each load is of such a one. Nothing is asked of the records of the load.
