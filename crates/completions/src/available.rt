@@ -1,5 +1,6 @@
 //! What is offered, with the modules that can be loaded.
-ghost use Rattle.std.specs.Prelude.{◌≡◌, ◌++◌, map, IfOk, OnOk};
+ghost use Rattle.std.specs.Prelude.{◌≡◌, ◌≤◌, ◌++◌, map, IfOk, IsErrOf, OnOk};
+ghost use Rattle.filetree.specs.declared.tree.TreeFault.TheVariants as faults;
 ghost use Rattle.envvars.specs.Texts.{texts_in};
 ghost use Rattle.filetree.specs.Agreement.{FailsOnlyByDevice};
 ghost use Rattle.lookup.specs.DefaultFileResults.{HasResult};
@@ -74,8 +75,7 @@ fn names_in(alloc: Global, listings: &[DirectoryListing]) -> Result<Vec<String>,
 /// The names of some kinds, in turn, each once; of the modules that can be loaded those that begin with a word. What can't
 /// be read is left out. Collections lie on the disk, where this crate doesn't look: there are none.
 ///
-/// It fails with `Device` only where the device failed in this call, at more than a thousand paths, and for want of
-/// memory.
+/// It fails with `Device` only where the device failed in this call, and a thousand times in all, and for want of memory.
 pub fn names_offered<T: Tree + Drop>(
     alloc: Global,
     kinds: &[NameKind],
@@ -85,6 +85,7 @@ pub fn names_offered<T: Tree + Drop>(
     limits: Limits,
 ) -> Result<Vec<String>, TreeFault>
     ensures cause { FailsOnlyByDevice (T.failures tree.old.tree) (T.failures tree.new.tree) result }
+    ensures given_up { IsErrOf result faults.Device → 1000 ≤ T.failures tree.new.tree }
     ensures offered { IfOk result (λ names. spec.Offers (HasResult limits) (T.agrees tree.new.tree)
         (T.failures tree.old.tree) (T.failures tree.new.tree) env.now kinds.now word.now (texts_in names)) }
 {

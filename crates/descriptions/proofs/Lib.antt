@@ -2,3 +2,4 @@ pub mod MentionLemmas
 pub mod DescriptionLemmas
 pub mod HelpLemmas
 pub mod LeftLemmas
+pub mod ReadableLemmas

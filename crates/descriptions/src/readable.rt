@@ -1,5 +1,5 @@
 //! What `whatis` and `keyword` report of the modules that can be read.
-ghost use Rattle.std.specs.Prelude.{◌≡◌, ◌<◌, ◌++◌, flat_map, map, string_bytes, IfOk, IfErr, OnOk};
+ghost use Rattle.std.specs.Prelude.{◌≡◌, ◌<◌, ◌≤◌, ◌++◌, flat_map, map, string_bytes, IfOk, IfErr, OnOk};
 ghost use Rattle.std.specs.Option.{option_map};
 ghost use Rattle.filetree.specs.Causes.{Applies};
 ghost use Rattle.modules.specs.Answers.{cause_of};
@@ -7,7 +7,7 @@ ghost use Rattle.descriptions.specs.Readable.{IsReadableDescription, unreadable_
 
 use crate::describing::{Description, describe};
 use envvars::Env;
-use filetree::Tree;
+use filetree::{Tree, TreeFault};
 use hidingtree::{HidingTree, MOST_HIDDEN};
 use modules::Refusal;
 use search::FindFault;
@@ -35,11 +35,22 @@ fn push_unreadable(text: &mut String, paths: &[String]) -> Result<(), AllocError
     Ok(())
 }
 
+/// Why there is no description where the device failed at a path that can't be hidden.
+fn in_the_end<T: Tree + Drop>(tree: &HidingTree<T>) -> Refusal
+    ensures { Applies (cause_of result) (1000 ≤ T.failures tree.now.tree) (λ reason. ⊥) }
+{
+    match tree.fault_in_the_end() {
+        TreeFault::Device => Refusal::Find(FindFault::Device),
+        TreeFault::OutOfMemory => Refusal::OutOfMemory,
+    }
+}
+
 /// Describes all modules that can be loaded, or those whose report mentions a text, as `describe` does, but without what
 /// can't be read: behind the modules that are left out it has a line of each such path. It describes once, and again where
 /// what was seen before can't be read any more.
 ///
-/// Errors: want of memory (31, 41), in one of the requests too; 43 where it failed at more than a thousand paths.
+/// Errors: want of memory (31, 41), in one of the requests too; 43 where the device failed in this call, and a thousand
+/// times in all.
 pub fn describe_readable<T: Tree + Drop>(
     alloc: Global,
     shell: Shell,
@@ -50,8 +61,8 @@ pub fn describe_readable<T: Tree + Drop>(
 ) -> Result<Description, Refusal>
     ensures described { IfOk result (λ d. IsReadableDescription (T.agrees tree.new.tree) (T.failures tree.new.tree)
         limits shell env.now (option_map (λ t. t.now) sought.entry) (string_bytes d.text) (string_bytes d.left_out)) }
-    ensures fault { IfErr result (λ refusal.
-        Applies (cause_of refusal) (T.failures tree.old.tree < T.failures tree.new.tree) (λ reason. ⊥)) }
+    ensures fault { IfErr result (λ refusal. Applies (cause_of refusal)
+        ((T.failures tree.old.tree < T.failures tree.new.tree) × (1000 ≤ T.failures tree.new.tree)) (λ reason. ⊥)) }
 {
     for _ in 0..MOST_HIDDEN {
         match describe(alloc, shell, sought, env, tree, limits) {
@@ -61,11 +72,11 @@ pub fn describe_readable<T: Tree + Drop>(
             }
             Err(Refusal::Find(FindFault::Device)) => {
                 if !tree.hide_failed()? {
-                    return Err(Refusal::Find(FindFault::Device));
+                    return Err(in_the_end(tree));
                 }
             }
             Err(refusal) => return Err(refusal),
         }
     }
-    Err(Refusal::Find(FindFault::Device))
+    Err(in_the_end(tree))
 }

@@ -29,7 +29,7 @@ pub struct HidingTree<T: Tree + Drop> {
     pub hidden: Vec<String>,
     /// The paths at which something was seen.
     seen: Vec<String>,
-    /// The path at which the device failed last, of those that could not be hidden at once.
+    /// The path at which the device failed last, of those that weren't hidden at once, where memory sufficed to keep it.
     failed_at: Option<String>,
     /// The device has failed for each of these paths.
     ghost counted: { length hidden.items + count_of failed_at ≤ T.failures tree },
@@ -73,6 +73,18 @@ impl<T: Tree + Drop> HidingTree<T> {
         Ok(true)
     }
 
+    /// Why there is no answer where the device failed at a path that can't be hidden: a thousand are, or else memory
+    /// didn't suffice to keep it.
+    pub fn fault_in_the_end(&self) -> TreeFault
+        ensures { result ≡ faults.Device → 1000 ≤ T.failures self.now.tree }
+    {
+        if self.hidden.len() >= MOST_HIDDEN {
+            TreeFault::Device
+        } else {
+            TreeFault::OutOfMemory
+        }
+    }
+
     /// Keeps that something was seen at a path.
     fn keep_seen(&mut self, path: &str) -> Result<(), AllocError>
         requires { is_among (map string_bytes self.old.hidden.items) path.now ≡ false }
@@ -103,11 +115,11 @@ impl<T: Tree + Drop> HidingTree<T> {
         if let TreeFault::OutOfMemory = fault {
             return Err(fault);
         }
-        let kept = String::from_str(self.alloc, path)?;
         if is_among(&self.seen, path) || self.hidden.len() >= MOST_HIDDEN {
-            self.failed_at = Some(kept);
+            self.failed_at = String::from_str(self.alloc, path).ok();
             return Err(fault);
         }
+        let kept = String::from_str(self.alloc, path)?;
         self.hidden.push(kept)?;
         Ok(())
     }

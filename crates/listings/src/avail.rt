@@ -199,8 +199,8 @@ fn searched_texts(options: Options, texts: &[String]) -> &[String]
 /// modules are reported as by `modulecmd`; on one, loaded modules are marked too, names stand in columns, or one a line
 /// where an option asks so, and no character of names and paths steers it.
 ///
-/// The errors: `NoAvailOption`, the words have another option; `Device`, only where the device failed in this call, at
-/// more than a thousand paths; `OutOfMemory`.
+/// The errors: `NoAvailOption`, the words have another option; `Device`, only where the device failed in this call, and a
+/// thousand times in all; `OutOfMemory`.
 pub fn avail_report<'a, T: Tree + Drop>(
     alloc: Global,
     env: &Env,
@@ -213,7 +213,8 @@ pub fn avail_report<'a, T: Tree + Drop>(
     ensures report { IfOk result (λ text. ReportsAvailable (HasResult limits) (T.agrees tree.new.tree)
         (T.failures tree.old.tree) (T.failures tree.new.tree) terminal env.now (map string_bytes words.entry.now)
         (string_bytes text)) }
-    ensures fault { IfErr result (λ e. Applies (cause_of e) (T.failures tree.old.tree < T.failures tree.new.tree)
+    ensures fault { IfErr result (λ e. Applies (cause_of e)
+        ((T.failures tree.old.tree < T.failures tree.new.tree) × (1000 ≤ T.failures tree.new.tree))
         (λ reason. words_spec.avail_words words_spec.no_options (map string_bytes words.entry.now) ≡ Err reason)) }
 {
     let (options, texts) = avail_words(Options::none(), words)?;

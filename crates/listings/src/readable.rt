@@ -1,5 +1,6 @@
 //! The modules that can be listed: what can't be read is left out, and named.
-ghost use Rattle.std.specs.Prelude.{◌≡◌, ◌⊎◌, ◌<◌, ◌≤◌, [], length, map, string_bytes, IfOk};
+ghost use Rattle.std.specs.Prelude.{◌≡◌, ◌⊎◌, ◌<◌, ◌≤◌, [], length, map, string_bytes, IfOk, IsErrOf};
+ghost use Rattle.filetree.specs.declared.tree.TreeFault.TheVariants as faults;
 ghost use Rattle.filetree.specs.Agreement.{FailsOnlyByDevice, InEachPair};
 ghost use Rattle.search.specs.Listings.{listing_view};
 ghost use Rattle.listings.specs.Available.{ListedWithout};
@@ -29,6 +30,7 @@ fn list_without<T: Tree + Drop, D: DefaultFiles>(
     modulepath: &str,
 ) -> Result<ReadableModules, TreeFault>
     ensures counts { T.failures tree.old.tree ≤ T.failures tree.new.tree }
+    ensures given_up { IsErrOf result faults.Device → 1000 ≤ T.failures tree.new.tree }
     ensures counted { IfOk result (λ readable. length readable.unreadable.items ≤ T.failures tree.new.tree) }
     ensures listed { IfOk result (λ readable. InEachPair (T.agrees tree.new.tree) (λ files folders.
         ListedWithout (D.results default_files.now) (map string_bytes readable.unreadable.items) files folders
@@ -45,17 +47,17 @@ fn list_without<T: Tree + Drop, D: DefaultFiles>(
             Err(TreeFault::OutOfMemory) => return Err(TreeFault::OutOfMemory),
             Err(TreeFault::Device) => {
                 if !tree.hide_failed()? {
-                    return Err(TreeFault::Device);
+                    return Err(tree.fault_in_the_end());
                 }
             }
         }
     }
-    Err(TreeFault::Device)
+    Err(tree.fault_in_the_end())
 }
 
 /// The modules along a MODULEPATH that texts select, as `search::selected` has them, but without what can't be read.
 ///
-/// It fails with `Device` only where the device failed at more than a thousand paths, and for want of memory.
+/// It fails with `Device` only where the device failed in this call, and a thousand times in all, and for want of memory.
 pub fn readable_modules<T: Tree + Drop, D: DefaultFiles>(
     alloc: Global,
     tree: &mut HidingTree<T>,
@@ -66,6 +68,7 @@ pub fn readable_modules<T: Tree + Drop, D: DefaultFiles>(
     ensures cause { FailsOnlyByDevice (T.failures tree.old.tree) (T.failures tree.new.tree) result }
     ensures left_out { IfOk result (λ readable. (map string_bytes readable.unreadable.items ≡ [])
         ⊎ (T.failures tree.old.tree < T.failures tree.new.tree)) }
+    ensures given_up { IsErrOf result faults.Device → 1000 ≤ T.failures tree.new.tree }
     ensures counted { IfOk result (λ readable. length readable.unreadable.items ≤ T.failures tree.new.tree) }
     ensures listed { IfOk result (λ readable. InEachPair (T.agrees tree.new.tree) (λ files folders.
         ListedWithout (D.results default_files.now) (map string_bytes readable.unreadable.items) files folders
