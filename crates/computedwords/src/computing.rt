@@ -1,5 +1,5 @@
 //! A modulefile with the text of each word that Tcl computes from constants.
-ghost use Rattle.std.specs.Prelude.{◌≡◌, ◌-◌, [], length, map, take, drop, IfErr, IfOk};
+ghost use Rattle.std.specs.Prelude.{◌≡◌, ◌-◌, length, map, take, drop, IfErr, IfOk};
 ghost use Rattle.tclscript.specs.Faults.{IsTextFault};
 ghost use Rattle.tclscript.specs.View.{command_view, script_view};
 ghost use Rattle.portforms.specs.Words.{commands_in};
@@ -43,21 +43,21 @@ fn edits_in(
     commands: &[Command<&str>],
 ) -> Result<Vec<Edit>, AllocError>
     ensures { IfOk result (λ edits. edits_view edits.items
-        ≡ spec.edits_from (bindings_view host.now) [] text.now
+        ≡ spec.edits_from (spec.facts_of (bindings_view host.now)) text.now
         (map (command_view (λ piece. piece.now)) commands.now)) }
 {
     let mut edits = Vec::new(alloc);
-    let mut known = Vec::new(alloc);
+    let mut facts = Facts {
+        host,
+        variables: Vec::new(alloc),
+        environment: Vec::new(alloc),
+    };
     for command in commands {
         let words = command.words.as_slice();
         let (_, rest) = split_within(text, command.offset);
-        let facts = Facts {
-            host,
-            known: known.as_slice(),
-        };
         let mut found = edits_of(alloc, &facts, words, rest)?;
         edits.append(&mut found)?;
-        known = known_behind(alloc, known, words)?;
+        facts = known_behind(alloc, facts, words)?;
     }
     Ok(edits)
 }
