@@ -1,9 +1,10 @@
 -- A text with what is computed in it: all other bytes are as they were.
-use Rattle.std.specs.Prelude.{◌≡◌, ◌-◌, List, [], ◌∷◌, ◌++◌, length, take, drop}
+use Rattle.std.specs.Prelude.{◌≡◌, ◌-◌, List, [], ◌∷◌, ◌++◌, length, take, drop, if◌then◌else◌}
 use Rattle.tclchars.specs.Runs.{Text}
 use Rattle.tclscript.specs.Text.{IsWithin}
 use Rattle.tclscript.specs.Tree.{Command, Commands}
 use Rattle.portforms.specs.Words.{commands_in, words_in}
+use Rattle.scripttext.specs.ScriptTexts.{is_script}
 use Rattle.computedwords.specs.Answers.{Binding, Facts}
 use Rattle.computedwords.specs.Knowledge.{known_behind}
 use Rattle.computedwords.specs.Walks.{Edit, edits_of}
@@ -25,10 +26,14 @@ edited text [] = text
 edited text (e ∷ es) =
     take (length text - e.from) text ++ (e.text ++ edited (drop (length text - e.to) text) es)
 
+-- these edits, where the text with them is a script, and else none
+abbrev pub fitting : Text → List Edit → List Edit
+fitting text es = if is_script (edited text es) then es else []
+
 -- what is put in a text that is a script, and the text that this gives
 pub record AreComputed (host : List Binding) (text : Text) (cs : List Command) (es : List Edit) (written : Text)
     : Type 0 where
-  pub edits_are : es ≡ edits_from (facts_of host) text cs
+  pub edits_are : es ≡ fitting text (edits_from (facts_of host) text cs)
   pub text_is : written ≡ edited text es
 
 abbrev pub HasComputed : List Binding → Text → List Edit → Text → Type 0

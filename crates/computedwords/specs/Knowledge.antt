@@ -11,7 +11,6 @@ use Rattle.tclscript.specs.Tree.{Command, Word, word_of, Part, literal, braced, 
 use Rattle.tclscript.specs.Tree.{Parts}
 use Rattle.portforms.specs.Words.{commands_in, constant, constant_parts, words_in}
 use Rattle.computedwords.specs.Answers.{Binding, Facts, parts_in, value_of_word}
-use Rattle.computedwords.specs.Paths.{is_empty}
 use Rattle.computedwords.specs.Places.{ungapped}
 
 -- letters, digits and underscores

@@ -1,12 +1,12 @@
 -- Places in the text of a command: what is behind a word or a part of one (own).
-use Rattle.std.specs.Prelude.{ℕ, List, [], ◌∷◌, Bool, true, false, not, ◌||◌, ◌==◌, nat_eq, codes, length, drop}
+use Rattle.std.specs.Prelude.{ℕ, List, Bool, true, false, not, ◌||◌, ◌==◌, nat_eq, codes, length, drop}
 use Rattle.std.specs.Prelude.{if◌then◌else◌, Option, Some, None, option_and_then}
 use Rattle.std.specs.List.{starts_with, position_or_len}
 use Rattle.tclchars.specs.Bytes.{is_blank, newline, backslash}
 use Rattle.tclchars.specs.Runs.{Text}
 use Rattle.tclscript.specs.Tree as tree
 use Rattle.tclscript.specs.Tree.{Word, word_of, Part, literal, braced, variable, indexed, bracket, Parts}
-use Rattle.portforms.specs.Words.{commands_in, constant, constant_parts}
+use Rattle.portforms.specs.Words.{commands_in, constant_parts}
 use Rattle.computedwords.specs.Answers.{one_of, parts_in, run}
 
 -- the text without what stands before a word: blanks, and newlines behind backslashes
