@@ -34,7 +34,7 @@ TOOLS = (
 OWN = re.compile(rb"LOADEDMODULES|_LMFILES_|__MODULES_.*|MODULEPATH|SHLVL")
 
 NEED = re.compile(rb"(?m)^\s*prereq (\S+)")
-SAID = re.compile(r"(\d+: )(translated|computed|left out)(: .*)")
+SAID = re.compile(r"(\d+: )(translated|computed|dropped|left out)(: .*)")
 
 
 @pytest.fixture(scope="session")
@@ -155,6 +155,43 @@ def test_names_of_files_beside_tcl(folder, what):
     tcl = subprocess.run(["tclsh"], input=script, capture_output=True, timeout=SECONDS, check=True)
     result, written = tcl.stdout.decode().splitlines()
     same(written, result, f"what is written for {command}")
+
+
+# Commands of modulefiles for tclsh: each says its words, and setenv sets its variable.
+COMMANDS = """
+foreach name {setenv prepend-path append-path conflict module prereq} {
+    proc $name args [string map [list NAME $name] {
+        puts [list NAME {*}$args]
+        if {{NAME} eq {setenv}} { set ::env([lindex $args 0]) [lindex $args 1] }
+    }]
+}
+proc is-loaded {name} { return 0 }
+proc module-info {args} { return 1 }
+"""
+
+KNOWN = (
+    "set root /apps/gcc\nset v 12.3\nsetenv R $root/$v\nprepend-path PATH [file join $env(R) bin] [file tail $root]\n",
+    "set root //apps//gcc/\nset top [file dirname $root]\nsetenv T [file join $top {a b} c/]\nsetenv S $env(T)/x\n",
+    'set a "x y"\nset b $a/z\nsetenv B [file tail "$b"]\nsetenv C [file join / $b "$a"]\n',
+    "set r /a\nif {![is-loaded x]} {\n  module load x\n  # r\n} else { setenv X 1 }\nsetenv S [file join $r b]\n",
+    "set r {}\nsetenv A [file join $r b]\nset q [string length $r]\nsetenv B [file join / $r]\n",
+    "set r /a\nforeach d {b c} { append r /$d }\nsetenv A [file join $r d]\nset r /e\nsetenv B [file tail $r]\n",
+    "set n r\nset r /a\nset $n /b\nsetenv A [file join $r c]\n",
+    "set r /a\nset l [list set r /b]\nif {1} $l\nsetenv A [file join $r c]\n",
+)
+
+
+@pytest.mark.parametrize("given", KNOWN)
+def test_known_values_beside_tcl(folder, given):
+    """Tcl reads the same words from what is written as from the file."""
+    if not shutil.which("tclsh"):
+        pytest.skip("Tcl isn't there")
+    done = folder.run("--stdin", given=given.encode())
+    results = [
+        subprocess.run(["tclsh"], input=COMMANDS.encode() + it, capture_output=True, timeout=SECONDS, check=True)
+        for it in (given.encode(), done.stdout)
+    ]
+    same(results[1].stdout.decode(), results[0].stdout.decode(), "what Tcl reads")
 
 
 HOST = ("sysname=Linux", "nodename=n1.cluster", "domain=cluster", "release=5.14.0", "version=#1 SMP", "machine=aarch64")
@@ -323,6 +360,49 @@ def test_one_version(folder):
     same((again.stdout, again.returncode), (b"", 0), "what is written has nothing more to add")
 
 
+def test_family(folder):
+    """A module of a tree is in conflict with the others of its family, and with none where there is no other."""
+    old, new = tree(
+        folder,
+        {
+            "gcc/12": COOKIE + "family compiler\nsetenv G 1\n",
+            "gcc/13": COOKIE + "  family compiler ; # of GNU\n",
+            "gcc/.version": COOKIE + "set ModulesVersion 12\n",
+            "intel/2023": COOKIE + 'family "compiler"\n',
+            "lib/llvm/17": COOKIE + "family compiler\nfamily llvm\n",
+            "my tool/1": COOKIE + "family tools\n",
+            "openmpi/4": COOKIE + "family mpi\nif {1} {\n  family compiler\n}\n",
+            "other/1": COOKIE + "family tools\n",
+            "tool": COOKIE + "family tools\n",
+            "broken/1": COOKIE + "family compiler\nset x {\n",
+        },
+    )
+    at = old.decode()
+    said = (
+        "gcc/12:2: translated: family compiler", "gcc/13:2: translated: family compiler ",
+        'intel/2023:2: translated: family "compiler"', "lib/llvm/17:2: translated: family compiler",
+        "lib/llvm/17:3: dropped: family llvm", "my tool/1:2: translated: family tools",
+        "openmpi/4:2: dropped: family mpi", "openmpi/4:3: left out: family",
+        "other/1:2: left out: family", "tool:2: left out: family",
+    )  # fmt: skip
+    done = folder.run(old, new)
+    same(sorted(done.stdout.decode().splitlines()), sorted(f"{at}/{it}" for it in said), "what is said")
+    same(done.stderr.decode(), f"ERROR: {at}/broken/1: Missing close-brace at byte 31\n", "standard error")
+    same(done.returncode, 2, "status")
+    written = {
+        "gcc/12": "conflict intel lib/llvm\nsetenv G 1\n",
+        "gcc/13": "  conflict intel lib/llvm ; # of GNU\n",
+        "gcc/.version": "set ModulesVersion 12\n",
+        "intel/2023": "conflict gcc lib/llvm\n",
+        "lib/llvm/17": "conflict gcc intel\n\n",
+        "my tool/1": "conflict tool other\n",
+        "openmpi/4": "\nif {1} {\n  family compiler\n}\n",
+        "other/1": "family tools\n",
+        "tool": "family tools\n",
+    }
+    same(contents(new), {name: (COOKIE + it).encode() for name, it in written.items()}, "what is written")
+
+
 def test_json(folder):
     """A line is an object, whatever bytes the names have."""
     old, _ = tree(folder, {'a/"1\\': COOKIE + "if {![is-loaded b]} {\n\tmodule load b\n}\nexec true\n", "a/x": "x"})
@@ -460,3 +540,16 @@ def test_generated_beside_environment_modules(folder, tool, name):
     for file in files:
         names = needed(files, file, [])
         same(made(tool, os.fsdecode(new), names), made(tool, old, names[-1:]), f"what {file} makes")
+
+
+@pytest.mark.parametrize("names", [("gcc/12", "intel/2023"), ("gcc/12", "openmpi/4"), ("openmpi/4", "intel/2023")])
+def test_family_beside_environment_modules(folder, tool, names):
+    """Two modules of a family are refused together, in a tree and in its translation, and others aren't."""
+    families = {"gcc/12": "compiler", "intel/2023": "compiler", "openmpi/4": "mpi"}
+    old, new = tree(folder, {name: COOKIE + f"family {it}\n" for name, it in families.items()})
+    folder.run(old, new)
+    for place in (old, new):
+        env = {b"MODULEPATH": place, b"PATH": b"/usr/bin:/bin"}
+        words = [tool, "sh", "load", *names]
+        done = subprocess.run(words, env=env, capture_output=True, timeout=SECONDS, check=False)
+        same(b"ERROR" in done.stderr, names == ("gcc/12", "intel/2023"), f"whether {names} is refused in {place!r}")

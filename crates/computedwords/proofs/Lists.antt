@@ -8,7 +8,7 @@ use Rattle.std.specs.Option.{option_map}
 use Rattle.tclchars.specs.Runs.{Text}
 use Rattle.tclscript.specs.Tree.{Part, parts_of}
 use Rattle.portforms.specs.Words.{texts}
-use Rattle.computedwords.specs.Knowledge.{parts_in}
+use Rattle.computedwords.specs.Answers.{parts_in}
 use Rattle.computedwords.specs.Paths.{last_of, without_last}
 use Rattle.computedwords.specs.Walks.{is_one}
 

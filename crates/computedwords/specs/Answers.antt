@@ -1,17 +1,29 @@
--- Which text a computed word means: a command in brackets whose words are constant (file(n) and info(n) of Tcl, `uname`
+-- Which text a computed word means: a command in brackets whose words are known (file(n) and info(n) of Tcl, `uname`
 -- of modulefile(5)), or an element of an array (tclvars(n)), by what is known of the host and of variables.
-use Rattle.std.specs.Prelude.{List, [], ◌∷◌, Bool, false, ◌||◌, codes, bytes_eq, find}
+use Rattle.std.specs.Prelude.{List, [], ◌∷◌, ◌++◌, Bool, true, false, ◌||◌, codes, bytes_eq, find}
 use Rattle.std.specs.Prelude.{if◌then◌else◌, Option, Some, None, option_and_then}
 use Rattle.std.specs.Option.{option_map}
 use Rattle.tclchars.specs.Runs.{Text}
 use Rattle.tclscript.specs.Tree.{Part, literal, braced, backslash, variable, indexed, bracket, Command}
-use Rattle.portforms.specs.Words.{commands_in, constants, constant_parts, words_in}
+use Rattle.tclscript.specs.Tree.{Word, word_of, Parts, no_parts, part}
+use Rattle.portforms.specs.Words.{commands_in, constant_parts, words_in}
 use Rattle.computedwords.specs.Paths.{parts_of, is_absolute, tail_of, directory_of, joined, are_joined, has_tilde}
 
 -- a name, and its value
 pub record Binding : Type 0 where
   pub name : Text
   pub value : Text
+
+-- what is known: of the host, of variables of the file and of those of the environment
+pub record Facts : Type 0 where
+  pub host : List Binding
+  pub variables : List Binding
+  pub environment : List Binding
+
+-- from one to the next, as long as there is one
+abbrev pub run : {S X : Type 0} → (S → X → Option S) → S → List X → Option S
+run step s [] = Some s
+run step s (x ∷ xs) = option_and_then (λ t. run step t xs) (step s x)
 
 -- the value of the first of this name
 abbrev pub value_of : Text → List Binding → Option Text
@@ -73,12 +85,6 @@ result_of host (word ∷ words) =
     else if bytes_eq word (codes "uname") then of_uname host words
     else None
 
--- the words of the one command of a script, where they are constant
-abbrev pub words_of_one : List Command → Option (List Text)
-words_of_one [] = None
-words_of_one (c ∷ []) = constants (words_in c.words)
-words_of_one (c ∷ (d ∷ cs)) = None
-
 abbrev pub is_environment : Text → Bool
 is_environment array = bytes_eq array (codes "env") || bytes_eq array (codes "::env")
 
@@ -86,17 +92,91 @@ abbrev pub is_platform : Text → Bool
 is_platform array = bytes_eq array (codes "tcl_platform") || bytes_eq array (codes "::tcl_platform")
 
 -- the value of an element: of a variable of the environment, or of the platform
-abbrev pub element_of : List Binding → List Binding → Text → Text → Option Text
-element_of host known array element =
-    if is_environment array then value_of element known
-    else if is_platform array then option_and_then (λ name. value_of name host) (platform_name element)
+abbrev pub element_of : Facts → Text → Text → Option Text
+element_of facts array element =
+    if is_environment array then value_of element facts.environment
+    else if is_platform array then option_and_then (λ name. value_of name facts.host) (platform_name element)
     else None
 
+abbrev pub of_index : Facts → Text → Parts → Option Text
+of_index facts array ps = option_and_then (element_of facts array) (constant_parts ps)
+
+-- Words in brackets
+
+-- the value of a part that is no command in brackets
+abbrev pub simple_value : Facts → Part → Option Text
+simple_value facts (literal t) = Some t
+simple_value facts (braced t) = Some t
+simple_value facts (backslash t) = None
+simple_value facts (variable name) = value_of name facts.variables
+simple_value facts (indexed name ps) = of_index facts name ps
+simple_value facts (bracket s) = None
+
+abbrev pub with_value : Text → Option Text → Option Text
+with_value text value = option_map (λ more. text ++ more) value
+
+abbrev pub with_simple : Facts → Text → Part → Option Text
+with_simple facts text p = with_value text (simple_value facts p)
+
+abbrev pub parts_in : Parts → List Part
+parts_in no_parts = []
+parts_in (part p ps) = p ∷ parts_in ps
+
+-- the values of the parts, joined
+abbrev pub simple_text : Facts → Parts → Option Text
+simple_text facts ps = run (with_simple facts) [] (parts_in ps)
+
+-- the value of a word without commands in brackets
+abbrev pub simple_word : Facts → Word → Option Text
+simple_word facts (word_of false ps) = simple_text facts ps
+simple_word facts (word_of true ps) = None
+
+abbrev pub with_word : Facts → List Text → Word → Option (List Text)
+with_word facts words w = option_map (λ text. words ++ text ∷ []) (simple_word facts w)
+
+abbrev pub simple_words : Facts → List Word → Option (List Text)
+simple_words facts ws = run (with_word facts) [] ws
+
+-- the words of the one command of some
+abbrev pub one_of : List Command → Option (List Word)
+one_of [] = None
+one_of (c ∷ []) = Some (words_in c.words)
+one_of (c ∷ (d ∷ cs)) = None
+
+abbrev pub words_of_one : Facts → List Command → Option (List Text)
+words_of_one facts cs = option_and_then (simple_words facts) (one_of cs)
+
+-- Values
+
+-- the result of the one command of some
+abbrev pub result_of_one : Facts → List Command → Option Text
+result_of_one facts cs = option_and_then (result_of facts.host) (words_of_one facts cs)
+
 -- the text that is computed for a part of a word
-abbrev pub text_of : List Binding → List Binding → Part → Option Text
-text_of host known (literal t) = None
-text_of host known (braced t) = None
-text_of host known (backslash t) = None
-text_of host known (variable name) = None
-text_of host known (indexed name ps) = option_and_then (element_of host known name) (constant_parts ps)
-text_of host known (bracket s) = option_and_then (result_of host) (words_of_one (commands_in s))
+abbrev pub text_of : Facts → Part → Option Text
+text_of facts (literal t) = None
+text_of facts (braced t) = None
+text_of facts (backslash t) = None
+text_of facts (variable name) = None
+text_of facts (indexed name ps) = of_index facts name ps
+text_of facts (bracket s) = result_of_one facts (commands_in s)
+
+-- the value of a part
+abbrev pub value_of_part : Facts → Part → Option Text
+value_of_part facts (literal t) = Some t
+value_of_part facts (braced t) = Some t
+value_of_part facts (backslash t) = None
+value_of_part facts (variable name) = value_of name facts.variables
+value_of_part facts (indexed name ps) = of_index facts name ps
+value_of_part facts (bracket s) = result_of_one facts (commands_in s)
+
+abbrev pub with_part : Facts → Text → Part → Option Text
+with_part facts text p = with_value text (value_of_part facts p)
+
+abbrev pub value_of_parts : Facts → Parts → Option Text
+value_of_parts facts ps = run (with_part facts) [] (parts_in ps)
+
+-- the value of a word
+abbrev pub value_of_word : Facts → Word → Option Text
+value_of_word facts (word_of false ps) = value_of_parts facts ps
+value_of_word facts (word_of true ps) = None

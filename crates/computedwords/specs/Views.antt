@@ -1,5 +1,8 @@
 -- Values of the code as the definitions have them.
-use Rattle.std.specs.Prelude.{List, map}
+use Rattle.std.specs.Prelude.{ℕ, List, map}
+use Rattle.std.specs.declared.alloc.Global.{Global}
+use Rattle.std.specs.declared.vec.Vec.{Vec}
+use Rattle.tclchars.specs.Runs.{Text}
 use Rattle.computedwords.specs.Answers as answers
 use Rattle.computedwords.specs.Walks as walks
 use Rattle.computedwords.specs.declared.answers.Binding.{Binding}
@@ -8,10 +11,13 @@ use Rattle.computedwords.specs.declared.walking.Walk.{Walk}
 use Rattle.computedwords.specs.declared.answers.Facts.{Facts}
 
 abbrev pub binding_view : Binding → answers.Binding
-binding_view b = record { name = b.name.now; value = b.value.now }
+binding_view b = record { name = b.name.now; value = b.value.items }
 
 abbrev pub bindings_view : List Binding → List answers.Binding
 bindings_view bs = map binding_view bs
+
+abbrev pub values_view : List (Vec ℕ Global) → List Text
+values_view values = map (λ value. value.items) values
 
 abbrev pub edit_view : Edit → walks.Edit
 edit_view e = record { from = e.from; to = e.to; text = e.text.items }
@@ -22,5 +28,9 @@ edits_view es = map edit_view es
 abbrev pub walk_view : Walk → walks.Walk
 walk_view w = record { edits = edits_view w.edits.items; rest = w.rest.now; may_put = w.may_put }
 
-abbrev pub facts_view : Facts → walks.Facts
-facts_view f = record { host = bindings_view f.host.now; known = bindings_view f.known.now }
+abbrev pub facts_view : Facts → answers.Facts
+facts_view f = record {
+  host = bindings_view f.host.now;
+  variables = bindings_view f.variables.items;
+  environment = bindings_view f.environment.items;
+}

@@ -1,19 +1,20 @@
 -- A walk over the text of a command beside its words: which text is put for which bytes (own). A text is put for a part
 -- of a word where Tcl reads exactly this text there: bare, of bytes that stand for themselves, behind no name of a
 -- variable; or in braces, where the part is the whole word.
-use Rattle.std.specs.Prelude.{ℕ, List, [], ◌∷◌, ◌++◌, Bool, true, false, not, ◌&&◌, ◌||◌, ◌==◌, nat_eq, codes}
-use Rattle.std.specs.Prelude.{length, drop, if◌then◌else◌, Option, Some, None, option_and_then}
-use Rattle.std.specs.List.{list_all, list_any, starts_with, position_or_len}
+use Rattle.std.specs.Prelude.{ℕ, List, [], ◌∷◌, ◌++◌, Bool, true, false, not, ◌&&◌, ◌||◌, ◌==◌, codes}
+use Rattle.std.specs.Prelude.{length, if◌then◌else◌, Option, Some, None, option_and_then}
+use Rattle.std.specs.List.{list_all, list_any}
 use Rattle.std.specs.Option.{option_map}
-use Rattle.tclchars.specs.Bytes.{is_blank, is_literal, newline, backslash, quote, dollar, left_brace, right_brace}
+use Rattle.tclchars.specs.Bytes.{is_literal, newline, backslash, quote, dollar, left_brace, right_brace}
 use Rattle.tclchars.specs.Runs.{Text}
 use Rattle.tclscript.specs.Tree as tree
 use Rattle.tclscript.specs.Tree.{Word, word_of, Part, literal, braced, variable, indexed, bracket}
 use Rattle.tclscript.specs.Tree.{Parts, no_parts, part}
-use Rattle.portforms.specs.Words.{commands_in, constant_parts}
-use Rattle.computedwords.specs.Answers.{Binding, text_of, words_of_one}
-use Rattle.computedwords.specs.Knowledge.{is_constant, parts_in}
+use Rattle.portforms.specs.Words.{constant_parts}
+use Rattle.computedwords.specs.Answers.{Facts, parts_in, run, text_of}
+use Rattle.computedwords.specs.Knowledge.{is_constant}
 use Rattle.computedwords.specs.Paths.{is_empty}
+use Rattle.computedwords.specs.Places.{behind, behind_part, behind_word, ungapped}
 
 -- a text for the bytes from one place to another; a place is said by how many bytes there are from it to the text's end
 pub record Edit : Type 0 where
@@ -26,64 +27,6 @@ pub record Walk : Type 0 where
   pub edits : List Edit
   pub rest : Text
   pub may_put : Bool
-
--- from one to the next, as long as there is one
-abbrev pub run : {S X : Type 0} → (S → X → Option S) → S → List X → Option S
-run step s [] = Some s
-run step s (x ∷ xs) = option_and_then (λ t. run step t xs) (step s x)
-
--- What is behind
-
--- the text without what stands before a word: blanks, and newlines behind backslashes
-abbrev pub is_word_byte : ℕ → Bool
-is_word_byte b = not (is_blank b || b == newline || b == backslash)
-
-abbrev pub ungapped : Text → Text
-ungapped text = drop (position_or_len is_word_byte text) text
-
--- what is behind these bytes, where the text begins so
-abbrev pub behind : Text → Text → Option Text
-behind bytes text = if starts_with nat_eq text bytes then Some (drop (length bytes) text) else None
-
-abbrev pub or_else : Option Text → Option Text → Option Text
-or_else None other = other
-or_else (Some text) other = Some text
-
--- what is behind bytes between two others
-abbrev pub between : Text → Text → Text → Text → Option Text
-between first bytes last text =
-    option_and_then (behind last) (option_and_then (behind bytes) (behind first text))
-
-abbrev pub behind_variable : Text → Text → Option Text
-behind_variable name text =
-    or_else (between (codes "${") name (codes "}") text) (option_and_then (behind name) (behind (codes "$") text))
-
--- what is behind an element of an array
-abbrev pub behind_element : Text → Text → Text → Option Text
-behind_element name element text =
-    option_and_then (between (codes "(") element (codes ")")) (option_and_then (behind name) (behind (codes "$") text))
-
--- what is behind a constant word of this text: in braces, in quotes or bare
-abbrev pub behind_word : Text → Text → Option Text
-behind_word text word =
-    or_else (between (codes "{") word (codes "}") (ungapped text))
-    (or_else (between (codes "\"") word (codes "\"") (ungapped text)) (behind word (ungapped text)))
-
--- what is behind a command in brackets with these words
-abbrev pub behind_bracket : List Text → Text → Option Text
-behind_bracket words text =
-    option_and_then (λ rest. behind (codes "]") (ungapped rest))
-    (option_and_then (λ rest. run behind_word rest words) (behind (codes "[") text))
-
--- what is behind a part
-abbrev pub behind_part : Part → Text → Option Text
-behind_part (literal t) text = behind t text
-behind_part (braced t) text = between (codes "{") t (codes "}") text
-behind_part (tree.backslash t) text = None
-behind_part (variable name) text = behind_variable name text
-behind_part (indexed name ps) text = option_and_then (λ element. behind_element name element text) (constant_parts ps)
-behind_part (bracket s) text =
-    option_and_then (λ words. behind_bracket words text) (words_of_one (commands_in s))
 
 -- How a text is put
 
@@ -118,13 +61,8 @@ is_open_behind (bracket s) = true
 
 -- Walks
 
--- what is known of the host, and of variables
-pub record Facts : Type 0 where
-  pub host : List Binding
-  pub known : List Binding
-
 abbrev pub put : Facts → Bool → Part → Option Text
-put facts whole p = option_and_then (spelled whole) (text_of facts.host facts.known p)
+put facts whole p = option_and_then (spelled whole) (text_of facts p)
 
 abbrev pub edits_for : ℕ → ℕ → Option Text → List Edit
 edits_for from to None = []

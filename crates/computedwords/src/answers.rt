@@ -1,25 +1,36 @@
 //! Which text a computed word means.
-ghost use Rattle.std.specs.Prelude.{◌≡◌, bytes_eq, find, map, option_and_then, IfOk};
+ghost use Rattle.std.specs.Prelude.{◌≡◌, bytes_eq, find, option_and_then, IfOk};
 ghost use Rattle.std.specs.Option.{option_map};
-ghost use Rattle.tclscript.specs.View.{command_view, part_view, parts_view, script_view};
+ghost use Rattle.tclscript.specs.View.{part_view, parts_view};
 ghost use Rattle.portforms.specs.Words as words_spec;
-ghost use Rattle.portforms.specs.Words.{commands_in, texts};
+ghost use Rattle.portforms.specs.Words.{texts};
 ghost use Rattle.computedwords.specs.Answers as spec;
 ghost use Rattle.computedwords.specs.Paths as paths;
-ghost use Rattle.computedwords.specs.Views.{binding_view, bindings_view};
+ghost use Rattle.computedwords.specs.Views.{binding_view, bindings_view, facts_view};
 
 use crate::paths::{are_joined, directory_of, has_tilde, joined, tail_of};
-use portforms::{is_text, words_of_command};
+use portforms::is_text;
 use std::alloc::{AllocError, Global};
-use tclscript::{Command, Part, Script};
+use tclscript::Part;
 
 /// A name, and its value.
-#[derive(Clone, Copy, Debug, Drop)]
+#[derive(Debug, Drop)]
 pub struct Binding<'a> {
     /// The name.
     pub name: &'a [u8],
     /// Its value.
-    pub value: &'a [u8],
+    pub value: Vec<u8>,
+}
+
+/// What is known.
+#[derive(Debug, Drop)]
+pub(crate) struct Facts<'h, 'b, 'a> {
+    /// Of the host, by the names that `uname` has.
+    pub host: &'h [Binding<'b>],
+    /// Of variables of the file.
+    pub variables: Vec<Binding<'a>>,
+    /// Of variables of the environment.
+    pub environment: Vec<Binding<'a>>,
 }
 
 /// The first of this name.
@@ -40,7 +51,7 @@ pub(crate) fn value_of(
         ≡ spec.value_of name.now (bindings_view known.now)) }
 {
     match find(known, name) {
-        Some(binding) => Ok(Some(Vec::from_slice(alloc, binding.value)?)),
+        Some(binding) => Ok(Some(Vec::from_slice(alloc, binding.value.as_slice())?)),
         None => Ok(None),
     }
 }
@@ -151,7 +162,7 @@ fn of_uname(alloc: Global, host: &[Binding], words: &[&[u8]]) -> Result<Option<V
 }
 
 /// What a command of these words gives.
-fn result_of(
+pub(crate) fn result_of(
     alloc: Global,
     host: &[Binding],
     words: &[&[u8]],
@@ -170,48 +181,6 @@ fn result_of(
         of_uname(alloc, host, others)
     } else {
         Ok(None)
-    }
-}
-
-/// The words of the one command of some, where they are constant.
-fn words_of_one<'a>(
-    alloc: Global,
-    commands: &[Command<&'a str>],
-) -> Result<Option<Vec<&'a [u8]>>, AllocError>
-    ensures { IfOk result (λ words. option_map (λ w. texts w.items) words
-        ≡ spec.words_of_one (map (command_view (λ piece. piece.now)) commands.now)) }
-{
-    match commands {
-        [] => Ok(None),
-        [command] => words_of_command(alloc, command),
-        [_, _, ..] => Ok(None),
-    }
-}
-
-/// The words of the one command of a script, where they are constant.
-pub(crate) fn words_of_script<'a>(
-    alloc: Global,
-    script: &Script<&'a str>,
-) -> Result<Option<Vec<&'a [u8]>>, AllocError>
-    ensures { IfOk result (λ words. option_map (λ w. texts w.items) words
-        ≡ spec.words_of_one (commands_in (script_view (λ piece. piece.now) script.now))) }
-{
-    words_of_one(alloc, script.commands.as_slice())
-}
-
-/// What the one command of a script gives.
-fn result_of_script(
-    alloc: Global,
-    host: &[Binding],
-    script: &Script<&str>,
-) -> Result<Option<Vec<u8>>, AllocError>
-    ensures { IfOk result (λ text. option_map (λ v. v.items) text
-        ≡ option_and_then (spec.result_of (bindings_view host.now))
-        (spec.words_of_one (commands_in (script_view (λ piece. piece.now) script.now)))) }
-{
-    match words_of_script(alloc, script)? {
-        Some(words) => result_of(alloc, host, words.as_slice()),
-        None => Ok(None),
     }
 }
 
@@ -283,15 +252,6 @@ fn is_platform(array: &[u8]) -> bool
     is_text(array, "tcl_platform") || is_text(array, "::tcl_platform")
 }
 
-/// What is known of the host, and of variables of the environment.
-#[derive(Clone, Copy)]
-pub(crate) struct Facts<'f, 'h, 'k> {
-    /// The host's, by the names that `uname` has.
-    pub host: &'f [Binding<'h>],
-    /// The variables'.
-    pub known: &'f [Binding<'k>],
-}
-
 /// What is known of an element of an array.
 fn element_of(
     alloc: Global,
@@ -300,11 +260,10 @@ fn element_of(
     element: &[u8],
 ) -> Result<Option<Vec<u8>>, AllocError>
     ensures { IfOk result (λ text. option_map (λ v. v.items) text
-        ≡ spec.element_of (bindings_view facts.now.host.now) (bindings_view facts.now.known.now) array.now
-        element.now) }
+        ≡ spec.element_of (facts_view facts.now) array.now element.now) }
 {
     if is_environment(array) {
-        value_of(alloc, element, facts.known)
+        value_of(alloc, element, facts.environment.as_slice())
     } else if is_platform(array) {
         of_platform(alloc, facts.host, element)
     } else {
@@ -313,40 +272,17 @@ fn element_of(
 }
 
 /// What is known of the element of an array with this index.
-fn of_index(
+pub(crate) fn of_index(
     alloc: Global,
     facts: &Facts,
     array: &[u8],
     index: &[Part<&str>],
 ) -> Result<Option<Vec<u8>>, AllocError>
     ensures { IfOk result (λ text. option_map (λ v. v.items) text
-        ≡ option_and_then
-        (spec.element_of (bindings_view facts.now.host.now) (bindings_view facts.now.known.now) array.now)
-        (words_spec.constant_parts (parts_view (λ piece. piece.now) index.now))) }
+        ≡ spec.of_index (facts_view facts.now) array.now (parts_view (λ piece. piece.now) index.now)) }
 {
     match constant_parts(index) {
         Some(element) => element_of(alloc, facts, array, element),
         None => Ok(None),
-    }
-}
-
-/// The text that is computed for a part of a word.
-pub(crate) fn text_of(
-    alloc: Global,
-    facts: &Facts,
-    part: &Part<&str>,
-) -> Result<Option<Vec<u8>>, AllocError>
-    ensures { IfOk result (λ text. option_map (λ v. v.items) text
-        ≡ spec.text_of (bindings_view facts.now.host.now) (bindings_view facts.now.known.now)
-        (part_view (λ piece. piece.now) part.now)) }
-{
-    match part {
-        Part::Literal(_) => Ok(None),
-        Part::Backslash(_) => Ok(None),
-        Part::Variable(_) => Ok(None),
-        Part::Indexed(array, index) => {
-            of_index(alloc, facts, array.as_bytes(), index.as_slice())
-        }
-        Part::Bracket(script) => result_of_script(alloc, facts.host, script),
     }
 }

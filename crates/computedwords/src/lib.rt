@@ -7,6 +7,10 @@ mod computing;
 mod knowledge;
 mod paths;
 mod places;
+mod quiet;
+mod settings;
+mod stillness;
+mod values;
 mod walking;
 
 pub use answers::Binding;

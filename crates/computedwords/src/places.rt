@@ -1,17 +1,18 @@
 //! Places in the text of a command: what is behind a word or a part of one.
-ghost use Rattle.std.specs.Prelude.{◌≡◌, ◌≤◌, codes, length, option_and_then, IfOk};
+ghost use Rattle.std.specs.Prelude.{◌≡◌, ◌≤◌, codes, length, map, option_and_then};
 ghost use Rattle.std.specs.List.{position_or_len};
 ghost use Rattle.std.specs.Option.{option_map};
-ghost use Rattle.tclscript.specs.View.{part_view, parts_view, script_view};
+ghost use Rattle.tclscript.specs.View.{content_view, part_view, parts_view, script_view, word_view};
 ghost use Rattle.portforms.specs.Words as words_spec;
-ghost use Rattle.portforms.specs.Words.{commands_in, texts};
-ghost use Rattle.computedwords.specs.Answers.{words_of_one};
-ghost use Rattle.computedwords.specs.Walks as spec;
+ghost use Rattle.portforms.specs.Words.{commands_in};
+ghost use Rattle.portforms.specs.WordViews.{words_view};
+ghost use Rattle.computedwords.specs.Answers as answers;
+ghost use Rattle.computedwords.specs.Places as spec;
 
-use crate::answers::{constant_parts, words_of_script};
-use std::alloc::{AllocError, Global};
+use crate::answers::constant_parts;
+use crate::values::one_of;
 use tclchars::is_blank;
-use tclscript::{Part, Script};
+use tclscript::{Part, Script, Word, WordContent};
 
 /// Whether a word can begin with the byte: it is no blank, newline or backslash.
 fn is_word_byte(byte: u8) -> bool
@@ -113,58 +114,6 @@ pub(crate) fn behind_word<'a>(word: &[u8], text: &'a [u8]) -> Option<&'a [u8]>
     }
 }
 
-/// What is behind constant words.
-fn behind_words<'a>(words: &[&[u8]], text: &'a [u8]) -> Option<&'a [u8]>
-    ensures { option_map (λ t. t.now) result ≡ spec.run spec.behind_word text.entry.now (texts words.now) }
-{
-    let mut rest = text;
-    for word in words {
-        match behind_word(word, rest) {
-            Some(others) => rest = others,
-            None => return None,
-        }
-    }
-    Some(rest)
-}
-
-/// What is behind words and the bracket that closes them.
-fn behind_closed<'a>(words: &[&[u8]], text: &'a [u8]) -> Option<&'a [u8]>
-    ensures { option_map (λ t. t.now) result
-        ≡ option_and_then (λ rest. spec.behind (codes "]") (spec.ungapped rest))
-        (spec.run spec.behind_word text.entry.now (texts words.now)) }
-{
-    match behind_words(words, text) {
-        Some(rest) => behind(b"]", ungapped(rest)),
-        None => None,
-    }
-}
-
-/// What is behind a command in brackets with these words.
-fn behind_bracket<'a>(words: &[&[u8]], text: &'a [u8]) -> Option<&'a [u8]>
-    ensures { option_map (λ t. t.now) result ≡ spec.behind_bracket (texts words.now) text.entry.now }
-{
-    match behind(b"[", text) {
-        Some(rest) => behind_closed(words, rest),
-        None => None,
-    }
-}
-
-/// What is behind a script in brackets that is one command of constant words.
-fn behind_script<'a>(
-    alloc: Global,
-    script: &Script<&str>,
-    text: &'a [u8],
-) -> Result<Option<&'a [u8]>, AllocError>
-    ensures { IfOk result (λ rest. option_map (λ t. t.now) rest
-        ≡ option_and_then (λ words. spec.behind_bracket words text.entry.now)
-        (words_of_one (commands_in (script_view (λ piece. piece.now) script.now)))) }
-{
-    match words_of_script(alloc, script)? {
-        Some(words) => Ok(behind_bracket(words.as_slice(), text)),
-        None => Ok(None),
-    }
-}
-
 /// What is behind the element of an array with this index.
 fn behind_index<'a>(name: &[u8], index: &[Part<&str>], text: &'a [u8]) -> Option<&'a [u8]>
     ensures { option_map (λ t. t.now) result
@@ -177,20 +126,173 @@ fn behind_index<'a>(name: &[u8], index: &[Part<&str>], text: &'a [u8]) -> Option
     }
 }
 
-/// What is behind a part.
-pub(crate) fn behind_part<'a>(
-    alloc: Global,
-    part: &Part<&str>,
-    text: &'a [u8],
-) -> Result<Option<&'a [u8]>, AllocError>
-    ensures { IfOk result (λ rest. option_map (λ t. t.now) rest
-        ≡ spec.behind_part (part_view (λ piece. piece.now) part.now) text.entry.now) }
+/// What is behind a part that is no command in brackets.
+fn behind_simple<'a>(part: &Part<&str>, text: &'a [u8]) -> Option<&'a [u8]>
+    ensures { option_map (λ t. t.now) result
+        ≡ spec.behind_simple text.entry.now (part_view (λ piece. piece.now) part.now) }
 {
     match part {
-        Part::Literal(bytes) => Ok(behind(bytes.as_bytes(), text)),
-        Part::Backslash(_) => Ok(None),
-        Part::Variable(name) => Ok(behind_variable(name.as_bytes(), text)),
-        Part::Indexed(name, index) => { Ok(behind_index(name.as_bytes(), index.as_slice(), text)) }
-        Part::Bracket(script) => behind_script(alloc, script, text),
+        Part::Literal(bytes) => behind(bytes.as_bytes(), text),
+        Part::Backslash(_) => None,
+        Part::Variable(name) => behind_variable(name.as_bytes(), text),
+        Part::Indexed(name, index) => behind_index(name.as_bytes(), index.as_slice(), text),
+        Part::Bracket(_) => None,
+    }
+}
+
+/// What is behind parts without commands in brackets.
+fn behind_each<'a>(parts: &[Part<&str>], text: &'a [u8]) -> Option<&'a [u8]>
+    ensures { option_map (λ t. t.now) result
+        ≡ answers.run spec.behind_simple text.entry.now (map (part_view (λ piece. piece.now)) parts.now) }
+{
+    let mut rest = text;
+    for part in parts {
+        match behind_simple(part, rest) {
+            Some(others) => rest = others,
+            None => return None,
+        }
+    }
+    Some(rest)
+}
+
+/// The same.
+fn behind_parts<'a>(parts: &[Part<&str>], text: &'a [u8]) -> Option<&'a [u8]>
+    ensures { option_map (λ t. t.now) result
+        ≡ spec.behind_parts text.entry.now (parts_view (λ piece. piece.now) parts.now) }
+{
+    behind_each(parts, text)
+}
+
+/// What is behind parts and the quote that ends them.
+fn behind_closed_parts<'a>(parts: &[Part<&str>], text: &'a [u8]) -> Option<&'a [u8]>
+    ensures { option_map (λ t. t.now) result
+        ≡ option_and_then (spec.behind (codes "\""))
+        (spec.behind_parts text.entry.now (parts_view (λ piece. piece.now) parts.now)) }
+{
+    match behind_parts(parts, text) {
+        Some(rest) => behind(b"\"", rest),
+        None => None,
+    }
+}
+
+/// What is behind parts in quotes.
+fn behind_quoted_parts<'a>(parts: &[Part<&str>], text: &'a [u8]) -> Option<&'a [u8]>
+    ensures { option_map (λ t. t.now) result
+        ≡ spec.behind_quoted text.entry.now (parts_view (λ piece. piece.now) parts.now) }
+{
+    match behind(b"\"", text) {
+        Some(rest) => behind_closed_parts(parts, rest),
+        None => None,
+    }
+}
+
+/// What is behind parts, in quotes or bare.
+fn behind_either<'a>(parts: &[Part<&str>], text: &'a [u8]) -> Option<&'a [u8]>
+    ensures { option_map (λ t. t.now) result
+        ≡ spec.or_else (spec.behind_quoted text.entry.now (parts_view (λ piece. piece.now) parts.now))
+        (spec.behind_parts text.entry.now (parts_view (λ piece. piece.now) parts.now)) }
+{
+    match behind_quoted_parts(parts, text) {
+        Some(rest) => Some(rest),
+        None => behind_parts(parts, text),
+    }
+}
+
+/// What is behind a word of these parts.
+fn behind_word_of<'a>(parts: &[Part<&str>], text: &'a [u8]) -> Option<&'a [u8]>
+    ensures { option_map (λ t. t.now) result
+        ≡ spec.behind_word_of text.entry.now (parts_view (λ piece. piece.now) parts.now)
+        (words_spec.constant_parts (parts_view (λ piece. piece.now) parts.now)) }
+{
+    match constant_parts(parts) {
+        Some(word) => behind_word(word, text),
+        None => behind_either(parts, ungapped(text)),
+    }
+}
+
+/// What is behind a word of this content, which has no command in brackets.
+fn behind_content<'a>(content: &WordContent<&str>, text: &'a [u8]) -> Option<&'a [u8]>
+    ensures { option_map (λ t. t.now) result
+        ≡ spec.behind_word_of text.entry.now (content_view (λ piece. piece.now) content.now)
+        (words_spec.constant_parts (content_view (λ piece. piece.now) content.now)) }
+{
+    match content {
+        WordContent::Bare(word) => behind_word(word.as_bytes(), text),
+        WordContent::Braced(word) => behind_word(word.as_bytes(), text),
+        WordContent::Parts(parts) => behind_word_of(parts.as_slice(), text),
+    }
+}
+
+/// What is behind a word without commands in brackets.
+fn behind_simple_word<'a>(word: &Word<&str>, text: &'a [u8]) -> Option<&'a [u8]>
+    ensures { option_map (λ t. t.now) result
+        ≡ spec.behind_simple_word text.entry.now (word_view (λ piece. piece.now) word.now) }
+{
+    if word.expands {
+        None
+    } else {
+        behind_content(&word.content, text)
+    }
+}
+
+/// What is behind such words.
+fn behind_words<'a>(words: &[Word<&str>], text: &'a [u8]) -> Option<&'a [u8]>
+    ensures { option_map (λ t. t.now) result ≡ answers.run spec.behind_simple_word text.entry.now (words_view words.now) }
+{
+    let mut rest = text;
+    for word in words {
+        match behind_simple_word(word, rest) {
+            Some(others) => rest = others,
+            None => return None,
+        }
+    }
+    Some(rest)
+}
+
+/// What is behind words and the bracket that closes them.
+fn behind_closed<'a>(words: &[Word<&str>], text: &'a [u8]) -> Option<&'a [u8]>
+    ensures { option_map (λ t. t.now) result
+        ≡ option_and_then (λ rest. spec.behind (codes "]") (spec.ungapped rest))
+        (answers.run spec.behind_simple_word text.entry.now (words_view words.now)) }
+{
+    match behind_words(words, text) {
+        Some(rest) => behind(b"]", ungapped(rest)),
+        None => None,
+    }
+}
+
+/// What is behind a command in brackets of these words.
+fn behind_bracket<'a>(words: &[Word<&str>], text: &'a [u8]) -> Option<&'a [u8]>
+    ensures { option_map (λ t. t.now) result ≡ spec.behind_bracket (words_view words.now) text.entry.now }
+{
+    match behind(b"[", text) {
+        Some(rest) => behind_closed(words, rest),
+        None => None,
+    }
+}
+
+/// What is behind a script in brackets that is one command.
+fn behind_script<'a>(script: &Script<&str>, text: &'a [u8]) -> Option<&'a [u8]>
+    ensures { option_map (λ t. t.now) result
+        ≡ option_and_then (λ ws. spec.behind_bracket ws text.entry.now)
+        (answers.one_of (commands_in (script_view (λ piece. piece.now) script.now))) }
+{
+    match one_of(script) {
+        Some(words) => behind_bracket(words, text),
+        None => None,
+    }
+}
+
+/// What is behind a part.
+pub(crate) fn behind_part<'a>(part: &Part<&str>, text: &'a [u8]) -> Option<&'a [u8]>
+    ensures { option_map (λ t. t.now) result
+        ≡ spec.behind_part (part_view (λ piece. piece.now) part.now) text.entry.now }
+{
+    match part {
+        Part::Literal(bytes) => behind(bytes.as_bytes(), text),
+        Part::Backslash(_) => None,
+        Part::Variable(name) => behind_variable(name.as_bytes(), text),
+        Part::Indexed(name, index) => behind_index(name.as_bytes(), index.as_slice(), text),
+        Part::Bracket(script) => behind_script(script, text),
     }
 }

@@ -5,13 +5,16 @@ ghost use Rattle.std.specs.Option.{option_map};
 ghost use Rattle.tclchars.specs.Bytes.{is_literal, left_brace, right_brace};
 ghost use Rattle.tclscript.specs.View.{content_view, part_view, parts_view, word_view};
 ghost use Rattle.portforms.specs.WordViews.{words_view};
+ghost use Rattle.computedwords.specs.Answers as answers;
+ghost use Rattle.computedwords.specs.Places as places;
 ghost use Rattle.computedwords.specs.Walks as spec;
 ghost use Rattle.computedwords.specs.Views.{edits_view, facts_view, walk_view};
 
-use crate::answers::{Facts, constant_parts, text_of};
-use crate::knowledge::is_constant;
+use crate::answers::{Facts, constant_parts};
 use crate::paths::is_empty;
 use crate::places::{behind, behind_part, behind_word, ungapped};
+use crate::stillness::is_constant;
+use crate::values::text_of;
 use std::alloc::{AllocError, Global};
 use tclchars::{is_gap, is_special};
 use tclscript::{Part, Word, WordContent};
@@ -197,7 +200,7 @@ impl<'a> Walk<'a> {
             ≡ spec.past_part (facts_view facts.now) whole (walk_view self.entry)
             (part_view (λ piece. piece.now) part.now)) }
     {
-        match behind_part(alloc, part, self.rest)? {
+        match behind_part(part, self.rest) {
             Some(rest) => Ok(Some(Walk {
                 edits: self.edits_with(alloc, facts, whole, part, rest)?,
                 rest,
@@ -216,7 +219,7 @@ impl<'a> Walk<'a> {
         parts: &[Part<&str>],
     ) -> Result<Option<Walk<'a>>, AllocError>
         ensures { IfOk result (λ walk. option_map walk_view walk
-            ≡ spec.run (spec.past_part (facts_view facts.now) whole) (walk_view self.entry)
+            ≡ answers.run (spec.past_part (facts_view facts.now) whole) (walk_view self.entry)
             (map (part_view (λ piece. piece.now)) parts.now)) }
     {
         let mut walk = self;
@@ -323,7 +326,7 @@ impl<'a> Walk<'a> {
     /// Behind a word of this text.
     fn past_constant(self, text: &[u8]) -> Option<Walk<'a>>
         ensures { option_map walk_view result
-            ≡ spec.onward (walk_view self.entry) (spec.behind_word (walk_view self.entry).rest text.now) }
+            ≡ spec.onward (walk_view self.entry) (places.behind_word (walk_view self.entry).rest text.now) }
     {
         let rest = behind_word(text, self.rest);
         self.onward(rest)
@@ -397,7 +400,7 @@ impl<'a> Walk<'a> {
         words: &[Word<&str>],
     ) -> Result<Option<Walk<'a>>, AllocError>
         ensures { IfOk result (λ walk. option_map walk_view walk
-            ≡ spec.run (spec.past_word (facts_view facts.now)) (walk_view self.entry) (words_view words.now)) }
+            ≡ answers.run (spec.past_word (facts_view facts.now)) (walk_view self.entry) (words_view words.now)) }
     {
         let mut walk = self;
         for word in words {
@@ -439,7 +442,7 @@ fn edits_of_words(
     text: &[u8],
 ) -> Result<Vec<Edit>, AllocError>
     ensures { IfOk result (λ edits. edits_view edits.items
-        ≡ spec.edits_in (spec.run (spec.past_word (facts_view facts.now))
+        ≡ spec.edits_in (answers.run (spec.past_word (facts_view facts.now))
         (record { edits = []; rest = text.now; may_put = true }) (words_view words.now))) }
 {
     let walk = Walk {

@@ -1,2 +1,3 @@
+pub mod Lines
 pub mod Same
 pub mod Utf8

@@ -1,5 +1,5 @@
 -- The text of a file that was written elsewhere (own): UTF-8 without a byte order mark, in lines that end in newlines.
-use Rattle.std.specs.Prelude.{◌≡◌, ℕ, List, [], ◌∷◌, Bool, false, not, ◌&&◌, ◌==◌, bytes_eq, nat_eq, drop, flat_map}
+use Rattle.std.specs.Prelude.{◌≡◌, ℕ, [], ◌∷◌, Bool, false, not, ◌&&◌, ◌==◌, bytes_eq, nat_eq, drop, flat_map}
 use Rattle.std.specs.Prelude.{encode_utf8, if◌then◌else◌}
 use Rattle.std.specs.List.{starts_with}
 use Rattle.std.specs.Str.{is_utf8}

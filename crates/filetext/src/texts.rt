@@ -1,6 +1,6 @@
 //! The text of a file, and how it was written.
-ghost use Rattle.std.specs.Prelude.{◌≡◌, ◌==◌, not, IfOk, string_bytes};
-ghost use Rattle.std.specs.Str.{is_utf8};
+ghost use Rattle.std.specs.Prelude.{◌≡◌, ◌==◌, true, not, IfOk, string_bytes};
+ghost use Rattle.std.specs.Str.{IsUtf8, is_utf8};
 ghost use Rattle.tclchars.specs.Bytes.{newline};
 ghost use Rattle.tclchars.specs.Classes.{begins_in};
 ghost use Rattle.filetext.specs.FileTexts as spec;
@@ -63,7 +63,8 @@ fn from_latin(alloc: Global, bytes: &[u8]) -> Result<String, AllocError>
 /// The bytes in UTF-8, as they are or from ISO 8859-1.
 fn in_utf8(alloc: Global, bytes: &[u8], latin: bool) -> Result<Vec<u8>, AllocError>
     requires { latin ≡ not (is_utf8 bytes.now) }
-    ensures { IfOk result (λ text. text.items ≡ spec.in_utf8 bytes.now) }
+    ensures text { IfOk result (λ text. text.items ≡ spec.in_utf8 bytes.now) }
+    ensures utf8 { IfOk result (λ text. IsUtf8 text.items) }
 {
     if latin {
         Ok(from_latin(alloc, bytes)?.into_bytes())
@@ -107,8 +108,10 @@ fn with_newlines(alloc: Global, text: &[u8]) -> Result<Vec<u8>, AllocError>
 /// The text of a file of these bytes, and how it was written.
 ///
 /// The error: want of memory.
+#[tactic(auto, using(crate::proofs::Lines::in_utf8_too))]
 pub fn file_text(alloc: Global, bytes: &[u8]) -> Result<FileText, AllocError>
     ensures text { IfOk result (λ file. file.text.items ≡ spec.text_of bytes.now) }
+    ensures utf8 { IfOk result (λ file. is_utf8 file.text.items ≡ true) }
     ensures mark { IfOk result (λ file. file.mark ≡ (spec.writing_of bytes.now).mark) }
     ensures latin { IfOk result (λ file. file.latin ≡ (spec.writing_of bytes.now).latin) }
     ensures returns { IfOk result (λ file. file.returns ≡ (spec.writing_of bytes.now).returns) }

@@ -59,16 +59,15 @@ impl Host {
     pub fn bindings(&self, alloc: Global) -> Result<Vec<Binding<'_>>, AllocError> {
         let mut bindings = Vec::new(alloc);
         for said in &self.said {
-            let value = said.value.as_bytes();
             if said.name.as_str() == "nodename" {
                 bindings.push(Binding {
                     name: b"node",
-                    value,
+                    value: Vec::from_slice(alloc, said.value.as_bytes())?,
                 })?;
             }
             bindings.push(Binding {
                 name: said.name.as_bytes(),
-                value,
+                value: Vec::from_slice(alloc, said.value.as_bytes())?,
             })?;
         }
         Ok(bindings)

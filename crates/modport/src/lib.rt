@@ -4,6 +4,7 @@
 #![tactic(auto)]
 
 mod arguments;
+mod family_walk;
 mod fault;
 mod host;
 mod left_out;
@@ -31,7 +32,7 @@ fn print(rt: &HostRuntime, manner: Manner, path: &str, bytes: &[u8]) -> Result<S
         text,
         report,
         status,
-    } = port_file(rt.alloc(), manner, path, file, None)?;
+    } = port_file(rt.alloc(), manner, path, file, None, None)?;
     if rt.stdout().write_all(text.as_bytes()).is_err()
         || rt.stderr().write_all(report.as_slice()).is_err()
     {

@@ -1,10 +1,13 @@
 //! A modulefile translated, however it was written.
+ghost use Rattle.std.specs.Prelude.{IfOk, string_bytes};
+ghost use Rattle.scripttext.specs.ScriptTexts.{Parses};
 
 use crate::fault::PortFault;
 use crate::left_out::LEFT_OUT;
 use crate::reporting::{edit_lines, file_line, note_lines};
 use crate::status::Status;
 use computedwords::{Binding, Computed, compute};
+use families::Home;
 use filetext::FileText;
 use oneversion::with_one_version;
 use std::alloc::{AllocError, Global};
@@ -12,7 +15,7 @@ use translation::{Note, Outcome, translate};
 
 /// How modulefiles are translated.
 #[derive(Clone, Copy)]
-pub(crate) struct Manner<'h> {
+pub struct Manner<'h> {
     /// Whether each line of the report is JSON.
     pub json: bool,
     /// What is known of the host that they are for.
@@ -21,7 +24,7 @@ pub(crate) struct Manner<'h> {
 
 /// What is written for a modulefile.
 #[derive(Debug, Drop)]
-pub(crate) struct Ported {
+pub struct Ported {
     /// Its text.
     pub text: String,
     /// The report.
@@ -55,24 +58,6 @@ fn notes_on(alloc: Global, file: &FileText) -> Result<Vec<Note<'static>>, AllocE
     Ok(notes)
 }
 
-/// Has a modulefile be in conflict with its own name, and says so; what has such a conflict stays.
-fn be_one_version(
-    alloc: Global,
-    json: bool,
-    path: &str,
-    ported: &mut Ported,
-    name: &str,
-) -> Result<(), PortFault> {
-    let Some(bytes) = with_one_version(alloc, ported.text.as_str(), name)? else {
-        return Ok(());
-    };
-    ported.text = text_of(bytes)?;
-    let what = format!(in alloc; "conflict {name}")?;
-    let line = file_line(alloc, json, path, "added", what.as_str())?;
-    ported.report.extend_from_slice(line.as_slice())?;
-    Ok(())
-}
-
 /// The text of these bytes.
 ///
 /// The error: they aren't UTF-8.
@@ -83,23 +68,62 @@ fn text_of(bytes: Vec<u8>) -> Result<String, PortFault> {
     }
 }
 
-/// The translation of a modulefile, and the report on it, where it has this path, and is to be in conflict with its
-/// name, where one is given.
+/// What is written for a modulefile that is to be in conflict with this name, and whether it has become so; what has
+/// such a conflict stays.
+fn one_version_of(
+    alloc: Global,
+    text: String,
+    name: Option<&str>,
+) -> Result<(String, bool), PortFault>
+    requires { Parses (string_bytes text) }
+    ensures parses { IfOk result (λ w. Parses (string_bytes w.0)) }
+{
+    let Some(name) = name else {
+        return Ok((text, false));
+    };
+    match with_one_version(alloc, text.as_str(), name)? {
+        Some(written) => Ok((written, true)),
+        None => Ok((text, false)),
+    }
+}
+
+/// The line that says that the file of this path has become in conflict with its name.
+fn added_line(
+    alloc: Global,
+    json: bool,
+    path: &str,
+    name: Option<&str>,
+    added: bool,
+) -> Result<Vec<u8>, PortFault> {
+    match name {
+        Some(name) if added => {
+            let what = format!(in alloc; "conflict {name}")?;
+            Ok(file_line(alloc, json, path, "added", what.as_str())?)
+        }
+        _ => Ok(Vec::new(alloc)),
+    }
+}
+
+/// The translation of a modulefile, and the report on it, where it has this path. It is in a site where a home is
+/// given, and is to be in conflict with a name where one is given.
 ///
 /// The errors: want of memory; it isn't translated.
-pub(crate) fn port_file(
+pub fn port_file(
     alloc: Global,
     manner: Manner,
     path: &str,
     file: FileText,
+    home: Option<Home>,
     name: Option<&str>,
-) -> Result<Ported, PortFault> {
+) -> Result<Ported, PortFault>
+    // What is written is a script.
+    ensures parses { IfOk result (λ p. Parses (string_bytes p.text)) }
+{
     let Manner { json, host } = manner;
     let written = notes_on(alloc, &file)?;
     let given = text_of(file.text)?;
     let Computed { text, edits } = compute(alloc, given.as_str(), host)?;
-    let text = text_of(text)?;
-    let translation = translate(alloc, text.as_str(), &LEFT_OUT)?;
+    let translation = translate(alloc, home, text.as_str(), &LEFT_OUT)?;
     let notes = translation.notes.as_slice();
     let mut report = note_lines(alloc, json, path, written.as_slice())?;
     report.extend_from_slice(edit_lines(
@@ -111,13 +135,11 @@ pub(crate) fn port_file(
     )?.as_slice())?;
     report.extend_from_slice(note_lines(alloc, json, path, notes)?.as_slice())?;
     let status = Status::of(notes);
-    let mut ported = Ported {
-        text: translation.text,
+    let (text, added) = one_version_of(alloc, translation.text, name)?;
+    report.extend_from_slice(added_line(alloc, json, path, name, added)?.as_slice())?;
+    Ok(Ported {
+        text,
         report,
         status,
-    };
-    if let Some(name) = name {
-        be_one_version(alloc, json, path, &mut ported, name)?;
-    }
-    Ok(ported)
+    })
 }

@@ -11,6 +11,7 @@ use translation::{Note, Outcome, report};
 fn word(outcome: Outcome) -> &'static str {
     match outcome {
         Outcome::Translated => "translated",
+        Outcome::Dropped => "dropped",
         Outcome::Left => "left out",
     }
 }

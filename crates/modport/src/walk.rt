@@ -1,11 +1,13 @@
 //! The files below a directory, translated below another.
 
 use crate::arguments::Walked;
+use crate::family_walk::{module_of, site_of};
 use crate::fault::PortFault;
 use crate::porting::{Manner, port_file};
 use crate::reporting::{fault_line, file_line};
 use crate::status::Status;
 use crate::texts::{joined, kind_of, modulefile, read, write_new};
+use families::{Home, Site};
 use filetree::{DiskTree, Tree};
 use std::alloc::{AllocError, Global};
 use std::fs;
@@ -14,7 +16,7 @@ use std::io::Write;
 use std::os::unix::fs::symlink;
 
 /// The most directories that are walked.
-const MOST_DIRECTORIES: usize = 1_000_000;
+pub(crate) const MOST_DIRECTORIES: usize = 1_000_000;
 
 /// A directory that is still to be walked.
 #[derive(Debug, Drop)]
@@ -35,6 +37,8 @@ pub(crate) struct Walk<'r> {
     manner: Manner<'r>,
     /// Whether each modulefile is to be in conflict with its own name.
     one_version: bool,
+    /// The families of the site, with their modules.
+    site: Site,
     /// How far what was read so far is within the profile.
     status: Status,
     /// The directories that are still to be walked.
@@ -44,7 +48,7 @@ pub(crate) struct Walk<'r> {
 }
 
 /// The names in a directory, in their order.
-fn names_in(rt: &HostRuntime, path: &str) -> Result<Vec<String>, PortFault> {
+pub(crate) fn names_in(rt: &HostRuntime, path: &str) -> Result<Vec<String>, PortFault> {
     let Ok(disk) = rt.clone() else {
         return Err(PortFault::OutOfMemory);
     };
@@ -62,7 +66,7 @@ fn stays(target: &str) -> bool {
 }
 
 /// The name of the modules of a directory of this name, in one with modules of that name.
-fn name_below(alloc: Global, above: &str, name: &str) -> Result<String, AllocError> {
+pub(crate) fn name_below(alloc: Global, above: &str, name: &str) -> Result<String, AllocError> {
     if above.is_empty() {
         return String::from_str(alloc, name);
     }
@@ -113,12 +117,13 @@ impl<'r> Walk<'r> {
         }
     }
 
-    /// Translates a file of a module of this name, where it has one.
+    /// Translates a file of this module, which is to be in conflict with a name, where one is given.
     fn file(
         &mut self,
         from: &str,
         to: Option<&str>,
         found: &Metadata,
+        module: &str,
         name: Option<&str>,
     ) -> Result<(), PortFault> {
         let alloc = self.rt.alloc();
@@ -131,7 +136,11 @@ impl<'r> Walk<'r> {
                 "no modulefile",
             )?.as_slice());
         };
-        let ported = port_file(alloc, self.manner, from, file, name)?;
+        let home = Home {
+            site: &self.site,
+            name: module.as_bytes(),
+        };
+        let ported = port_file(alloc, self.manner, from, file, Some(home), name)?;
         if let Some(to) = to {
             write_new(self.rt, to, ported.text.as_bytes(), found)?;
         }
@@ -201,8 +210,9 @@ impl<'r> Walk<'r> {
             let name = name_below(self.rt.alloc(), folder.name.as_str(), name)?;
             self.folder(from, to, &found, name)
         } else if found.is_file() {
+            let module = module_of(folder.name.as_str(), name);
             let name = self.conflicting(folder, name);
-            self.file(from.as_str(), target, &found, name)
+            self.file(from.as_str(), target, &found, module, name)
         } else if found.is_symlink() {
             self.link(from.as_str(), target)
         } else {
@@ -280,6 +290,7 @@ pub(crate) fn walk_tree<'r>(
         rt,
         manner,
         one_version,
+        site: site_of(rt, from.as_str())?,
         status: Status::Within,
         folders: Vec::new(rt.alloc()),
         made: Vec::new(rt.alloc()),

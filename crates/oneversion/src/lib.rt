@@ -3,6 +3,8 @@
 #![tactic(auto)]
 
 mod conflicts;
+mod laws;
 mod one_version;
 
+pub use laws::conflict_parses;
 pub use one_version::with_one_version;

@@ -1,5 +1,5 @@
 //! A modulefile with a conflict with its own name.
-ghost use Rattle.std.specs.Prelude.{◌≡◌, map, take, drop, IfOk, IfErr};
+ghost use Rattle.std.specs.Prelude.{◌≡◌, map, take, drop, option_and_then, IfOk, IfErr, IfSome, string_bytes};
 ghost use Rattle.std.specs.List.{list_all};
 ghost use Rattle.std.specs.Option.{option_map};
 ghost use Rattle.tclchars.specs.Bytes.{is_literal};
@@ -10,9 +10,11 @@ ghost use Rattle.tclscript.specs.Text.{IsWithin};
 ghost use Rattle.tclscript.specs.Tree.{Commands};
 ghost use Rattle.tclscript.specs.View.{command_view, script_view};
 ghost use Rattle.portforms.specs.Words.{commands_in};
+ghost use Rattle.scripttext.specs.ScriptTexts.{Parses, script_in};
 ghost use Rattle.oneversion.specs.OneVersion as spec;
 
 use crate::conflicts::has_conflict;
+use scripttext::script_text;
 use std::alloc::{AllocError, Global};
 use tclchars::{TextFault, is_gap, is_name, is_special};
 use tclscript::{Command, Script, parse_script};
@@ -110,17 +112,50 @@ fn of_script(
     with_conflict(alloc, text, script.commands.as_slice(), name)
 }
 
+/// These bytes as text, where there are any and they are a script.
+#[tactic(auto, using(scripttext::proofs::Scripts::found, scripttext::proofs::Scripts::not_found))]
+fn judged(alloc: Global, bytes: Option<Vec<u8>>) -> Result<Option<String>, AllocError>
+    ensures found { IfOk result (λ t. option_map string_bytes t
+        ≡ option_and_then script_in (option_map (λ v. v.items) bytes)) }
+    ensures parses { IfOk result (λ t. IfSome t (λ w. Parses (string_bytes w))) }
+{
+    match bytes {
+        Some(bytes) => script_text(alloc, bytes),
+        None => Ok(None),
+    }
+}
+
+/// The text of a script with a conflict with the name, where that is a script; none where it stays as it is.
+fn written_of(
+    alloc: Global,
+    text: &[u8],
+    script: &Script<&str>,
+    name: &[u8],
+) -> Result<Option<String>, AllocError>
+    ensures found { IfOk result (λ t. option_map string_bytes t ≡ option_and_then script_in
+        (spec.with_conflict name.now text.now (commands_in (script_view (λ piece. piece.now) script.now)))) }
+    ensures parses { IfOk result (λ t. IfSome t (λ w. Parses (string_bytes w))) }
+{
+    let bytes = of_script(alloc, text, script, name)?;
+    judged(alloc, bytes)
+}
+
 /// A modulefile with a conflict with its own name before its first command; none where it has such a conflict, or no
-/// command, or the name can't be written as it is.
+/// command, or the name can't be written as it is, or the text would be no script.
 ///
 /// The error: it is no script, or memory ran out.
-pub fn with_one_version(alloc: Global, text: &str, name: &str) -> Result<Option<Vec<u8>>, TextFault>
+pub fn with_one_version(alloc: Global, text: &str, name: &str) -> Result<Option<String>, TextFault>
+    // What is written is the text with the conflict, where that is a script.
     ensures found { IfOk result (λ t. (s : Commands) × IsWithin text.now s
-        × (option_map (λ v. v.items) t ≡ spec.with_conflict name.now text.now (commands_in s))) }
+        × (option_map string_bytes t
+        ≡ option_and_then script_in (spec.with_conflict name.now text.now (commands_in s)))) }
+
+    // What is written parses.
+    ensures parses { IfOk result (λ t. IfSome t (λ w. Parses (string_bytes w))) }
     ensures fault { IfErr result (IsTextFault text.now) }
 {
     let script = parse_script(alloc, text)?;
-    match of_script(alloc, text.as_bytes(), &script, name.as_bytes()) {
+    match written_of(alloc, text.as_bytes(), &script, name.as_bytes()) {
         Ok(written) => Ok(written),
         Err(_) => Err(TextFault::OutOfMemory),
     }

@@ -1,9 +1,10 @@
 -- What is written, judged.
-use Rattle.std.proofs.Common.{◌≡◌, Bool, true, false, List, subst, sym, inl, inr}
+use Rattle.std.proofs.Common.{◌≡◌, Bool, true, false, List, Option, subst, sym, inl, inr}
 use Rattle.std.proofs.lemmas.Bool.{cases_Bool}
 use Rattle.std.proofs.lemmas.Str.{IsUtf8-from_is_utf8}
 use Rattle.std.specs.Str.{IsUtf8, is_utf8}
 use Rattle.tclchars.specs.Runs.{Text}
+use Rattle.families.specs.Families.{Home}
 use Rattle.tclchars.specs.declared.fault.TextFault.{TextFault}
 use Rattle.tclscript.specs.Faults.{IsTextFault}
 use Rattle.translation.specs.Notes as notes
@@ -24,12 +25,12 @@ no_utf8 bytes h = elim (cases_Bool (is_utf8 bytes)) [
 pub fault_of_text : (bytes text : Text) (fault : TextFault) → text ≡ bytes → IsTextFault text fault → IsWrittenFault bytes (Written fault)
 fault_of_text bytes text fault e h = subst (λ (t : Text). IsTextFault t fault) e h
 
-pub moved : (names : List Text) (text written shown : Text) (said : List notes.Note) → HasTranslation names text written said → shown ≡ written
-    → HasTranslation names text shown said
-moved names text written shown said h e = subst (λ (t : Text). HasTranslation names text t said) (sym e) h
+pub moved : (home : Option Home) (names : List Text) (text written shown : Text) (said : List notes.Note) → HasTranslation home names text written said
+    → shown ≡ written → HasTranslation home names text shown said
+moved home names text written shown said h e = subst (λ (t : Text). HasTranslation home names text t said) (sym e) h
 
-pub fault_of_written : (names : List Text) (text written : Text) (said : List notes.Note) (fault : TranslationFault) → HasTranslation names text written said
-    → IsWrittenFault written fault → IsTranslationFault names text fault
-fault_of_written names text written said (Given fault) h k = absurd k
-fault_of_written names text written said (Written fault) h k = (written, said, h, k)
-fault_of_written names text written said NotUtf8 h k = (written, said, h, k)
+pub fault_of_written : (home : Option Home) (names : List Text) (text written : Text) (said : List notes.Note) (fault : TranslationFault)
+    → HasTranslation home names text written said → IsWrittenFault written fault → IsTranslationFault home names text fault
+fault_of_written home names text written said (Given fault) h k = absurd k
+fault_of_written home names text written said (Written fault) h k = (written, said, h, k)
+fault_of_written home names text written said NotUtf8 h k = (written, said, h, k)

@@ -10,8 +10,8 @@ use Rattle.translation.specs.declared.places.Mark.TheVariants.{Unliteral}
 use Rattle.translation.specs.declared.notes.Outcome.{Outcome}
 use Rattle.translation.specs.Places.{is_mark, unblanked, behind}
 
--- what became of the command of this line, from 1: its first line, where another one is written for it, or the name of
--- what the profile leaves out
+-- what became of the command of this line, from 1: its first line, where another one or none is written for it, or the
+-- name of what the profile leaves out
 pub record Note : Type 0 where
   pub line : ℕ
   pub said : Text

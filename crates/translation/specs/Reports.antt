@@ -3,10 +3,11 @@ use Rattle.std.specs.Prelude.{ℕ, ◌++◌, codes, decimal}
 use Rattle.tclchars.specs.Runs.{Text}
 use Rattle.translation.specs.Notes.{Note}
 use Rattle.translation.specs.declared.notes.Outcome.{Outcome}
-use Rattle.translation.specs.declared.notes.Outcome.TheVariants.{Translated, Left}
+use Rattle.translation.specs.declared.notes.Outcome.TheVariants.{Translated, Dropped, Left}
 
 abbrev pub word_of : Outcome → Text
 word_of Translated = codes "translated"
+word_of Dropped = codes "dropped"
 word_of Left = codes "left out"
 
 abbrev pub place_of : Text → ℕ → Text

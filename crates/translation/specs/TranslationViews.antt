@@ -3,6 +3,7 @@ use Rattle.std.specs.Prelude.{◌≡◌, ℕ, List, ◌++◌, map, Bool, true, f
 use Rattle.std.specs.Str.{is_utf8}
 use Rattle.std.specs.declared.alloc.AllocError.{AllocError}
 use Rattle.tclchars.specs.Runs.{Text}
+use Rattle.families.specs.Families.{Home}
 use Rattle.translation.specs.Notes as notes
 use Rattle.tclscript.specs.Faults.{IsTextFault}
 use Rattle.tclscript.specs.Text.{IsWithin}
@@ -34,14 +35,15 @@ AddsChange result old new change = IfOk result (AddsIf old new change)
 
 -- what is written, and said, of a text of these commands, where these names are left out
 pub record IsTranslation
-    (names : List Text) (text : Text) (cs : List Command) (written : Text) (said : List notes.Note) : Type 0 where
-  pub text_is : written ≡ written_for_all (pieces_of text cs)
-  pub notes_are : said ≡ notes_on_all names text (pieces_of text cs)
+    (home : Option Home) (names : List Text) (text : Text) (cs : List Command) (written : Text)
+    (said : List notes.Note) : Type 0 where
+  pub text_is : written ≡ written_for_all home (pieces_of text cs)
+  pub notes_are : said ≡ notes_on_all home names text (pieces_of text cs)
 
 -- the same of a text that is a script
-abbrev pub HasTranslation : List Text → Text → Text → List notes.Note → Type 0
-HasTranslation names text written said =
-    (s : Commands) × IsWithin text s × IsTranslation names text (commands_in s) written said
+abbrev pub HasTranslation : Option Home → List Text → Text → Text → List notes.Note → Type 0
+HasTranslation home names text written said =
+    (s : Commands) × IsWithin text s × IsTranslation home names text (commands_in s) written said
 
 -- why what would be written isn't: it is no script
 abbrev pub IsWrittenFault : Text → TranslationFault → Type 0
@@ -50,12 +52,13 @@ IsWrittenFault written (Written fault) = IsTextFault written fault
 IsWrittenFault written NotUtf8 = is_utf8 written ≡ false
 
 -- what would be written for a text isn't
-abbrev pub IsUnwritten : List Text → Text → TranslationFault → Type 0
-IsUnwritten names text fault =
-    (written : Text) × (said : List notes.Note) × HasTranslation names text written said × IsWrittenFault written fault
+abbrev pub IsUnwritten : Option Home → List Text → Text → TranslationFault → Type 0
+IsUnwritten home names text fault =
+    (written : Text) × (said : List notes.Note) × HasTranslation home names text written said
+    × IsWrittenFault written fault
 
 -- why a text isn't translated: it is no script, or what would be written for it is none
-abbrev pub IsTranslationFault : List Text → Text → TranslationFault → Type 0
-IsTranslationFault names text (Given fault) = IsTextFault text fault
-IsTranslationFault names text (Written fault) = IsUnwritten names text (Written fault)
-IsTranslationFault names text NotUtf8 = IsUnwritten names text NotUtf8
+abbrev pub IsTranslationFault : Option Home → List Text → Text → TranslationFault → Type 0
+IsTranslationFault home names text (Given fault) = IsTextFault text fault
+IsTranslationFault home names text (Written fault) = IsUnwritten home names text (Written fault)
+IsTranslationFault home names text NotUtf8 = IsUnwritten home names text NotUtf8

@@ -1,10 +1,13 @@
--- What is written for a modulefile, and what is said of its commands (own).
+-- What is written for a modulefile, and what is said of its commands (own). The home of a file is the site that it is of,
+-- and the module; without one nothing is known of families.
 use Rattle.std.specs.Prelude.{◌≡◌, ℕ, ◌+◌, List, [], ◌∷◌, ◌++◌, ◌==◌, take, count_by, flat_map}
 use Rattle.std.specs.Prelude.{Option, Some, None, option_and_then}
 use Rattle.std.specs.Option.{option_map}
 use Rattle.tclchars.specs.Bytes.{newline}
 use Rattle.tclchars.specs.Runs.{Text}
-use Rattle.translation.specs.declared.notes.Outcome.TheVariants.{Translated, Left}
+use Rattle.families.specs.Families.{Home, conflicts_for, conflict_with}
+use Rattle.translation.specs.declared.notes.Outcome.{Outcome}
+use Rattle.translation.specs.declared.notes.Outcome.TheVariants.{Translated, Dropped, Left}
 use Rattle.translation.specs.Places.{line_of, behind_words}
 use Rattle.portforms.specs.Words.{constants}
 use Rattle.portforms.specs.Forms.{Form, form_of}
@@ -40,20 +43,46 @@ first_of None other = other
 abbrev pub of_option : Piece → Option Text
 of_option p = option_and_then (without_option p.text) (idle_front p.words)
 
-abbrev pub of_other : Piece → Option Text
-of_other p = first_of (of_guard p) (of_option p)
+-- the site's other modules of the family that the command names, in a file of this home
+abbrev pub conflicts_in : Option Home → Piece → Option (List Text)
+conflicts_in home p = option_and_then (conflicts_for home) (constants p.words)
 
--- what is written for the command that the piece begins with, where it is another one
-abbrev pub change_of : Piece → Option Text
-change_of p = first_of (of_command p) (of_other p)
+abbrev pub of_conflicts : Text → List Text → List Text → Option Text
+of_conflicts text words names = option_map (λ rest. conflict_with names ++ rest) (behind_words words text)
+
+abbrev pub of_family_words : Option Home → Text → List Text → Option Text
+of_family_words home text words = option_and_then (of_conflicts text words) (conflicts_for home words)
+
+-- what is written for a command that names a family, with what stands behind it
+abbrev pub of_family : Option Home → Piece → Option Text
+of_family home p = option_and_then (of_family_words home p.text) (constants p.words)
+
+abbrev pub of_rest : Piece → Option Text
+of_rest p = first_of (of_guard p) (of_option p)
+
+abbrev pub of_other : Option Home → Piece → Option Text
+of_other home p = first_of (of_family home p) (of_rest p)
+
+-- what is written for the command that the piece begins with, where it is another one, or none
+abbrev pub change_of : Option Home → Piece → Option Text
+change_of home p = first_of (of_command p) (of_other home p)
+
+-- what becomes of a command for which that is written
+abbrev pub outcome_by : Option (List Text) → Outcome
+outcome_by None = Translated
+outcome_by (Some []) = Dropped
+outcome_by (Some (name ∷ names)) = Translated
+
+abbrev pub outcome_of : Option Home → Piece → Outcome
+outcome_of home p = outcome_by (conflicts_in home p)
 
 abbrev pub or_kept : Text → Option Text → Text
 or_kept text (Some change) = change
 or_kept text None = text
 
--- what is written for a piece
-abbrev pub written_for : Piece → Text
-written_for p = or_kept p.text (change_of p)
+-- what is written for a piece, in a file of this home
+abbrev pub written_for : Option Home → Piece → Text
+written_for home p = or_kept p.text (change_of home p)
 
 -- the line of an offset, from 1
 abbrev pub line_at : Text → ℕ → ℕ
@@ -63,22 +92,23 @@ abbrev pub note_of_kept : ℕ → Option Text → List Note
 note_of_kept line None = []
 note_of_kept line (Some name) = (record { line = line; said = name; outcome = Left }) ∷ []
 
-abbrev pub note_of : List Text → ℕ → Text → Option Text → List Note
-note_of names line text (Some change) = (record { line = line; said = line_of text; outcome = Translated }) ∷ []
-note_of names line text None = note_of_kept line (left_in names text)
+abbrev pub note_of : List Text → ℕ → Text → Outcome → Option Text → List Note
+note_of names line text outcome (Some change) =
+    (record { line = line; said = line_of text; outcome = outcome }) ∷ []
+note_of names line text outcome None = note_of_kept line (left_in names text)
 
 -- what is said of a piece of a text, where these names are left out
-abbrev pub notes_on : List Text → Text → Piece → List Note
-notes_on names text p = note_of names (line_at text p.start) p.text (change_of p)
+abbrev pub notes_on : Option Home → List Text → Text → Piece → List Note
+notes_on home names text p = note_of names (line_at text p.start) p.text (outcome_of home p) (change_of home p)
 
 -- what is written for pieces, and what is said of them
-abbrev pub written_for_all : List Piece → Text
-written_for_all ps = flat_map written_for ps
+abbrev pub written_for_all : Option Home → List Piece → Text
+written_for_all home ps = flat_map (written_for home) ps
 
-abbrev pub notes_on_all : List Text → Text → List Piece → List Note
-notes_on_all names text ps = flat_map (notes_on names text) ps
+abbrev pub notes_on_all : Option Home → List Text → Text → List Piece → List Note
+notes_on_all home names text ps = flat_map (notes_on home names text) ps
 
 -- each of the pieces is written as it is
-abbrev pub AreKept : List Piece → Type 0
-AreKept [] = Unit {0}
-AreKept (p ∷ ps) = (change_of p ≡ None) × AreKept ps
+abbrev pub AreKept : Option Home → List Piece → Type 0
+AreKept home [] = Unit {0}
+AreKept home (p ∷ ps) = (change_of home p ≡ None) × AreKept home ps

@@ -1,24 +1,26 @@
 //! Laws of translations: functions that do nothing, whose contracts are theorems about the definitions.
-ghost use Rattle.std.specs.Prelude.{◌≡◌, List, [], ◌∷◌, Some, None, flat_map};
+ghost use Rattle.std.specs.Prelude.{◌≡◌, List, [], ◌∷◌, Option, Some, None, flat_map};
 ghost use Rattle.tclchars.specs.Runs.{Text};
+ghost use Rattle.families.specs.Families.{Home};
 ghost use Rattle.tclscript.specs.Tree.{Command};
 ghost use Rattle.translation.specs.Places.{line_of};
 ghost use Rattle.translation.specs.Pieces.{Piece, pieces_of};
-ghost use Rattle.translation.specs.Translations.{AreKept, change_of, line_at, notes_on, written_for, written_for_all};
+ghost use Rattle.translation.specs.Translations.{AreKept, change_of, line_at, notes_on, outcome_of};
+ghost use Rattle.translation.specs.Translations.{written_for, written_for_all};
 ghost use Rattle.translation.specs.TranslationViews.{note};
-ghost use Rattle.translation.specs.declared.notes.Outcome.TheVariants.{Translated};
 
 /// The pieces of a text, wherever it is cut, are the text when they are joined. So a text of which each piece is kept
 /// is written byte for byte.
 pub fn pieces_of_text()
     ensures joined { (text : Text) (cs : List Command) → flat_map (λ p. p.text) (pieces_of text cs) ≡ text }
-    ensures unchanged { (text : Text) (cs : List Command) → AreKept (pieces_of text cs)
-        → written_for_all (pieces_of text cs) ≡ text }
+    ensures unchanged { (home : Option Home) (text : Text) (cs : List Command) → AreKept home (pieces_of text cs)
+        → written_for_all home (pieces_of text cs) ≡ text }
 {}
 
-/// Each command is accounted for: its piece is written byte for byte, or one note says that another is written for it.
+/// Each command is accounted for: its piece is written byte for byte, or one note says that another is written for it, or none.
 pub fn accounted()
-    ensures kept { (p : Piece) → change_of p ≡ None → written_for p ≡ p.text }
-    ensures noted { (names : List Text) (text change : Text) (p : Piece) → change_of p ≡ Some change
-        → notes_on names text p ≡ note (line_at text p.start) (line_of p.text) Translated ∷ [] }
+    ensures kept { (home : Option Home) (p : Piece) → change_of home p ≡ None → written_for home p ≡ p.text }
+    ensures noted { (home : Option Home) (names : List Text) (text change : Text) (p : Piece)
+        → change_of home p ≡ Some change
+        → notes_on home names text p ≡ note (line_at text p.start) (line_of p.text) (outcome_of home p) ∷ [] }
 {}

@@ -12,6 +12,8 @@ use std::alloc::{AllocError, Global};
 pub enum Outcome {
     /// Another one is written for it.
     Translated,
+    /// None is written for it.
+    Dropped,
     /// It is kept as it is, and the profile leaves it out.
     Left,
 }
@@ -21,7 +23,7 @@ pub enum Outcome {
 pub struct Note<'a> {
     /// The line of the command, from 1.
     pub line: usize,
-    /// Of one that is translated, its first line; else the name of what is left out.
+    /// Of one that is translated or dropped, its first line; else the name of what is left out.
     pub said: &'a [u8],
     /// What became of it.
     pub outcome: Outcome,

@@ -14,6 +14,7 @@ impl Outcome {
     {
         match self {
             Outcome::Translated => "translated",
+            Outcome::Dropped => "dropped",
             Outcome::Left => "left out",
         }
     }

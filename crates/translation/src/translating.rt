@@ -1,10 +1,12 @@
 //! A modulefile translated, piece by piece.
 ghost use Rattle.std.specs.Prelude.{◌≡◌, ◌==◌, [], ◌∷◌, ◌++◌, ◌≤◌, map, take, count_by, length, IfOk, IfErr, OnOk};
+ghost use Rattle.std.specs.Option.{option_map};
 ghost use Rattle.tclscript.specs.Faults.{IsTextFault};
 ghost use Rattle.tclscript.specs.View.{script_view};
 ghost use Rattle.portforms.specs.Words.{texts, commands_in};
 ghost use Rattle.portforms.specs.FormViews.{form_view};
 ghost use Rattle.guards.specs.GuardViews.{guard_view};
+ghost use Rattle.families.specs.Views.{home_view};
 ghost use Rattle.translation.specs.PieceViews.{piece_view};
 ghost use Rattle.translation.specs.Translations as spec;
 ghost use Rattle.translation.specs.TranslationViews.{notes_view, note, AddsChange, HasTranslation, IsTranslation};
@@ -14,6 +16,7 @@ use crate::options::{idle_front, push_without_option};
 use crate::pieces::{Piece, pieces_of};
 use crate::places::{behind_words, line_of};
 use crate::writing::{push_form, push_needs};
+use families::{Home, conflicts_for, push_conflict};
 use guards::{Guard, guard_of};
 use portforms::{Form, constants, form_of};
 use std::alloc::{AllocError, Global};
@@ -102,8 +105,8 @@ fn push_option(written: &mut Vec<u8>, piece: &Piece) -> Result<bool, AllocError>
 
 /// Adds what is written for a piece that is a guard, or has such an option; else false.
 #[tactic(auto, using(crate::proofs::Adding::added_first, crate::proofs::Adding::added_second))]
-fn push_other(alloc: Global, written: &mut Vec<u8>, piece: &Piece) -> Result<bool, AllocError>
-    ensures { AddsChange result written.old.items written.new.items (spec.of_other (piece_view piece.now)) }
+fn push_rest(alloc: Global, written: &mut Vec<u8>, piece: &Piece) -> Result<bool, AllocError>
+    ensures { AddsChange result written.old.items written.new.items (spec.of_rest (piece_view piece.now)) }
 {
     if push_guard_of(alloc, written, piece)? {
         return Ok(true);
@@ -111,15 +114,117 @@ fn push_other(alloc: Global, written: &mut Vec<u8>, piece: &Piece) -> Result<boo
     push_option(written, piece)
 }
 
+/// Adds a conflict with these modules for a command of these words, and what stands behind it; false where the text has
+/// them not.
+fn push_conflicts(
+    written: &mut Vec<u8>,
+    text: &[u8],
+    words: &[&[u8]],
+    names: &[&[u8]],
+) -> Result<bool, AllocError>
+    ensures { AddsChange result written.old.items written.new.items
+        (spec.of_conflicts text.now (texts words.now) (texts names.now)) }
+{
+    let Some(rest) = behind_words(words, text) else {
+        return Ok(false);
+    };
+    push_conflict(written, names)?;
+    written.extend_from_slice(rest)?;
+    Ok(true)
+}
+
+/// Adds what is written for a command of these words that names a family; else false.
+fn push_family_words(
+    alloc: Global,
+    written: &mut Vec<u8>,
+    home: Option<Home>,
+    text: &[u8],
+    words: &[&[u8]],
+) -> Result<bool, AllocError>
+    ensures { AddsChange result written.old.items written.new.items
+        (spec.of_family_words (option_map home_view home.entry) text.now (texts words.now)) }
+{
+    match conflicts_for(alloc, home, words)? {
+        Some(names) => push_conflicts(written, text, words, names.as_slice()),
+        None => Ok(false),
+    }
+}
+
+/// Adds what is written for the command of a piece that names a family; else false.
+fn push_family(
+    alloc: Global,
+    written: &mut Vec<u8>,
+    home: Option<Home>,
+    piece: &Piece,
+) -> Result<bool, AllocError>
+    ensures { AddsChange result written.old.items written.new.items
+        (spec.of_family (option_map home_view home.entry) (piece_view piece.now)) }
+{
+    match constants(alloc, piece.words)? {
+        Some(words) => push_family_words(alloc, written, home, piece.text, words.as_slice()),
+        None => Ok(false),
+    }
+}
+
+/// Adds what is written for a piece that names a family, is a guard, or has such an option; else false.
+#[tactic(auto, using(crate::proofs::Adding::added_first, crate::proofs::Adding::added_second))]
+fn push_other(
+    alloc: Global,
+    written: &mut Vec<u8>,
+    home: Option<Home>,
+    piece: &Piece,
+) -> Result<bool, AllocError>
+    ensures { AddsChange result written.old.items written.new.items
+        (spec.of_other (option_map home_view home.entry) (piece_view piece.now)) }
+{
+    if push_family(alloc, written, home, piece)? {
+        return Ok(true);
+    }
+    push_rest(alloc, written, piece)
+}
+
 /// Adds what is written for the command of a piece, where it is another one; else false.
 #[tactic(auto, using(crate::proofs::Adding::added_first, crate::proofs::Adding::added_second))]
-fn push_change(alloc: Global, written: &mut Vec<u8>, piece: &Piece) -> Result<bool, AllocError>
-    ensures { AddsChange result written.old.items written.new.items (spec.change_of (piece_view piece.now)) }
+fn push_change(
+    alloc: Global,
+    written: &mut Vec<u8>,
+    home: Option<Home>,
+    piece: &Piece,
+) -> Result<bool, AllocError>
+    ensures { AddsChange result written.old.items written.new.items
+        (spec.change_of (option_map home_view home.entry) (piece_view piece.now)) }
 {
     if push_command(alloc, written, piece)? {
         return Ok(true);
     }
-    push_other(alloc, written, piece)
+    push_other(alloc, written, home, piece)
+}
+
+/// What becomes of a command for which a conflict with these modules is written, where it names a family.
+fn outcome_by(names: Option<Vec<&[u8]>>) -> Outcome
+    ensures { result ≡ spec.outcome_by (option_map (λ n. texts n.items) names.entry) }
+{
+    match names {
+        Some(names) => {
+            if names.is_empty() {
+                Outcome::Dropped
+            } else {
+                Outcome::Translated
+            }
+        }
+        None => Outcome::Translated,
+    }
+}
+
+/// What becomes of the command of a piece for which another one, or none, is written.
+fn outcome_of(alloc: Global, home: Option<Home>, piece: &Piece) -> Result<Outcome, AllocError>
+    ensures { IfOk result (λ outcome. outcome
+        ≡ spec.outcome_of (option_map home_view home.entry) (piece_view piece.now)) }
+{
+    match constants(alloc, piece.words)? {
+        Some(words) => Ok(outcome_by(conflicts_for(alloc, home, words.as_slice())?)),
+        None => Ok(Outcome::Translated),
+    }
 }
 
 /// The bytes before an offset.
@@ -170,22 +275,24 @@ impl<'a> Draft<'a> {
         Ok(())
     }
 
-    /// Adds a piece of a text, where these names are left out.
+    /// Adds a piece of a text, in a file of this home, where these names are left out.
     #[tactic(auto, using(crate::proofs::Adding::not_added))]
     fn add(
         &mut self,
         alloc: Global,
+        home: Option<Home>,
         text: &[u8],
         piece: &Piece<'_, 'a>,
         left_out: &[&str],
     ) -> Result<(), AllocError>
         ensures text { OnOk result (self.new.text.items
-            ≡ self.old.text.items ++ spec.written_for (piece_view piece.now)) }
-        ensures notes { OnOk result (notes_view self.new.notes.items
-            ≡ notes_view self.old.notes.items ++ spec.notes_on (texts left_out.now) text.now (piece_view piece.now)) }
+            ≡ self.old.text.items ++ spec.written_for (option_map home_view home.entry) (piece_view piece.now)) }
+        ensures notes { OnOk result (notes_view self.new.notes.items ≡ notes_view self.old.notes.items
+            ++ spec.notes_on (option_map home_view home.entry) (texts left_out.now) text.now (piece_view piece.now)) }
     {
-        if push_change(alloc, &mut self.text, piece)? {
-            return self.add_note(text, piece, line_of(piece.text), Outcome::Translated);
+        let outcome = outcome_of(alloc, home, piece)?;
+        if push_change(alloc, &mut self.text, home, piece)? {
+            return self.add_note(text, piece, line_of(piece.text), outcome);
         }
         self.text.extend_from_slice(piece.text)?;
         match left_in(alloc, piece.text, left_out)? {
@@ -198,20 +305,23 @@ impl<'a> Draft<'a> {
 /// What is written for pieces of a text, and what is said of them.
 fn translated<'a>(
     alloc: Global,
+    home: Option<Home>,
     text: &'a [u8],
     pieces: &[Piece<'_, 'a>],
     left_out: &[&str],
 ) -> Result<Draft<'a>, AllocError>
-    ensures text { IfOk result (λ t. t.text.items ≡ spec.written_for_all (map piece_view pieces.now)) }
+    ensures text { IfOk result (λ t. t.text.items ≡ spec.written_for_all (option_map home_view home.entry)
+        (map piece_view pieces.now)) }
     ensures notes { IfOk result (λ t. notes_view t.notes.items
-        ≡ spec.notes_on_all (texts left_out.now) text.entry.now (map piece_view pieces.now)) }
+        ≡ spec.notes_on_all (option_map home_view home.entry) (texts left_out.now) text.entry.now
+        (map piece_view pieces.now)) }
 {
     let mut draft = Draft {
         text: Vec::new(alloc),
         notes: Vec::new(alloc),
     };
     for piece in pieces {
-        draft.add(alloc, text, piece, left_out)?;
+        draft.add(alloc, home, text, piece, left_out)?;
     }
     Ok(draft)
 }
@@ -219,30 +329,32 @@ fn translated<'a>(
 /// The text of a script translated, where these names are left out.
 fn translated_script<'a>(
     alloc: Global,
+    home: Option<Home>,
     text: &'a str,
     script: &Script<&'a str>,
     left_out: &[&str],
 ) -> Result<Draft<'a>, AllocError>
-    ensures { IfOk result (λ t. IsTranslation (texts left_out.now) text.entry.now
-        (commands_in (script_view (λ piece. piece.now) script.now)) t.text.items (notes_view t.notes.items)) }
+    ensures { IfOk result (λ t. IsTranslation (option_map home_view home.entry) (texts left_out.now)
+        text.entry.now (commands_in (script_view (λ piece. piece.now) script.now)) t.text.items (notes_view t.notes.items)) }
 {
     let text = text.as_bytes();
     let pieces = pieces_of(alloc, text, script)?;
-    translated(alloc, text, pieces.as_slice(), left_out)
+    translated(alloc, home, text, pieces.as_slice(), left_out)
 }
 
 /// What is written for a modulefile, and said of it, where commands of these names are left out.
 pub(crate) fn draft_of<'a>(
     alloc: Global,
+    home: Option<Home>,
     text: &'a str,
     left_out: &[&str],
 ) -> Result<Draft<'a>, TextFault>
-    ensures found { IfOk result (λ t. HasTranslation (texts left_out.now) text.entry.now t.text.items
-        (notes_view t.notes.items)) }
+    ensures found { IfOk result (λ t. HasTranslation (option_map home_view home.entry) (texts left_out.now) text.entry.now
+        t.text.items (notes_view t.notes.items)) }
     ensures fault { IfErr result (IsTextFault text.entry.now) }
 {
     let script = parse_script(alloc, text)?;
-    match translated_script(alloc, text, &script, left_out) {
+    match translated_script(alloc, home, text, &script, left_out) {
         Ok(draft) => Ok(draft),
         Err(_) => Err(TextFault::OutOfMemory),
     }

@@ -1,15 +1,18 @@
 //! A modulefile translated: a script again.
 ghost use Rattle.std.specs.Prelude.{◌≡◌, false, IfOk, IfErr, MatchOption, string_bytes};
+ghost use Rattle.std.specs.Option.{option_map};
 ghost use Rattle.std.specs.Str.{is_utf8};
 ghost use Rattle.tclscript.specs.Faults.{IsTextFault};
 ghost use Rattle.tclscript.specs.Text.{IsWithin};
 ghost use Rattle.tclscript.specs.Tree.{Commands};
+ghost use Rattle.families.specs.Views.{home_view};
 ghost use Rattle.portforms.specs.Words.{texts};
 ghost use Rattle.translation.specs.TranslationViews.{notes_view, HasTranslation, IsTranslationFault, IsWrittenFault};
 
 use crate::notes::Note;
 use crate::translating::{Draft, draft_of};
 use crate::translation_fault::TranslationFault;
+use families::Home;
 use std::alloc::Global;
 use tclchars::TextFault;
 use tclscript::parse_script;
@@ -61,26 +64,27 @@ fn judged(alloc: Global, bytes: Vec<u8>) -> Result<String, TranslationFault>
     }
 }
 
-/// A modulefile translated, where commands of these names are left out.
+/// A modulefile translated, where commands of these names are left out. Its home is known, where it is one of a site.
 ///
 /// The errors: `Given`, it is no script; `Written`, `NotUtf8`, what would be written is none.
 #[tactic(auto, using(crate::proofs::Checked::moved, crate::proofs::Checked::fault_of_written))]
 pub fn translate<'a>(
     alloc: Global,
+    home: Option<Home>,
     text: &'a str,
     left_out: &[&str],
 ) -> Result<Translation<'a>, TranslationFault>
     // What is written, and said, is what the definitions have for the pieces of the script.
-    ensures found { IfOk result (λ t. HasTranslation (texts left_out.now) text.entry.now (string_bytes t.text)
-        (notes_view t.notes.items)) }
+    ensures found { IfOk result (λ t. HasTranslation (option_map home_view home.entry) (texts left_out.now) text.entry.now
+        (string_bytes t.text) (notes_view t.notes.items)) }
 
     // What is written is a script again.
     ensures parses { IfOk result (λ t. (s : Commands) × IsWithin (string_bytes t.text) s) }
 
     // A fault has its cause.
-    ensures fault { IfErr result (IsTranslationFault (texts left_out.now) text.entry.now) }
+    ensures fault { IfErr result (IsTranslationFault (option_map home_view home.entry) (texts left_out.now) text.entry.now) }
 {
-    let Draft { text, notes } = match draft_of(alloc, text, left_out) {
+    let Draft { text, notes } = match draft_of(alloc, home, text, left_out) {
         Ok(draft) => draft,
         Err(fault) => return Err(TranslationFault::Given(fault)),
     };

@@ -1,7 +1,7 @@
 use Rattle.std.proofs.Common.{◌≡◌, ℕ, Bool, true, false, List, rules, tests, refl, sym, ◌∙◌, arith}
 use Rattle.std.specs.List.{position_or_len}
 use Rattle.std.proofs.lemmas.Iterator.{IsFirst-from_position, YieldsList-from_slice, index_from_first}
-use Rattle.computedwords.specs.Walks.{is_word_byte}
+use Rattle.computedwords.specs.Places.{is_word_byte}
 use Rattle.computedwords.proofs.places.word_place.Goals as goal
 
 abbrev answers : Bool → ℕ → Type 0

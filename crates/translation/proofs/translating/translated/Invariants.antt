@@ -1,4 +1,6 @@
 use Rattle.std.proofs.Common.{◌≡◌, map, take}
+use Rattle.std.specs.Option.{option_map}
+use Rattle.families.specs.Views.{home_view}
 use Rattle.portforms.specs.Words.{texts}
 use Rattle.translation.specs.PieceViews.{piece_view}
 use Rattle.translation.specs.Translations.{written_for_all, notes_on_all}
@@ -7,6 +9,6 @@ use Rattle.translation.proofs.translating.translated.Given as goal
 
 abbrev pub invariant-loop-piece : goal.invariant-loop-piece
 invariant-loop-piece l = record {
-  text_is : l.draft.text.items ≡ written_for_all (map piece_view (take l.piece-index l.pieces));
-  notes_are : notes_view l.draft.notes.items ≡ notes_on_all (texts l.left_out) l.text (map piece_view (take l.piece-index l.pieces));
+  text_is : l.draft.text.items ≡ written_for_all (option_map home_view l.home) (map piece_view (take l.piece-index l.pieces));
+  notes_are : notes_view l.draft.notes.items ≡ notes_on_all (option_map home_view l.home) (texts l.left_out) l.text (map piece_view (take l.piece-index l.pieces));
 }

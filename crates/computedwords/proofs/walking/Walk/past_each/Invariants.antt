@@ -1,7 +1,8 @@
 use Rattle.std.proofs.Common.{◌≡◌, drop, map}
 use Rattle.tclscript.specs.View.{part_view}
+use Rattle.computedwords.specs.Answers.{run}
 use Rattle.computedwords.specs.Views.{facts_view, walk_view}
-use Rattle.computedwords.specs.Walks.{past_part, run}
+use Rattle.computedwords.specs.Walks.{past_part}
 use Rattle.computedwords.proofs.walking.Walk.past_each.Given as goal
 
 abbrev pub invariant-loop-part : goal.invariant-loop-part

@@ -3,8 +3,9 @@ use Rattle.std.specs.Prelude.{IfOk}
 use Rattle.std.specs.Option.{option_map}
 use Rattle.tclscript.specs.Tree.{Part}
 use Rattle.tclscript.specs.View.{part_view}
+use Rattle.computedwords.specs.Answers.{run}
 use Rattle.computedwords.specs.Views.{facts_view, walk_view}
-use Rattle.computedwords.specs.Walks.{past_part, run}
+use Rattle.computedwords.specs.Walks.{past_part}
 use Rattle.computedwords.proofs.Lists.{parts_listed}
 use Rattle.computedwords.proofs.walking.Walk.past_parts.Goals as goal
 

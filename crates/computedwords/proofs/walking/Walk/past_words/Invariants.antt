@@ -1,7 +1,8 @@
 use Rattle.std.proofs.Common.{◌≡◌, drop}
 use Rattle.portforms.specs.WordViews.{words_view}
+use Rattle.computedwords.specs.Answers.{run}
 use Rattle.computedwords.specs.Views.{facts_view, walk_view}
-use Rattle.computedwords.specs.Walks.{past_word, run}
+use Rattle.computedwords.specs.Walks.{past_word}
 use Rattle.computedwords.proofs.walking.Walk.past_words.Given as goal
 
 abbrev pub invariant-loop-word : goal.invariant-loop-word

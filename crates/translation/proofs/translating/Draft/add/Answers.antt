@@ -5,7 +5,8 @@ use Rattle.translation.specs.Notes as notes
 use Rattle.portforms.specs.Words.{texts}
 use Rattle.translation.specs.Translations.{line_at}
 use Rattle.translation.specs.TranslationViews.{note, notes_view}
-use Rattle.translation.specs.declared.notes.Outcome.TheVariants.{Translated}
+use Rattle.translation.specs.Places.{line_of}
+use Rattle.translation.specs.declared.notes.Outcome.{Outcome}
 use Rattle.translation.proofs.Adding.{added, note_added, nothing_said}
 use Rattle.translation.proofs.translating.Draft.add.Goals as goal
 
@@ -17,11 +18,12 @@ returns-then-branch-clause-text c =
 pub returns-then-branch-clause-notes : goal.returns-then-branch-clause-notes
 returns-then-branch-clause-notes c =
     subst (λ (ns : List notes.Note). OnOk c.add_note.result (notes_view c.add_note.new.self.notes.items ≡ notes_view c.args.self.now.notes.items ++ ns))
-    (ap (λ (t : Text). note (line_at c.args.text.now c.args.piece.now.start) t Translated ∷ []) c.line_of.ensures
-    ∙ sym (note_added (texts c.args.left_out.now) _ c.args.piece.now.text.now _ _ _ c.in_ok-push_change.field-0 c.in_ok-push_change.ensures c.if-branch.true))
+    (ap (λ (t : Text). note (line_at c.args.text.now c.args.piece.now.start) t c.in_ok-outcome.outcome ∷ []) c.line_of.ensures
+    ∙ (ap (λ (o : Outcome). note (line_at c.args.text.now c.args.piece.now.start) (line_of c.args.piece.now.text.now) o ∷ []) c.in_ok-outcome.ensures
+    ∙ sym (note_added (texts c.args.left_out.now) _ c.args.piece.now.text.now _ _ _ _ c.in_ok-push_change.field-0 c.in_ok-push_change.ensures c.if-branch.true)))
     c.add_note.ensures.notes
 
 pub returns-in-None-clause-notes : goal.returns-in-None-clause-notes
 returns-in-None-clause-notes c =
-    nothing_said (texts c.args.left_out.now) _ c.args.piece.now.text.now _ _ _ c.in_ok-push_change.field-0 c.in_ok-name.field-0 _
+    nothing_said (texts c.args.left_out.now) _ c.args.piece.now.text.now _ _ _ _ c.in_ok-push_change.field-0 c.in_ok-name.field-0 _
     c.in_ok-push_change.ensures c.if-branch.false c.in_ok-name.ensures c.in-None.is

@@ -1,0 +1,111 @@
+//! The families of a site, with their modules.
+ghost use Rattle.std.specs.Prelude.{◌≡◌, ◌++◌, [], flat_map, IfOk, OnOk};
+ghost use Rattle.std.specs.List.{list_any};
+ghost use Rattle.portforms.specs.Words.{texts};
+ghost use Rattle.families.specs.Families as spec;
+ghost use Rattle.families.specs.Views.{home_view, member_view, members_view, site_view};
+
+use std::alloc::{AllocError, Global};
+
+/// A module, by its name without a version, and a family that a file of it names.
+#[derive(Debug, Drop)]
+pub(crate) struct Member {
+    /// The family.
+    pub family: Vec<u8>,
+    /// The module.
+    pub name: Vec<u8>,
+}
+
+/// The families of a site, with their modules.
+#[derive(Debug, Drop)]
+pub struct Site {
+    /// Each module with each family that it is in.
+    pub(crate) members: Vec<Member>,
+}
+
+/// A site, and the module that a file is of.
+#[derive(Clone, Copy)]
+pub struct Home<'s> {
+    /// The site.
+    pub site: &'s Site,
+    /// The module, by its name without a version.
+    pub name: &'s [u8],
+}
+
+/// Whether the module is among these as one of the family.
+fn is_among(members: &[Member], family: &[u8], name: &[u8]) -> bool
+    ensures { result ≡ list_any (spec.is_member family.now name.now) (members_view members.now) }
+{
+    members.iter().any(|member| member.family.as_slice() == family
+        && member.name.as_slice() == name)
+}
+
+/// Adds the module of a member, where that is another one of the family.
+fn push_other<'s>(
+    names: &mut Vec<&'s [u8]>,
+    member: &'s Member,
+    family: &[u8],
+    name: &[u8],
+) -> Result<(), AllocError>
+    ensures { OnOk result (texts names.new.items
+        ≡ texts names.old.items ++ spec.other_in family.now name.now (member_view member.now)) }
+{
+    if member.family.as_slice() == family && member.name.as_slice() != name {
+        names.push(member.name.as_slice())?;
+    }
+    Ok(())
+}
+
+/// The names of other modules of a family.
+fn others_among<'s>(
+    alloc: Global,
+    members: &'s [Member],
+    family: &[u8],
+    name: &[u8],
+) -> Result<Vec<&'s [u8]>, AllocError>
+    ensures { IfOk result (λ names. texts names.items
+        ≡ flat_map (spec.other_in family.now name.now) (members_view members.entry.now)) }
+{
+    let mut names = Vec::new(alloc);
+    for member in members {
+        push_other(&mut names, member, family, name)?;
+    }
+    Ok(names)
+}
+
+/// The names of the site's other modules of a family.
+pub(crate) fn others_of<'s>(
+    alloc: Global,
+    home: Home<'s>,
+    family: &[u8],
+) -> Result<Vec<&'s [u8]>, AllocError>
+    ensures { IfOk result (λ names. texts names.items ≡ spec.others_of (home_view home.entry) family.now) }
+{
+    others_among(alloc, home.site.members.as_slice(), family, home.name)
+}
+
+impl Site {
+    /// One without families.
+    pub fn new(alloc: Global) -> Site
+        ensures { site_view result ≡ [] }
+    {
+        Site {
+            members: Vec::new(alloc),
+        }
+    }
+
+    /// Adds a module that is in a family, where it isn't there yet.
+    ///
+    /// The error: want of memory.
+    pub fn add(&mut self, alloc: Global, family: &[u8], name: &[u8]) -> Result<(), AllocError>
+        ensures { OnOk result (site_view self.new ≡ spec.with_member (site_view self.old) family.now name.now) }
+    {
+        if is_among(self.members.as_slice(), family, name) {
+            return Ok(());
+        }
+        let family = Vec::from_slice(alloc, family)?;
+        let name = Vec::from_slice(alloc, name)?;
+        self.members.push(Member { family, name })?;
+        Ok(())
+    }
+}
