@@ -467,6 +467,36 @@ def test_avail_leaves_out_what_cannot_be_read_and_names_it(program, folder, modu
     same(outcome(done), (0, f"{at}:\ngcc/9   gcc/10  tool\n{lost[1]}", ""), "on a terminal")
 
 
+def test_completion_leaves_out_what_cannot_be_read(program, folder, modules, tmp_path):
+    program, by_nobody = as_nobody(program, folder)
+    at = modules["MODULEPATH"]
+    for name in ("Lib/app", "gcc/12", "ver/.version"):
+        os.chmod(f"{at}/{name}", 0)
+    closed = tmp_path / "closed"
+    closed.mkdir()
+    closed.chmod(0)
+    env = {"MODULEPATH": f"{closed}:{at}:{at}", "LOADEDMODULES": "gcc/9"}
+    ver = ["ver/1.9", "ver/1.10", "ver/1.10-rc"]
+    for words, wanted in (
+        (["avail"], ["gcc/9", "gcc/10", "tool", *ver]),
+        (["avail", "gcc/1"], ["gcc/10"]),
+        (["at", "module", "load", "Lib"], []),
+        (["at", "module", "switch", "gcc"], ["gcc/9", "gcc/10"]),
+    ):
+        done = run(program, ["sh", "names", *words], env, **by_nobody)
+        same(outcome(done), (0, "".join(f"{name}\n" for name in wanted), ""), f"names {words}")
+
+
+def test_avail_names_each_of_many_directories_that_cannot_be_read(program, folder, modules):
+    program, by_nobody = as_nobody(program, folder)
+    at = modules["MODULEPATH"]
+    closed = [f"{at}/z{number:03}" for number in range(200)]
+    for path in closed:
+        os.mkdir(path, 0)
+    done = run(program, ["sh", "avail", "z", "tool"], modules, **by_nobody)
+    same(outcome(done), (0, "", f"{at}:\ntool\n" + "".join(f"{path}: not readable\n" for path in closed)), "avail")
+
+
 def test_avail_leaves_out_a_directory_that_cannot_be_read(program, folder, modules, tmp_path):
     program, by_nobody = as_nobody(program, folder)
     at = modules["MODULEPATH"]

@@ -45,3 +45,12 @@ pub record FindsReadable (results : Text → Text → Option DefaultFileResult �
   pub counted : length unreadable ≤ now
   pub finds : InEachPair agrees (λ files folders.
       IsOneFound results (without unreadable files) (without unreadable folders) modulepath names answer)
+
+-- No module is found for one of the names elsewhere than at some paths, which are no more than the device's failures, in
+-- each pair of maps that agrees; or these are a thousand.
+abbrev pub FindsNothingReadable : (Text → Text → Option DefaultFileResult → Type 0) → (Files → Listings → Type 0) → ℕ
+    → Text → List Text → Type 0
+FindsNothingReadable results agrees now modulepath names =
+    ((unreadable : List Text) × (length unreadable ≤ now) × InEachPair agrees (λ files folders.
+    IsOneFound results (without unreadable files) (without unreadable folders) modulepath names false))
+    ⊎ (1000 ≤ now)

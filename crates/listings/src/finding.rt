@@ -120,25 +120,25 @@ fn is_one_found_without<T: Tree + Drop>(
         × InEachPair (T.agrees tree.new.tree) (λ files folders.
         spec.IsOneFound (HasResult limits) (without paths files) (without paths folders) modulepath.now
         (map string_bytes names.now) found)) }
-    ensures fault { IfErr result (λ e. Applies (cause_of e) (Unit {0}) (λ reason. ⊥)) }
+    ensures fault { IfErr result (λ e. Applies (cause_of e) (1000 ≤ T.failures tree.new.tree) (λ reason. ⊥)) }
 {
     for _ in 0..MOST_HIDDEN {
         match is_one_found(alloc, tree, modulepath, names, limits) {
             Err(ListingFault::Device) => {
                 if !tree.hide_failed()? {
-                    return Err(ListingFault::Device);
+                    return Err(tree.fault_in_the_end().into());
                 }
             }
             answer => return answer,
         }
     }
-    Err(ListingFault::Device)
+    Err(tree.fault_in_the_end().into())
 }
 
 /// As `is_available`, but a module that is found without what can't be read counts too.
 ///
-/// The errors: `BadArguments`, exactly where there is no name; `Device`, only where the device failed in this call and
-/// no module is found in what can be read; `OutOfMemory`.
+/// The errors: `BadArguments`, exactly where there is no name; `Device`, only where the device failed in this call, and no
+/// module is found elsewhere than at some paths or it has failed a thousand times in all; `OutOfMemory`.
 pub fn is_available_where_readable<T: Tree + Drop>(
     alloc: Global,
     env: &Env,
@@ -149,7 +149,9 @@ pub fn is_available_where_readable<T: Tree + Drop>(
     ensures answer { IfOk result (λ found. spec.FindsReadable (HasResult limits) (T.agrees tree.new.tree)
         (T.failures tree.old.tree) (T.failures tree.new.tree) (modulepath env.now) (map string_bytes names.now) found) }
     ensures named { IfOk result (λ found. names.now ≡ [] → ⊥) }
-    ensures fault { IfErr result (λ e. Applies (cause_of e) (T.failures tree.old.tree < T.failures tree.new.tree)
+    ensures fault { IfErr result (λ e. Applies (cause_of e) ((T.failures tree.old.tree < T.failures tree.new.tree)
+        × spec.FindsNothingReadable (HasResult limits) (T.agrees tree.new.tree) (T.failures tree.new.tree)
+        (modulepath env.now) (map string_bytes names.now))
         (λ reason. (reason ≡ bad_arguments) × (names.now ≡ []))) }
 {
     if names.is_empty() {

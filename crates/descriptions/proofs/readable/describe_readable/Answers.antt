@@ -17,6 +17,7 @@ returns-in-Ok-clause-described g c =
         left = left;
         described = of_what_is_left (texts tree.hidden.items) (texts tree.seen.items) (g.T.Tree.agrees tree.tree) c.args.limits c.args.shell c.args.env.now
             (option_map (λ t. t.now) c.args.sought) (string_bytes c.in-Ok.description.text) left tree.apart c.in-Ok.ensures.described;
-        leaves_out = c.in_ok-push_unreadable-in-Ok.ensures ∙ ap (λ (l : List (String Global)). left ++ flat_map unreadable_line (texts l)) c.as_slice.ensures.value;
+        leaves_out = ◌∙◌ {b = left ++ flat_map unreadable_line (texts c.as_slice.result.now)} c.in_ok-push_unreadable-in-Ok.ensures
+            (ap (λ (l : List (String Global)). left ++ flat_map unreadable_line (texts l)) c.as_slice.ensures.value);
       },
     )
