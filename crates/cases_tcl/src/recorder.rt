@@ -107,7 +107,8 @@ fn answer_mode(
     words: &[String],
 ) -> Result<String, AllocError>
     ensures answer { IfOk result (λ answer. string_bytes answer ≡ string_bytes mode.now) }
-    ensures asked { (environment : Variables) → OnOk result (map (asked_view (string_bytes mode.now) environment) asked.new.items
+    ensures asked { (environment : Variables) → OnOk result (
+        map (asked_view (string_bytes mode.now) environment) asked.new.items
         ≡ map (asked_view (string_bytes mode.now) environment) asked.old.items
         ++ OfCommand (map string_bytes words.now) (Done (string_bytes mode.now) Nothing true) ∷ []) }
 {
