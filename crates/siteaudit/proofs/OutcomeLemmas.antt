@@ -20,7 +20,8 @@ use Rattle.modules.specs.Answers.{cause_of}
 use Rattle.modules.proofs.StepLemmas.{stands_as}
 use Rattle.sitelaws.specs.Sites.{SiteModule, EvaluatesTo, site_of}
 use Rattle.siteaudit.specs.Walks.{IsOutcome}
-use Rattle.siteaudit.specs.WalkParts.{HasLoaded, site_context, ComesTo, ComesToOverTree, is_given_up, GivesUp}
+use Rattle.givenup.specs.Causes.{is_given_up}
+use Rattle.siteaudit.specs.WalkParts.{HasLoaded, site_context, ComesTo, ComesToOverTree, GivesUp}
 
 -- the list that the names are those of
 loaded_list : (o : Option (List Entry)) (names : List Text) → option_map names_of o ≡ Some names → (xs : List Entry) × (Ok xs ≡ consistent o) × (names_of xs ≡ names)

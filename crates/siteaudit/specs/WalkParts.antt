@@ -9,7 +9,7 @@ use Rattle.envvars.specs.Reasons as edits
 use Rattle.envloaded.specs.Loaded.{names_of, loaded_in}
 use Rattle.shelltext.specs.declared.shell.Shell.TheVariants.{Sh}
 use Rattle.filetree.specs.Agreement.{Files, Listings, InEachPair}
-use Rattle.filetree.specs.Causes.{Cause, Applies, memory, device, because}
+use Rattle.filetree.specs.Causes.{Applies}
 use Rattle.modulefile.specs.Answers.{FileContext}
 use Rattle.modulefile.specs.Files as files
 use Rattle.modulefile.specs.RecordViews.{record_view}
@@ -62,12 +62,6 @@ ComesToOverTree agrees failed (Ok ran) Outcomes =
 ComesToOverTree agrees failed (Err refusal) Outcomes =
     Applies (cause_of refusal) failed (λ reason. InEachPair agrees
     (λ files listings. Outcomes files listings (Err reason)))
-
--- the cause says nothing of the file: memory ran out, or the device failed
-abbrev pub is_given_up : Cause RequestReason → Bool
-is_given_up memory = true
-is_given_up device = true
-is_given_up (because reason) = false
 
 -- The walk is given up: memory ran out, or the device failed.
 abbrev pub GivesUp : Type 0 → Refusal → Type 0

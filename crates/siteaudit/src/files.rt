@@ -10,11 +10,11 @@ ghost use Rattle.sitelaws.specs.Sites.{EvaluatesTo, site_of, module_below};
 ghost use Rattle.siteaudit.specs.WalkParts.{HasLoaded, HasListCause, site_context, ComesTo, ComesToOverTree, GivesUp};
 ghost use Rattle.siteaudit.specs.WalkParts.{IsEvaluationOf};
 
-use crate::given_up::unless_given_up;
 use crate::walk::Evaluation;
 use envloaded::loaded;
 use envvars::{Env, WorkingCopy};
 use filetree::Tree;
+use givenup::unless_given_up;
 use modulefile::Mode;
 use modulerun::{FileContext, FileRun, run_file};
 use modules::{Refusal, script_at};

@@ -11,7 +11,6 @@ mod directories;
 mod fault;
 mod files;
 mod folders;
-mod given_up;
 mod judgement;
 mod missing;
 mod names;
