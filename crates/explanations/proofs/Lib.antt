@@ -4,5 +4,6 @@ pub mod LineLemmas
 pub mod FolderLemmas
 pub mod AdviceLemmas
 pub mod AutomaticLemmas
+pub mod UnknownLemmas
 pub mod EvaluatedLemmas
 pub mod ExplainedLemmas

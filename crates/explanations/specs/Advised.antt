@@ -102,8 +102,10 @@ module _ (agrees : Files → Listings → Type 0) (limits : Limits) (shell : She
   ComesTo action o = InEachPair agrees (λ files listings.
       RequestStep (request_context_in limits shell files listings) e action o)
 
-  abbrev pub IsRefused : RequestedAction → Type 0
-  IsRefused action = (reason : RequestReason) × ComesTo action (Err reason)
+  -- in each pair it is refused, for one reason
+  pub record IsRefused (action : RequestedAction) : Type 0 where
+    pub reason : RequestReason
+    pub refused : ComesTo action (Err reason)
 
   -- none of the switches from this module to one of the names is accepted
   abbrev pub NoSwitch : Text → List Text → Type 0

@@ -87,10 +87,11 @@ fn load_with_needed<T: Tree>(
         return Ok(Some(automated(alloc, asked, Action::Load(names))?));
     }
     let alternatives = missing.names.as_slice();
-    match first_found(alloc, alternatives, refused.env, tree, refused.limits)? {
-        Some(_) => Ok(None),
-        None => Ok(not_found(alloc, missing)?),
+    let found = first_found(alloc, alternatives, refused.env, tree, refused.limits)?;
+    if found.is_some() {
+        return Ok(None);
     }
+    Ok(not_found(alloc, missing)?)
 }
 
 /// For a need: the load with what is needed first, or else that none of the alternatives is found.
