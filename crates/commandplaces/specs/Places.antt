@@ -1,5 +1,5 @@
--- Where the commands of a script stand in a text (own): from the first byte of each up to the next one of the script, or
--- else to the script's end.
+-- Where the commands of a script stand in a text (own): from the first byte of each up to the next one of the script,
+-- or else to the script's end.
 use Rattle.std.specs.Prelude.{ℕ, ◌+◌, ◌-◌, ◌^◌, min, List, [], ◌∷◌}
 use Rattle.tclscript.specs.Tree.{Commands, no_commands, command}
 use Rattle.commandplaces.specs.declared.commands.CommandPlace.{CommandPlace}
@@ -20,8 +20,8 @@ abbrev pub offsets_of : Commands → List ℕ
 offsets_of no_commands = []
 offsets_of (command offset source words more) = offset ∷ offsets_of more
 
--- where the first of the commands at these offsets begins, of a script that stands from an offset up to another, or else
--- the script ends
+-- where the first of the commands at these offsets begins, of a script that stands from an offset up to another, or
+-- else the script ends
 abbrev pub first_begin : ℕ → ℕ → List ℕ → ℕ
 first_begin begin end [] = end
 first_begin begin end (offset ∷ more) = behind begin offset

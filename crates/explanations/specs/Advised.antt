@@ -87,7 +87,8 @@ ForFile reason o = o ≡ None
 
 -- none of the directories that are searched is there, or one is
 abbrev pub NoneIsThere : (Files → Listings → Type 0) → List Text → Type 0
-NoneIsThere agrees searched = InEachPair agrees (λ files listings. All (λ directory. listings directory ≡ None) searched)
+NoneIsThere agrees searched =
+    InEachPair agrees (λ files listings. All (λ directory. listings directory ≡ None) searched)
 
 abbrev pub IsOneThere : (Files → Listings → Type 0) → List Text → Type 0
 IsOneThere agrees searched =

@@ -1,5 +1,6 @@
 -- Which files are evaluated in a request, one after another, up to the first that is refused (own).
-use Rattle.std.specs.Prelude.{◌≡◌, ◌⊎◌, Bool, true, false, List, [], ◌∷◌, ◌++◌, map, reverse, Option, Some, None, Ok, Err}
+use Rattle.std.specs.Prelude.{◌≡◌, ◌⊎◌, Bool, true, false, List, [], ◌∷◌, ◌++◌, map, reverse}
+use Rattle.std.specs.Prelude.{Option, Some, None, Ok, Err}
 use Rattle.std.specs.Option.{option_map, option_to_list}
 use Rattle.envloaded.specs.Loaded.{Entry, loaded_in, names_of}
 use Rattle.envvars.specs.Environment.{Environment}
@@ -95,7 +96,8 @@ pub data Passes (s : RequestContext) (e : Environment) : List NamePart → List 
       → Passes s e (parts ++ part ∷ []) (files ++ option_to_list file) after
 
 -- The parts are done up to one that is refused for its file.
-pub record Stops (s : RequestContext) (e : Environment) (parts : List NamePart) (files : List FileContext) : Type 0 where
+pub record Stops (s : RequestContext) (e : Environment) (parts : List NamePart) (files : List FileContext)
+    : Type 0 where
   pub front : List NamePart
   pub part : NamePart
   pub rest : List NamePart

@@ -47,8 +47,8 @@ abbrev pub Outcome : RequestContext → Environment → Environment → spec.Nam
 Outcome s e after part true = (reason : FileReason) × RequestStep s e (action_of part) (Err (file_refused reason))
 Outcome s e after part false = Makes s e (action_of part) after
 
-pub record IsPassed (s : RequestContext) (e after : Environment) (part : spec.NamePart) (files files' : List FileContext)
-    (is_refused : Bool) : Type 0 where
+pub record IsPassed (s : RequestContext) (e after : Environment) (part : spec.NamePart)
+    (files files' : List FileContext) (is_refused : Bool) : Type 0 where
   pub file : Option FileContext
   pub here : FileOf s e part file
   pub joined : files' ≡ files ++ option_to_list file

@@ -30,10 +30,11 @@ pub record Locates (agrees : Files → Listings → Type 0) (limits : Limits) (w
 -- No script is at the path, for a reason.
 abbrev pub IsNoScript : (Files → Listings → Type 0) → Text → Type 0
 IsNoScript agrees path =
-    (reason : RequestReason) × InEachPair agrees (λ files listings. Err reason ≡ script_at path (modulefile (files path)))
+    (reason : RequestReason)
+    × InEachPair agrees (λ files listings. Err reason ≡ script_at path (modulefile (files path)))
 
--- A file isn't located as the one that is refused in these words: no script is there, or it isn't refused in them, or no
--- command of it is shown to be the one that failed.
+-- A file isn't located as the one that is refused in these words: no script is there, or it isn't refused in them, or
+-- no command of it is shown to be the one that failed.
 abbrev pub IsNotLocated : (Files → Listings → Type 0) → Limits → Words → FileContext → Type 0
 IsNotLocated agrees limits words c =
     IsNoScript agrees c.path ⊎ ((text : Text) × IsThere agrees c.path text × IsUnplaced limits c words text)

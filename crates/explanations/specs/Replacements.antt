@@ -1,5 +1,5 @@
--- What is said of words that are refused for themselves (own): what stands in the place of a command that is left out of
--- modulefiles, and how a subcommand is used (module(1)).
+-- What is said of words that are refused for themselves (own): what stands in the place of a command that is left out
+-- of modulefiles, and how a subcommand is used (module(1)).
 use Rattle.std.specs.Prelude.{List, [], ◌∷◌, codes, if◌then◌else◌, Option, Some, None}
 use Rattle.envvars.specs.Texts.{Text, has}
 

@@ -101,8 +101,8 @@ HaveFailed limits c words text (place ∷ outer) =
     HasFailed limits c words (narrowed text outer) place × IsCommandIn (narrowed text outer) outer place
     × HaveFailed limits c words text outer
 
--- A command isn't shown to be the one that failed: cut behind it the text isn't refused in these words, or cut before it
--- it is; or one of the cuts would part a character.
+-- A command isn't shown to be the one that failed: cut behind it the text isn't refused in these words, or cut before
+-- it it is; or one of the cuts would part a character.
 abbrev pub IsNotShown : Limits → FileContext → Words → Text → Place → Type 0
 IsNotShown limits c words text place =
     IsRefusedSo limits c (cut_behind text place) words false ⊎ (IsRefusedSo limits c (cut_before text place) words true
