@@ -1,17 +1,17 @@
 -- What the answers to a modulefile's questions rest on (own; getenv, module-info and is-loaded of modulefile(5)).
 use Rattle.std.specs.Prelude.{◌≡◌, Bool, true, false, not, ◌&&◌, List, [], ◌∷◌, codes, bytes_eq, filter_map, Option}
 use Rattle.std.specs.Prelude.{Some, None, Ok}
-use Rattle.std.specs.List.{list_any}
+use Rattle.std.specs.List.{list_all, list_any}
 use Rattle.envvars.specs.Texts.{Text, has}
+use Rattle.envvars.specs.Names.{is_protected}
 use Rattle.envvars.specs.Environment.{Environment, lookup}
-use Rattle.envstate.specs.Roles.{VariableRole, role_of}
-use Rattle.envstate.specs.Roles.VariableRole.{Variable, Counters, Stack, LoadedNames, LoadedFiles, LoadedConflicts}
-use Rattle.envstate.specs.Roles.VariableRole.{LoadedPrereqs, Other}
 use Rattle.tclrules.specs.Oracle.{Question, OfCommand, OfVariable}
 use Rattle.modulefile.specs.Records.{Record, variable_of}
 use Rattle.modulefile.specs.Effects.{Mode, load, unload, display, whatis}
 use Rattle.modulefile.specs.Calls.{InfoField, mode, shell, shell_type, CallForm, getenv, info, info_test, call_of}
 use Rattle.modulefile.specs.Answers.{FileContext}
+use Rattle.modulefile.specs.Files.{Ran}
+use Rattle.reversal.specs.VariableUses.{is_reversible}
 
 -- the variables that shells change by themselves
 unfoldable pub shell_variables : List Text
@@ -19,17 +19,6 @@ shell_variables =
     codes "PWD" ∷ codes "OLDPWD" ∷ codes "SHLVL" ∷ codes "_" ∷ codes "RANDOM" ∷ codes "SRANDOM" ∷ codes "SECONDS"
     ∷ codes "EPOCHSECONDS" ∷ codes "EPOCHREALTIME" ∷ codes "LINENO" ∷ codes "LINES" ∷ codes "COLUMNS" ∷ codes "PPID"
     ∷ codes "BASHPID" ∷ codes "PIPESTATUS" ∷ codes "OPTIND" ∷ codes "OPTARG" ∷ codes "REPLY" ∷ codes "HISTCMD" ∷ []
-
--- the tool keeps its own state in a variable of this role
-abbrev pub is_of_tool : VariableRole → Bool
-is_of_tool (Variable name) = false
-is_of_tool (Counters name) = true
-is_of_tool (Stack name) = true
-is_of_tool LoadedNames = true
-is_of_tool LoadedFiles = true
-is_of_tool LoadedConflicts = true
-is_of_tool LoadedPrereqs = true
-is_of_tool Other = false
 
 -- it is this variable
 abbrev pub is_variable : Text → Option Text → Bool
@@ -39,7 +28,7 @@ is_variable v (Some name) = bytes_eq v name
 -- a variable rests where it is none of the tool's, none that shells change by themselves, and none that the records name
 abbrev pub is_resting : List Record → Text → Bool
 is_resting records v =
-    not (is_of_tool (role_of v)) && (not (has v shell_variables)
+    not (is_protected v) && (not (has v shell_variables)
     && not (list_any (λ r. is_variable v (variable_of r)) records))
 
 -- A question of these words rests on the variable that it reads, or on the way of the evaluation: the mode, the half of
@@ -88,6 +77,14 @@ is_shell None = false
 is_shell (Some mode) = false
 is_shell (Some shell) = true
 is_shell (Some shell_type) = true
+
+-- A question keeps its answer: what it asks rests, and is nothing of the way of the evaluation.
+abbrev pub keeps_answer : List Record → Question → Bool
+keeps_answer records q = rests records q && (not (is_mode (field_of q)) && not (is_shell (field_of q)))
+
+-- What an evaluation left is settled: each question keeps its answer, and unloading undoes each record.
+abbrev pub is_settled : Ran → Bool
+is_settled ran = list_all (keeps_answer ran.records) ran.asked && list_all is_reversible ran.records
 
 -- The second context is of the same way as the first, as far as the questions ask: where they ask for the mode, of the
 -- same mode and the same half of a switch, and where they ask for the shell, of the same shell.

@@ -2,5 +2,4 @@ pub mod Sites
 pub mod Standings
 pub mod Admitted
 pub mod Laws
-pub mod SettledSites
 pub mod DirectorySets

@@ -1,10 +1,11 @@
--- A whole site (own): its directories, its modules, and the records of those whose files are plain.
-use Rattle.std.specs.Prelude.{◌≡◌, ◌↔◌, false, List, [], ◌∷◌, ◌++◌, map, flat_map, bytes_eq, if◌then◌else◌, Option}
-use Rattle.std.specs.Prelude.{Some, None, Result, Ok, Err}
+-- A whole site (own): its directories, its modules, and the records of those that are settled.
+use Rattle.std.specs.Prelude.{◌≡◌, ◌↔◌, Bool, true, false, not, List, [], ◌∷◌, ◌++◌, map, filter, filter_map, flat_map}
+use Rattle.std.specs.Prelude.{bytes_eq, if◌then◌else◌, Option, Some, None, Result, Ok, Err}
+use Rattle.std.specs.List.{list_any}
 use Rattle.std.specs.List.Sorted.{IsStrictlySortedBy}
 use Rattle.modulename.specs.Versions.{version_order}
-use Rattle.envvars.specs.Texts.{Text}
-use Rattle.envvars.specs.Environment.{Environment}
+use Rattle.envvars.specs.Texts.{Text, has}
+use Rattle.envvars.specs.Environment.{Environment, lookup}
 use Rattle.tclrules.specs.declared.limits.Limits.{Limits}
 use Rattle.shelltext.specs.declared.shell.Shell.TheVariants.{Sh}
 use Rattle.filetree.specs.Agreement.{Files, Listings}
@@ -14,13 +15,14 @@ use Rattle.modulefile.specs.Records.{Record, added_elements}
 use Rattle.modulefile.specs.Effects as modes
 use Rattle.modulefile.specs.Moves.{Module}
 use Rattle.modulefile.specs.Files.{Ran, RunsFile}
+use Rattle.reversal.specs.VariableUses.{VariableUse, UsedVariable}
+use Rattle.settled.specs.Resting.{is_settled, variables_read}
 use Rattle.search.specs.Listed.{IsBelow}
 use Rattle.requests.specs.Refusals.{RefusedAs}
 use Rattle.requests.specs.Reasons.{RequestReason, file_refused}
 use Rattle.requests.specs.Steps as requests
 use Rattle.requests.specs.Steps.{RequestContext, request_context_in, entries_of, script_at, context_of}
-use Rattle.requests.specs.Verdicts.{Verdict, plain, asked, one_way, verdict_of}
-use Rattle.sitecertificate.specs.RecordUses.{IsAmong, modulepath}
+use Rattle.sitecertificate.specs.RecordUses.{IsAmong, Uses, used_by_modules, modulepath}
 
 -- A site: the files and directories of a tree, the limits on the evaluation of each file, and the environment at hand.
 -- Its MODULEPATH is where the site begins, and each file is evaluated in it.
@@ -63,12 +65,23 @@ EvaluatesTo site m =
     RefusedAs file_refused
     (RunsFile site.limits (context_of (over_site site) modes.load false m.name m.name m.path xs site.env) text)))
 
--- The module is plain, and these are its records: the evaluation asked nothing, and unloading undoes each record.
-pub record HasPlainRecords (site : Site) (m : SiteModule) (rs : List Record) : Type 0 where
+-- The module is settled, and these are its records: each question of the evaluation keeps its answer, and unloading
+-- undoes each record. So is a plain module, which asks nothing.
+pub record HasSettledRecords (site : Site) (m : SiteModule) (rs : List Record) : Type 0 where
   pub ran : Ran
   pub evaluated : EvaluatesTo site m (Ok ran)
-  pub plain : verdict_of ran ≡ plain
+  pub settled : is_settled ran ≡ true
   pub records : rs ≡ ran.records
+
+-- The evaluation of the module's file reads the variable.
+pub record Reads (site : Site) (m : SiteModule) (v : Text) : Type 0 where
+  pub ran : Ran
+  pub evaluated : EvaluatesTo site m (Ok ran)
+  pub read : has v (variables_read ran.asked) ≡ true
+
+-- What the evaluation of the module's file reads has the values of the environment at hand.
+abbrev pub ReadsAlike : Site → Environment → SiteModule → Type 0
+ReadsAlike site e m = (v : Text) → Reads site m v → lookup e v ≡ lookup site.env v
 
 -- ---- directories
 
@@ -89,12 +102,12 @@ added_directories rs = flat_map directories_by rs
 abbrev pub first_directories : Site → List Text
 first_directories site = directories (requests.modulepath site.env)
 
--- The directories of a site: those of MODULEPATH, and those that a plain module adds to it which is in one of them. No
--- others are: it is the least such set.
+-- The directories of a site: those of MODULEPATH, and those that a settled module adds to it which is in one of them.
+-- No others are: it is the least such set.
 pub data IsDirectory (site : Site) : Text → Type 0 where
   first : {dir : Text} → IsAmong dir (first_directories site) → IsDirectory site dir
   added : {dir from : Text} (m : SiteModule) (rs : List Record) → IsDirectory site from → IsIn site from m
-      → HasPlainRecords site m rs → IsAmong dir (added_directories rs) → IsDirectory site dir
+      → HasSettledRecords site m rs → IsAmong dir (added_directories rs) → IsDirectory site dir
 
 -- The modules of a site: those in its directories.
 pub record IsOfSite (site : Site) (m : SiteModule) : Type 0 where
@@ -112,21 +125,35 @@ file_of m = record { name = m.name; path = m.path }
 abbrev pub with_records : SiteModule → List Record → Module
 with_records m rs = record { name = m.name; path = m.path; records = rs }
 
--- A plain module of the site, with its records.
-pub record IsPlainModule (site : Site) (m : Module) : Type 0 where
+-- A settled module of the site, with its records.
+pub record IsSettledModule (site : Site) (m : Module) : Type 0 where
   pub of_site : IsOfSite site (file_of m)
-  pub records : HasPlainRecords site (file_of m) m.records
+  pub records : HasSettledRecords site (file_of m) m.records
 
--- the list has all plain modules of the site, and no others
-abbrev pub ArePlainModules : Site → List Module → Type 0
-ArePlainModules site ms = (m : Module) → IsAmong m ms ↔ IsPlainModule site m
+-- the list has all settled modules of the site, and no others
+abbrev pub AreSettledModules : Site → List Module → Type 0
+AreSettledModules site ms = (m : Module) → IsAmong m ms ↔ IsSettledModule site m
 
--- The list of directories is closed: it has those of MODULEPATH, and each that a plain module adds which is in one of
+-- No settled module of the site uses a variable that this one reads.
+abbrev pub HasFreeReads : Site → SiteModule → Type 0
+HasFreeReads site m =
+    (v : Text) (n : Module) (x : VariableUse) → Reads site m v → IsSettledModule site n → Uses n.records v x → ⊥
+
+-- A candidate for the certificate: a settled module of the site, whose reads are free.
+pub record IsCandidate (site : Site) (m : Module) : Type 0 where
+  pub settled : IsSettledModule site m
+  pub free : HasFreeReads site (file_of m)
+
+-- the list has all candidates of the site, and no others
+abbrev pub AreCandidates : Site → List Module → Type 0
+AreCandidates site ms = (m : Module) → IsAmong m ms ↔ IsCandidate site m
+
+-- The list of directories is closed: it has those of MODULEPATH, and each that a settled module adds which is in one of
 -- the list.
 pub record IsClosed (site : Site) (dirs : List Text) : Type 0 where
   pub begins : (dir : Text) → IsAmong dir (first_directories site) → IsAmong dir dirs
   pub adds : (from dir : Text) (m : SiteModule) (rs : List Record) → IsAmong from dirs → IsIn site from m
-      → HasPlainRecords site m rs → IsAmong dir (added_directories rs) → IsAmong dir dirs
+      → HasSettledRecords site m rs → IsAmong dir (added_directories rs) → IsAmong dir dirs
 
 -- the list has all directories of the site, and no others
 abbrev pub AreDirectories : Site → List Text → Type 0
@@ -150,16 +177,28 @@ AreModulesIn site (dir ∷ dirs) ms =
 abbrev pub Evaluated : Type 0
 Evaluated = SiteModule × Result Ran RequestReason
 
--- the module with its records, where this verdict on it is plain
-abbrev pub plain_by : Verdict → SiteModule → List Record → Option Module
-plain_by plain m rs = Some (with_records m rs)
-plain_by asked m rs = None
-plain_by one_way m rs = None
+-- the module with its records, where it is settled
+abbrev pub settled_of : Evaluated → Option Module
+settled_of (m, Ok ran) = if is_settled ran then Some (with_records m ran.records) else None
+settled_of (m, Err reason) = None
 
--- the module with its records, where it is plain
-abbrev pub plain_of : Evaluated → Option Module
-plain_of (m, Ok ran) = plain_by (verdict_of ran) m ran.records
-plain_of (m, Err reason) = None
+-- the settled ones of some evaluated modules, in their order
+abbrev pub settled_among : List Evaluated → List Module
+settled_among outcomes = filter_map settled_of outcomes
+
+-- the variables that the evaluation of a module's file reads
+abbrev pub reads_of : Evaluated → List Text
+reads_of (m, Ok ran) = variables_read ran.asked
+reads_of (m, Err reason) = []
+
+-- it reads none of the variables in these uses
+abbrev pub reads_none : List UsedVariable → Evaluated → Bool
+reads_none used outcome = not (list_any (λ p. has p.0 (reads_of outcome)) used)
+
+-- the candidates among some evaluated modules, in their order
+abbrev pub candidates_among : List Evaluated → List Module
+candidates_among outcomes =
+    filter_map settled_of (filter (reads_none (used_by_modules (settled_among outcomes))) outcomes)
 
 -- The list has each module of the site with the outcome of its evaluation, and no others.
 pub record AreEvaluated (site : Site) (outcomes : List Evaluated) : Type 0 where

@@ -1,5 +1,6 @@
 -- How each module of a site stands (own): whether it is certified, and else why it is not.
 use Rattle.std.specs.Prelude.{◌≡◌, true, false, not, List, ◌∷◌, codes, find, Some, Ok, Err}
+use Rattle.std.specs.List.{list_all}
 use Rattle.envvars.specs.Texts.{Text}
 use Rattle.envvars.specs.Fields.{colon}
 use Rattle.tclrules.specs.Oracle.{Question}
@@ -8,23 +9,26 @@ use Rattle.modulefile.specs.Moves.{Module}
 use Rattle.modulefile.specs.Files.{Ran}
 use Rattle.reversal.specs.VariableUses.{VariableUse, Pathed, is_reversible}
 use Rattle.requests.specs.Reasons.{RequestReason}
-use Rattle.requests.specs.Verdicts.{one_way, verdict_of}
-use Rattle.sitecertificate.specs.RecordUses.{IsAmong, used_by, same_use, modulepath, IsInStep}
+use Rattle.settled.specs.Resting.{keeps_answer}
+use Rattle.sitecertificate.specs.RecordUses.{IsAmong, Uses, used_by, same_use, modulepath, IsInStep}
 use Rattle.sitecertificate.specs.Clashes.{is_other, Clash}
 use Rattle.sitecertificate.specs.Certificates.{IsCertified}
-use Rattle.sitelaws.specs.Sites.{Site, SiteModule, EvaluatesTo, HasPlainRecords, with_records}
+use Rattle.sitelaws.specs.Sites.{Site, SiteModule, EvaluatesTo, HasSettledRecords, Reads, with_records}
+use Rattle.sitelaws.specs.Sites.{IsSettledModule, HasFreeReads}
 
 pub data Standing : Type 0 where
-  -- plain, in step, and without a clash: its loads and unloads need no judgement
+  -- settled, in step, and without a clash: its loads and unloads need no judgement
   Certified : Standing
-  -- its evaluation asked this first, so that its records may differ elsewhere
+  -- its evaluation asked this, the first question that doesn't keep its answer, so that its records may differ elsewhere
   Asks : (first : Question) → Standing
-  -- it asked nothing, and this is the first of its records that unloading doesn't undo
+  -- each question keeps its answer, and this is the first of its records that unloading doesn't undo
   OneWay : (first : Record) → Standing
-  -- it is plain, and uses the variable in these two ways; or the variable is MODULEPATH, and the second way is that of
-  -- a path with colons
+  -- it is settled, and reads the variable, which the other settled module uses
+  ReadsUsed : (variable : Text) (other : Module) → Standing
+  -- it is a candidate, and uses the variable in these two ways; or the variable is MODULEPATH, and the second way is
+  -- that of a path with colons
   OutOfStep : (variable : Text) (one other : VariableUse) → Standing
-  -- it is plain and in step, and clashes with a certified module in the variable, by its own use and that of the other
+  -- it is a candidate in step, and clashes with a certified module in the variable, by its own use and that of the other
   Clashes : (variable : Text) (own theirs : VariableUse) (other : Module) → Standing
   -- its evaluation is refused
   Refused : RequestReason → Standing
@@ -34,9 +38,14 @@ abbrev pub standing_word : Standing → Text
 standing_word Certified = codes "certified"
 standing_word (Asks first) = codes "asks"
 standing_word (OneWay first) = codes "one-way"
+standing_word (ReadsUsed variable other) = codes "reads-used"
 standing_word (OutOfStep variable one other) = codes "out-of-step"
 standing_word (Clashes variable own theirs other) = codes "clashes"
 standing_word (Refused reason) = codes "refused"
+
+-- The first question that doesn't keep its answer.
+abbrev pub IsFirstUnkept : Ran → Question → Type 0
+IsFirstUnkept ran q = find (λ x. not (keeps_answer ran.records x)) ran.asked ≡ Some q
 
 -- The first record that unloading doesn't undo.
 abbrev pub IsFirstOneWay : List Record → Record → Type 0
@@ -48,28 +57,37 @@ pub record IsUsedTwice (rs : List Record) (v : Text) (x y : VariableUse) : Type 
   pub second : IsAmong (v, y) ((modulepath, Pathed colon) ∷ used_by rs)
   pub differ : same_use x y ≡ false
 
--- The module, which is in step, clashes in the variable with a certified one of these plain modules.
+-- The module, which is in step, clashes in the variable with a certified one of these candidates.
 pub record ClashesWith (ms : List Module) (m : Module) (v : Text) (x y : VariableUse) (other : Module) : Type 0 where
   pub in_step : IsInStep m
   pub certain : IsCertified ms other
   pub another : is_other m other ≡ true
   pub clash : Clash m other v x y
 
--- the module is plain, and this holds of it with its records
-abbrev pub IsPlainAnd : Site → SiteModule → (Module → Type 0) → Type 0
-IsPlainAnd site m P = (rs : List Record) × HasPlainRecords site m rs × P (with_records m rs)
+-- the module is settled, its reads are free, and this holds of it with its records
+abbrev pub IsCandidateAnd : Site → SiteModule → (Module → Type 0) → Type 0
+IsCandidateAnd site m P = (rs : List Record) × HasSettledRecords site m rs × HasFreeReads site m × P (with_records m rs)
 
--- A module of the site, whose plain modules are these, stands so. Each module stands in one of the six ways: its
--- evaluation is refused, or asks, or has a record that unloading doesn't undo, or it is plain; and a plain one is out
--- of step, or is in step and clashes, or is certified.
+-- A settled module of the site uses the variable.
+pub record IsUserOf (site : Site) (v : Text) (n : Module) : Type 0 where
+  pub settled : IsSettledModule site n
+  pub use : VariableUse
+  pub uses : Uses n.records v use
+
+-- A module of the site, whose candidates are these, stands so. Each module stands in one of the seven ways: its
+-- evaluation is refused, or asks what doesn't keep its answer, or has a record that unloading doesn't undo, or it is
+-- settled; and a settled one reads what another uses, or is a candidate that is out of step, or is in step and clashes,
+-- or is certified.
 abbrev pub HasStanding : Site → List Module → SiteModule → Standing → Type 0
-HasStanding site ms m Certified = IsPlainAnd site m (λ n. IsCertified ms n)
-HasStanding site ms m (Asks first) =
-    (ran : Ran) × EvaluatesTo site m (Ok ran)
-    × ((later : List Question) × (ran.asked ≡ first ∷ later))
+HasStanding site ms m Certified = IsCandidateAnd site m (λ n. IsCertified ms n)
+HasStanding site ms m (Asks first) = (ran : Ran) × EvaluatesTo site m (Ok ran) × IsFirstUnkept ran first
 HasStanding site ms m (OneWay first) =
-    (ran : Ran) × EvaluatesTo site m (Ok ran) × (verdict_of ran ≡ one_way) × IsFirstOneWay ran.records first
-HasStanding site ms m (OutOfStep variable one other) = IsPlainAnd site m (λ n. IsUsedTwice n.records variable one other)
+    (ran : Ran) × EvaluatesTo site m (Ok ran) × (list_all (keeps_answer ran.records) ran.asked ≡ true)
+    × IsFirstOneWay ran.records first
+HasStanding site ms m (ReadsUsed variable other) =
+    (rs : List Record) × HasSettledRecords site m rs × Reads site m variable × IsUserOf site variable other
+HasStanding site ms m (OutOfStep variable one other) =
+    IsCandidateAnd site m (λ n. IsUsedTwice n.records variable one other)
 HasStanding site ms m (Clashes variable own theirs other) =
-    IsPlainAnd site m (λ n. ClashesWith ms n variable own theirs other)
+    IsCandidateAnd site m (λ n. ClashesWith ms n variable own theirs other)
 HasStanding site ms m (Refused reason) = EvaluatesTo site m (Err reason)
