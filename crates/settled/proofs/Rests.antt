@@ -2,9 +2,11 @@
 use Rattle.std.proofs.Common.{◌≡◌, ◌⊎◌, inl, inr, Bool, true, false, not, ◌&&◌, ◌||◌, List, [], ◌∷◌, ◌++◌, Option, Some, None}
 use Rattle.std.proofs.Common.{Result, Ok, Err, refl, ap, sym, subst, ◌∙◌}
 use Rattle.std.specs.List.{list_any}
-use Rattle.std.proofs.lemmas.Bool.{and_parts}
+use Rattle.std.proofs.lemmas.Bool.{false≢true, and_parts}
 use Rattle.envvars.specs.Texts.{Text, has}
+use Rattle.envvars.specs.Names.{is_protected, share_name, stack_name}
 use Rattle.envvars.specs.Environment.{Environment, lookup}
+use Rattle.envloaded.specs.LoadedTexts.{names_variable, files_variable, conflicts_variable, prereqs_variable}
 use Rattle.envstate.specs.Roles.{VariableRole, role_of, is_editable, IsNameOf}
 use Rattle.envstate.proofs.RoleLemmas.{name_of_role}
 use Rattle.envstate.specs.Roles.VariableRole.{Variable, Counters, Stack, LoadedNames, LoadedFiles, LoadedConflicts}
@@ -22,20 +24,23 @@ use Rattle.modulefile.proofs.Effected.{parts}
 use Rattle.reversal.specs.VariableUses.{is_reversible}
 use Rattle.reversal.proofs.RecordKinds.{Touched, touched_loaded, same_accepted}
 use Rattle.reversal.proofs.Frames.{unloads, touched, effect_edits, is_named, kept_variable, kept_rest}
-use Rattle.settled.specs.Resting.{is_of_tool, is_variable, is_resting, shell_variables}
+use Rattle.settled.specs.Resting.{is_variable, is_resting, shell_variables}
 
 -- a variable that is none of the tool's is one that modulefiles may edit, or none that the tool knows
 abbrev pub IsOfUser : Text → Type 0
 IsOfUser v = (is_editable v ≡ true) ⊎ (role_of v ≡ Other)
 
-of_user : (v : Text) (r : VariableRole) → role_of v ≡ r → is_of_tool r ≡ false → IsOfUser v
+not_of_tool : (v n : Text) → v ≡ n → is_protected n ≡ true → is_protected v ≡ false → ⊥
+not_of_tool v n same p h = false≢true (sym h ∙ (ap is_protected same ∙ p))
+
+of_user : (v : Text) (r : VariableRole) → role_of v ≡ r → is_protected v ≡ false → IsOfUser v
 of_user v (Variable n) e h = let i : IsNameOf v (Variable n) = subst (IsNameOf v) e (name_of_role v) in inl (subst (λ (x : Text). is_editable x ≡ true) (sym i.1) i.0)
-of_user v (Counters n) e h = absurd (cc)
-of_user v (Stack n) e h = absurd (cc)
-of_user v LoadedNames e h = absurd (cc)
-of_user v LoadedFiles e h = absurd (cc)
-of_user v LoadedConflicts e h = absurd (cc)
-of_user v LoadedPrereqs e h = absurd (cc)
+of_user v (Counters n) e h = let i : IsNameOf v (Counters n) = subst (IsNameOf v) e (name_of_role v) in absurd (not_of_tool v (share_name n) i.1 refl h)
+of_user v (Stack n) e h = let i : IsNameOf v (Stack n) = subst (IsNameOf v) e (name_of_role v) in absurd (not_of_tool v (stack_name n) i.1 refl h)
+of_user v LoadedNames e h = absurd (not_of_tool v names_variable (subst (IsNameOf v) e (name_of_role v)) refl h)
+of_user v LoadedFiles e h = absurd (not_of_tool v files_variable (subst (IsNameOf v) e (name_of_role v)) refl h)
+of_user v LoadedConflicts e h = absurd (not_of_tool v conflicts_variable (subst (IsNameOf v) e (name_of_role v)) refl h)
+of_user v LoadedPrereqs e h = absurd (not_of_tool v prereqs_variable (subst (IsNameOf v) e (name_of_role v)) refl h)
 of_user v Other e h = inr e
 
 -- a variable that a record doesn't name stays
@@ -107,9 +112,9 @@ kept_outcome (Err reason) = refl
 
 pub resting_parts : (records : List Record) (v : Text) → is_resting records v ≡ true → IsOfUser v × (is_free v records ≡ false)
 resting_parts records v h =
-    let p = and_parts (not (is_of_tool (role_of v))) (not (has v shell_variables) && not (is_free v records)) h in
+    let p = and_parts (not (is_protected v)) (not (has v shell_variables) && not (is_free v records)) h in
     let q = and_parts (not (has v shell_variables)) (not (is_free v records)) p.1 in
-    (of_user v (role_of v) refl (not_true (is_of_tool (role_of v)) p.0), not_true (is_free v records) q.1)
+    (of_user v (role_of v) refl (not_true (is_protected v) p.0), not_true (is_free v records) q.1)
   where
     not_true : (b : Bool) → not b ≡ true → b ≡ false
     not_true true e = absurd (cc)

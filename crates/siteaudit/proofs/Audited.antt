@@ -1,5 +1,5 @@
 -- The parts of an audit, by a walk over a site, are an audit of the site.
-use Rattle.std.proofs.Common.{◌≡◌, List, map, filter, ap, sym, ◌∙◌, subst}
+use Rattle.std.proofs.Common.{◌≡◌, List, map, filter, refl, ap, sym, ◌∙◌, subst}
 use Rattle.std.specs.Prelude.{flat_map}
 use Rattle.envvars.specs.Texts.{Text, texts_in}
 use Rattle.modulefile.specs.Laws as files
@@ -8,8 +8,8 @@ use Rattle.reversal.specs.VariableUses.{UsedVariable}
 use Rattle.sitecertificate.specs.RecordUses.{IsAmong, used_by_modules, is_in_step}
 use Rattle.sitecertificate.specs.Certificates.{certified, certificate}
 use Rattle.sitecertificate.specs.UseViews.{used_view}
-use Rattle.sitelaws.specs.Sites.{Site, SiteModule, file_of, Evaluated, AreEvaluated}
-use Rattle.sitelaws.specs.Laws.{ModulesFound, PlainModulesFound, AuditsHold}
+use Rattle.sitelaws.specs.Sites.{Site, SiteModule, file_of, Evaluated, AreEvaluated, settled_among, candidates_among}
+use Rattle.sitelaws.specs.Laws.{ModulesFound, SettledModulesFound, AuditsHold}
 use Rattle.sitecertificate.specs.ClashAnswers.{AreAnswers, without_clashes}
 use Rattle.sitecertificate.specs.EachOnce.{each_once}
 use Rattle.sitecertificate.proofs.CertifiedOnes as ones
@@ -17,20 +17,21 @@ use Rattle.sitecertificate.proofs.OnceLemmas.{in_once, of_once}
 use Rattle.siteaudit.specs.declared.walk.Evaluation.{Evaluation}
 use Rattle.siteaudit.specs.Walks.{IsWalk, AreEvaluations}
 use Rattle.siteaudit.specs.declared.auditing.AuditedModule.{AuditedModule}
-use Rattle.siteaudit.specs.Audits.{audited_file, plain_among, AllStand, certified_files}
-use Rattle.siteaudit.specs.Findings.{Shown, judged_of, steps_in, settled, AreStandings}
+use Rattle.siteaudit.specs.Audits.{audited_file, AllStand, certified_files}
+use Rattle.siteaudit.specs.SettledRuns.{settled_module, AreUsedReads}
+use Rattle.siteaudit.specs.Findings.{Shown, judged_of, steps_in, reads_along, modules_with, AreStandings}
 use Rattle.siteaudit.specs.Folders.{AreBadDefaultFiles}
 use Rattle.siteaudit.specs.Parts.{PartsAreAudits}
-use Rattle.siteaudit.proofs.AmongLemmas.{among_map}
-use Rattle.siteaudit.proofs.Settled.{IsJudging, steps_are, certified_are, all_stand, files_are, certified_files_are}
+use Rattle.siteaudit.proofs.Judged.{IsJudging, steps_are, certified_are, all_stand, files_are, certified_files_are}
 use Rattle.siteaudit.proofs.Evaluations.{same_files}
+use Rattle.siteaudit.proofs.UsedReads.{same_used, user_settled, answers_shown}
 use Rattle.siteaudit.proofs.Unknown.{mentioned_alike}
 
 -- what the laws say
 pub record Laws : Type 0 where
   pub one : files.OneOutcome
   pub modules : ModulesFound
-  pub plain : PlainModulesFound
+  pub settled : SettledModulesFound
   pub audits : AuditsHold
 
 -- all modules of the site are evaluated
@@ -46,29 +47,37 @@ record AreJudgedRight (site : Site) (ms : List Module) (outs : List Evaluated) (
 
 judged_right : Laws → (site : Site) (es : List Evaluation) (outs : List Evaluated) (modules : List AuditedModule)
     (uses : List UsedVariable) → AreEvaluated site outs → AreEvaluations es outs → AreStandings es modules uses
-    → AreJudgedRight site (plain_among outs) outs modules uses
+    → AreJudgedRight site (candidates_among outs) outs modules uses
 judged_right laws site es outs modules uses all h s =
     let shown : List Shown = s.by_themselves.shown in
-    let ms : List Module = plain_among outs in
+    let ms : List Module = candidates_among outs in
+    let readers : List Module = map settled_module es in
     let h' : AreEvaluations (map (λ (k : Shown). k.0) shown) outs = subst (λ (l : List Evaluation). AreEvaluations l outs) (sym s.by_themselves.evaluated) h in
-    let steps : flat_map steps_in shown ≡ filter is_in_step ms = steps_are shown outs h' s.by_themselves.right in
+    let answered = answers_shown readers shown s.used (subst (λ (l : List Evaluation). AreUsedReads readers l s.used) (sym s.by_themselves.evaluated) s.read)
+    (s.by_themselves.read ∙ ap (λ (l : List Evaluation). reads_along l s.used) (sym s.by_themselves.evaluated)) in
+    let same : used_by_modules readers ≡ used_by_modules (settled_among outs) = same_used es outs h in
+    let steps : flat_map steps_in shown ≡ filter is_in_step ms = steps_are readers (used_by_modules (settled_among outs)) shown outs same h' s.by_themselves.right answered in
     let step : s.in_step ≡ filter is_in_step ms = s.by_themselves.steps ∙ steps in
     let answers : AreAnswers (filter is_in_step ms) (filter is_in_step ms) s.answers = subst (λ (l : List Module). AreAnswers l l s.answers) step s.answered in
     let shown_answers : AreAnswers (filter is_in_step ms) (flat_map steps_in shown) s.answers = subst (λ (l : List Module). AreAnswers (filter is_in_step ms) l s.answers) (sym steps) answers in
-    let judging : IsJudging site ms = record { all = laws.plain site outs all } in
-    let settled_is : modules ≡ settled (map judged_of shown) s.answers = s.settled ∙ ap (λ js. settled js s.answers) s.by_themselves.kept in
+    let found = laws.settled site outs all in
+    let judging : IsJudging site outs ms readers = record {
+      settled = found.0;
+      all = found.1;
+      candidates = refl;
+      used = same;
+      users = λ n v x a u. user_settled es outs n v x h a u;
+    } in
+    let standings_are : modules ≡ modules_with (map judged_of shown) s.answers = s.standings ∙ ap (λ js. modules_with js s.answers) s.by_themselves.kept in
     let sure : without_clashes (filter is_in_step ms) s.answers ≡ certified ms = certified_are ms s.answers answers in
     record {
-      files = ap (map audited_file) settled_is ∙ files_are shown outs s.answers h';
-      standing = subst (AllStand site ms) (sym settled_is)
-          (all_stand site ms shown outs s.answers judging h' s.by_themselves.right shown_answers (λ o a. (all.evaluated o a, (all.modules o.0).0 (among_out o outs a))));
+      files = ap (map audited_file) standings_are ∙ files_are shown outs s.answers h';
+      standing = subst (AllStand site ms) (sym standings_are)
+          (all_stand site outs ms readers shown outs s.answers judging h' s.by_themselves.right answered shown_answers (λ o a. (all.evaluated o a, a)));
       uses = s.certified ∙ ap (λ (l : List Module). each_once (used_by_modules l)) (ap (λ (l : List Module). without_clashes l s.answers) step ∙ sure);
-      certain = ap certified_files settled_is ∙ (certified_files_are (filter is_in_step ms) shown s.answers s.by_themselves.right shown_answers
+      certain = ap certified_files standings_are ∙ (certified_files_are (filter is_in_step ms) shown s.answers s.by_themselves.right shown_answers
           ∙ ap (map file_of) (ap (λ (l : List Module). without_clashes l s.answers) steps ∙ sure));
     }
-  where
-    among_out : (o : Evaluated) (outs : List Evaluated) → IsAmong o outs → IsAmong o.0 (map (λ (x : Evaluated). x.0) outs)
-    among_out o outs a = among_map (λ (x : Evaluated). x.0) o outs a
 
 -- ---- the whole
 
@@ -77,13 +86,13 @@ parts_are_audits laws site walk found (outs, w, h) parts =
     let es : List Evaluation = walk.evaluations.items in
     let dirs : List Text = texts_in walk.directories in
     let all = evaluated_all laws site dirs outs w in
-    let ms : List Module = plain_among outs in
+    let ms : List Module = candidates_among outs in
     let right = judged_right laws site es outs found.modules.items (map used_view found.certificate.items) all h parts.standings in (
       record {
         dirs = dirs;
         outcomes = outs;
         walk = w;
-        plain_modules = laws.plain site outs all;
+        candidates = (laws.settled site outs all).1;
         modules = right.files;
         standing = right.standing;
         certificate = right.uses;
@@ -98,11 +107,11 @@ parts_are_audits laws site walk found (outs, w, h) parts =
       record {
         certain = certified ms;
         exact = sym right.certain;
-        records = λ m a. (((laws.plain site outs all) m).0 ((ones.is_certified ms m a).listed)).records;
+        records = λ m a. (((laws.settled site outs all).1 m).0 ((ones.is_certified ms m a).listed)).settled.records;
         uses = λ p. (
           (λ a. subst (IsAmong p) (sym right.uses) (in_once p (certificate ms) a)),
           (λ a. of_once p (certificate ms) (subst (IsAmong p) right.uses a)),
         );
-        holds = laws.audits site ms (certified ms) (laws.plain site outs all) (λ m a. ones.is_certified ms m a);
+        holds = laws.audits site ms (certified ms) ((laws.settled site outs all).1) (λ m a. ones.is_certified ms m a);
       },
     )

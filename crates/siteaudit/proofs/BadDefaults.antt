@@ -16,7 +16,7 @@ use Rattle.sitelaws.specs.DirectorySets.{with_directories}
 use Rattle.sitelaws.proofs.DirectorySetLemmas.{with-append}
 use Rattle.siteaudit.specs.declared.defaults.Folder.{Folder}
 use Rattle.siteaudit.specs.declared.walk.Evaluation.{Evaluation}
-use Rattle.siteaudit.specs.Findings.{evaluated_file}
+use Rattle.siteaudit.specs.SettledRuns.{evaluated_file}
 use Rattle.siteaudit.specs.Folders.{FolderText, folder_view, HoldsModule, HoldsOneOf, IsBadIn, IsBadDefaultOf}
 use Rattle.siteaudit.specs.Folders.{AreBadDefaultsOf, AreBadDefaultFiles, AddsNewAnswer, AddsBadDefault, AddsFolder}
 use Rattle.siteaudit.proofs.AmongLemmas.{among_map, taken}

@@ -6,7 +6,7 @@ use Rattle.search.specs.Listed.{IsBelow}
 use Rattle.sitelaws.specs.Sites.{Site, SiteModule, IsDirectory, Evaluated, AreEvaluated}
 use Rattle.siteaudit.specs.declared.walk.Evaluation.{Evaluation}
 use Rattle.siteaudit.specs.Walks.{AreEvaluations}
-use Rattle.siteaudit.specs.Findings.{evaluated_file}
+use Rattle.siteaudit.specs.SettledRuns.{evaluated_file}
 use Rattle.siteaudit.specs.Folders.{FolderText, HoldsOneOf}
 use Rattle.siteaudit.proofs.FolderLemmas.{same_directory}
 use Rattle.siteaudit.proofs.Evaluations.{of_site}

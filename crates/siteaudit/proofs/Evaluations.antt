@@ -13,7 +13,7 @@ use Rattle.sitecertificate.specs.RecordUses.{IsAmong}
 use Rattle.sitelaws.specs.Sites.{Site, SiteModule, over_site, EvaluatesTo, IsOfSite, Evaluated, AreEvaluated}
 use Rattle.siteaudit.specs.declared.walk.Evaluation.{Evaluation}
 use Rattle.siteaudit.specs.Walks.{IsEvaluation, AreEvaluations}
-use Rattle.siteaudit.specs.Findings.{evaluated_file}
+use Rattle.siteaudit.specs.SettledRuns.{evaluated_file}
 use Rattle.siteaudit.proofs.AmongLemmas.{among_map, of_map}
 
 -- an evaluation has one outcome

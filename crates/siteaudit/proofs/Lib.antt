@@ -10,7 +10,8 @@ mod NameLemmas
 mod JudgedLemmas
 mod StandingLemmas
 mod Evaluations
-mod Settled
+mod UsedReads
+mod Judged
 mod OnceEach
 mod Unknown
 mod BadFiles

@@ -1,8 +1,7 @@
 -- A walk over a site, directory by directory.
-use Rattle.std.proofs.Common.{◌≡◌, inl, inr, ℕ, ◌+◌, ◌<◌, ◌≤◌, suc, Bool, true, false, cond, not, ◌&&◌, List, [], ◌∷◌}
+use Rattle.std.proofs.Common.{◌≡◌, inl, inr, ℕ, ◌+◌, ◌<◌, ◌≤◌, suc, Bool, true, false, cond, List, [], ◌∷◌}
 use Rattle.std.proofs.Common.{◌++◌, map, flat_map, take, slice_get, length, get_or, Some, None, Result, Ok, Err, refl}
 use Rattle.std.proofs.Common.{sym, ap, ◌∙◌, subst, append-nil, append_assoc}
-use Rattle.std.specs.List.{list_all}
 use Rattle.std.proofs.lemmas.List.{map-append, take_more}
 use Rattle.envvars.specs.Texts.{Text}
 use Rattle.envvars.specs.Fields.{without_repeats, are_distinct}
@@ -11,11 +10,10 @@ use Rattle.filetree.specs.Modulefiles.{modulefile, path_of}
 use Rattle.filetree.specs.Relations.{IsOne}
 use Rattle.filetree.proofs.OneOutcome.{one_is, one_then}
 use Rattle.modulefile.specs.Files as files
-use Rattle.modulefile.specs.Files.{any_question, RunsFile}
+use Rattle.modulefile.specs.Files.{RunsFile}
 use Rattle.modulefile.specs.Laws as laws
 use Rattle.modulefile.specs.RecordViews.{record_view}
 use Rattle.modulerun.specs.declared.run.FileRun.{FileRun}
-use Rattle.modulerun.specs.Questions.{questions_in}
 use Rattle.modulerun.specs.Running.{ran_view}
 use Rattle.search.specs.ListingEntries.{name_of}
 use Rattle.search.specs.declared.listing_entries.ListingEntry.{ListingEntry}
@@ -24,19 +22,19 @@ use Rattle.modulefile.specs.Records.{Record}
 use Rattle.requests.specs.Reasons.{RequestReason, file_refused}
 use Rattle.requests.specs.Refusals.{refused_as, RefusedAs}
 use Rattle.requests.specs.Steps.{entries_of, script_at, context_of}
-use Rattle.reversal.specs.VariableUses.{is_reversible}
-use Rattle.requests.specs.Verdicts.{Verdict, plain, asked, one_way, verdict_of}
+use Rattle.settled.specs.Resting.{is_settled}
 use Rattle.modules.specs.declared.refusal.Refusal.{Refusal}
 use Rattle.sitecertificate.specs.RecordUses.{IsAmong}
-use Rattle.sitelaws.specs.Sites.{Site, SiteModule, Evaluated, EvaluatesTo, HasPlainRecords, IsIn, IsDirectory, first}
+use Rattle.sitelaws.specs.Sites.{Site, SiteModule, Evaluated, EvaluatesTo, HasSettledRecords, IsIn, IsDirectory, first}
 use Rattle.sitelaws.specs.Sites.{added, IsClosed, AreNamesBelow, AreModulesIn, module_below, first_directories}
-use Rattle.sitelaws.specs.Sites.{added_directories, over_site, plain_by}
+use Rattle.sitelaws.specs.Sites.{added_directories, over_site, with_records}
 use Rattle.sitelaws.specs.Laws.{DirectoriesFound}
 use Rattle.sitelaws.specs.DirectorySets.{with_directories}
 use Rattle.siteaudit.specs.declared.walk.Evaluation.{Evaluation}
-use Rattle.siteaudit.specs.Walks.{directories_by_plain, directories_of, IsWalk, IsOutcome, AreEvaluations, HasTooMany}
+use Rattle.siteaudit.specs.Walks.{directories_by_settled, directories_of, IsWalk, IsOutcome, AreEvaluations, HasTooMany}
 use Rattle.siteaudit.specs.Walks.{most_directories}
-use Rattle.siteaudit.specs.WalkParts.{is_plain_ran, directories_after, directories_found, AreEvaluationsOf}
+use Rattle.siteaudit.specs.SettledRuns.{is_settled_ran, directories_after}
+use Rattle.siteaudit.specs.WalkParts.{directories_found, AreEvaluationsOf}
 use Rattle.siteaudit.specs.WalkParts.{IsEvaluationOf, GoesThrough}
 use Rattle.sitecertificate.proofs.UsedLemmas.{by_cases, among_left, among_right, among_either}
 use Rattle.sitelaws.proofs.DirectorySetLemmas.{with-append}
@@ -100,20 +98,13 @@ next_evaluated site dir entries i entry name old new x l e named pushed before n
 
 -- ---- the directories that evaluated modules add
 
--- a file that asked nothing is plain by its records
-pub asks_nothing : (ran : FileRun) (b : Bool) → any_question (questions_in ran.asked.items) ≡ false → b ≡ list_all is_reversible (map record_view ran.records.items) → b ≡ is_plain_ran ran
-asks_nothing ran b quiet same = same ∙ ap (λ (a : Bool). not a && list_all is_reversible (map record_view ran.records.items)) (sym quiet)
-
-by_tests : (ran : files.Ran) (m : SiteModule) (a b : Bool)
-    → directories_by_plain (plain_by (cond a asked (cond b plain one_way)) m ran.records) ≡ cond (not a && b) (added_directories ran.records) []
-by_tests ran m true true = refl
-by_tests ran m true false = refl
-by_tests ran m false true = refl
-by_tests ran m false false = refl
+by_tests : (m : SiteModule) (rs : List Record) (b : Bool) → directories_by_settled (cond b (Some (with_records m rs)) None) ≡ added_directories (cond b rs [])
+by_tests m rs true = refl
+by_tests m rs false = refl
 
 found_of : (m : SiteModule) (o : Result FileRun Refusal) (p : Result files.Ran RequestReason) → IsOutcome o p → directories_after o ≡ directories_of (m, p)
 found_of m (Ok ran) p (e, same) =
-    sym (ap (λ (q : Result files.Ran RequestReason). directories_of (m, q)) same ∙ by_tests (ran_view ran e) m (any_question (questions_in ran.asked.items)) (list_all is_reversible (map record_view ran.records.items)))
+    sym (ap (λ (q : Result files.Ran RequestReason). directories_of (m, q)) same ∙ by_tests m (map record_view ran.records.items) (is_settled_ran ran))
 found_of m (Err refusal) p (reason, because, same) = sym (ap (λ (q : Result files.Ran RequestReason). directories_of (m, q)) same)
 
 found_same : (xs : List Evaluation) (os : List Evaluated) → AreEvaluations xs os → directories_found xs ≡ flat_map directories_of os
@@ -153,7 +144,7 @@ in_directory site dir names m below a =
     let p = of_map (module_below dir) m names a in
     subst (λ (k : SiteModule). IsIn site dir k) (sym p.2) (record { below = (below.exact p.0).0 p.1; path = refl })
 
--- ---- plain modules
+-- ---- settled modules
 
 one_refused_as : {A R S : Type 0} {f : R → S} {First : Result A R → Type 0} → IsOne First → IsOne (RefusedAs f First)
 one_refused_as {f = f} u o p h k = h.2 ∙ (ap (refused_as f) (u h.0 k.0 h.1 k.1) ∙ sym k.2)
@@ -164,26 +155,26 @@ one_outcome one site m =
     one_refused_as {f = file_refused} {First = RunsFile site.limits (context_of (over_site site) modes.load false m.name m.name m.path xs site.env) text}
     (one site.limits (context_of (over_site site) modes.load false m.name m.name m.path xs site.env) text)))
 
-by_verdict : (d : Text) (v : Verdict) (m : SiteModule) (rs : List Record) → IsAmong d (directories_by_plain (plain_by v m rs)) → (v ≡ plain) × IsAmong d (added_directories rs)
-by_verdict d plain m rs a = (refl, a)
-by_verdict d asked m rs a = absurd a
-by_verdict d one_way m rs a = absurd a
+by_settled : (d : Text) (b : Bool) (m : SiteModule) (rs : List Record) → IsAmong d (directories_by_settled (cond b (Some (with_records m rs)) None)) → (b ≡ true) × IsAmong d (added_directories rs)
+by_settled d true m rs a = (refl, a)
+by_settled d false m rs a = absurd a
 
--- a module that adds a directory is plain
-is_plain_one : (site : Site) (d : Text) (m : SiteModule) (o : Result files.Ran RequestReason) → EvaluatesTo site m o
-    → IsAmong d (directories_of (m, o)) → (rs : List Record) × HasPlainRecords site m rs
+-- a module that adds a directory is settled
+is_settled_one : (site : Site) (d : Text) (m : SiteModule) (o : Result files.Ran RequestReason) → EvaluatesTo site m o
+    → IsAmong d (directories_of (m, o)) → (rs : List Record) × HasSettledRecords site m rs
     × IsAmong d (added_directories rs)
-is_plain_one site d m (Err reason) h a = absurd a
-is_plain_one site d m (Ok ran) h a =
-    let v = by_verdict d (verdict_of ran) m ran.records a in
-    (ran.records, record { ran = ran; evaluated = h; plain = v.0; records = refl }, v.1)
+is_settled_one site d m (Err reason) h a = absurd a
+is_settled_one site d m (Ok ran) h a =
+    let v = by_settled d (is_settled ran) m ran.records a in
+    (ran.records, record { ran = ran; evaluated = h; settled = v.0; records = refl }, v.1)
 
--- and a plain module adds the directories of its records
-adds_its : laws.OneOutcome → (site : Site) (d : Text) (m : SiteModule) (o : Result files.Ran RequestReason) (rs : List Record) → EvaluatesTo site m o → HasPlainRecords site m rs
+-- and a settled module adds the directories of its records
+adds_its : laws.OneOutcome → (site : Site) (d : Text) (m : SiteModule) (o : Result files.Ran RequestReason) (rs : List Record) → EvaluatesTo site m o → HasSettledRecords site m rs
     → IsAmong d (added_directories rs) → IsAmong d (directories_of (m, o))
 adds_its one site d m o rs h p a =
     let out : Ok p.ran ≡ o = one_outcome one site m (Ok p.ran) o p.evaluated h in
-    let v : directories_by_plain (plain_by (verdict_of p.ran) m p.ran.records) ≡ added_directories p.ran.records = ap (λ (w : Verdict). directories_by_plain (plain_by w m p.ran.records)) p.plain in
+    let v : directories_by_settled (cond (is_settled p.ran) (Some (with_records m p.ran.records)) None) ≡ added_directories p.ran.records
+    = ap (λ (b : Bool). directories_by_settled (cond b (Some (with_records m p.ran.records)) None)) p.settled in
     subst (λ (q : Result files.Ran RequestReason). IsAmong d (directories_of (m, q))) out
     (subst (IsAmong d) (sym v) (subst (λ (qs : List Record). IsAmong d (added_directories qs)) p.records a))
 
@@ -243,7 +234,7 @@ module _ (site : Site) (place : ℕ) (dirs last : List Text) (evaluations now : 
   adds d a =
       let i = of_flat_map directories_of d through.evaluated.2.outcomes a in
       let h : EvaluatesTo site i.0.0 i.0.1 = through.evaluated.2.evaluated i.0 i.1 in
-      let p = is_plain_one site d i.0.0 i.0.1 h i.2 in
+      let p = is_settled_one site d i.0.0 i.0.1 h i.2 in
       let among : IsAmong i.0.0 (map (module_below dir) through.evaluated.0) = subst (IsAmong i.0.0)
       through.evaluated.2.modules (in_map (λ (o : Evaluated). o.0) i.0 through.evaluated.2.outcomes i.1) in
       added i.0.0 p.0 (walks_on site place dirs evaluations dir w at) (in_directory site dir through.evaluated.0 i.0.0 through.evaluated.1 among) p.1 p.2
@@ -275,10 +266,10 @@ module _ (site : Site) (place : ℕ) (dirs : List Text) (evaluations : List Eval
       (take_all_gone place dirs gone) w.modules in
       record {
         begins = λ d a. into d (among_left d begin more a);
-        adds = λ from d m rs there in_it plain a.
+        adds = λ from d m rs there in_it settled a.
             let i = of_map (λ (o : Evaluated). o.0) m w.outcomes (among_modules site dirs (map (λ (o : Evaluated). o.0) w.outcomes) from m modules there in_it) in
-            let plain_here : HasPlainRecords site i.0.0 rs = subst (λ (k : SiteModule). HasPlainRecords site k rs) i.2 plain in
-            into d (among_right d begin more (in_flat_map directories_of d i.0 w.outcomes i.1 (adds_its one site d i.0.0 i.0.1 rs (w.evaluated i.0 i.1) plain_here a)));
+            let settled_here : HasSettledRecords site i.0.0 rs = subst (λ (k : SiteModule). HasSettledRecords site k rs) i.2 settled in
+            into d (among_right d begin more (in_flat_map directories_of d i.0 w.outcomes i.1 (adds_its one site d i.0.0 i.0.1 rs (w.evaluated i.0 i.1) settled_here a)));
       }
 
   -- at its end

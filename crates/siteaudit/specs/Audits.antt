@@ -1,6 +1,6 @@
 -- What an audit of a site finds (own).
 use Rattle.std.specs.Prelude.{◌≡◌, ◌↔◌, Bool, true, false, not, ◌&&◌, List, [], ◌∷◌, ◌++◌, map, filter, flat_map}
-use Rattle.std.specs.Prelude.{filter_map, Ok, Err, bytes_eq, string_bytes}
+use Rattle.std.specs.Prelude.{Ok, Err, bytes_eq, string_bytes}
 use Rattle.std.specs.List.{list_any}
 use Rattle.indexmap.specs.IndexSet.{insert_all}
 use Rattle.modulename.specs.ModuleName.{means}
@@ -20,7 +20,8 @@ use Rattle.sitecertificate.specs.UseViews.{use_view, used_view}
 use Rattle.sitecertificate.specs.Disagreements.{AreDisagreements}
 use Rattle.sitecertificate.specs.DisagreementViews.{disagreement_view}
 use Rattle.sitecertificate.specs.EachOnce.{each_once}
-use Rattle.sitelaws.specs.Sites.{Site, SiteModule, Evaluated, file_of, plain_of, HasPlainRecords, ArePlainModules}
+use Rattle.sitelaws.specs.Sites.{Site, SiteModule, Evaluated, file_of, HasSettledRecords, AreCandidates}
+use Rattle.sitelaws.specs.Sites.{candidates_among}
 use Rattle.sitelaws.specs.Standings as standings
 use Rattle.sitelaws.specs.Standings.{HasStanding}
 use Rattle.sitelaws.specs.Laws.{CertificateHolds}
@@ -30,19 +31,24 @@ use Rattle.siteaudit.specs.Missing.{missing_among}
 use Rattle.siteaudit.specs.NoModulefiles.{AreNoModulefiles}
 use Rattle.modulerun.specs.Questions.{question_view}
 use Rattle.siteaudit.specs.declared.standing.Standing.{Standing}
-use Rattle.siteaudit.specs.declared.standing.Standing.TheVariants.{Certified, Asks, OneWay, OutOfStep, Clashes, Refused}
+use Rattle.siteaudit.specs.declared.standing.Standing.TheVariants.{Certified, Asks, OneWay, ReadsUsed, OutOfStep}
+use Rattle.siteaudit.specs.declared.standing.Standing.TheVariants.{Clashes, Refused}
 use Rattle.siteaudit.specs.declared.auditing.AuditedModule.{AuditedModule}
 use Rattle.siteaudit.specs.declared.auditing.UnknownNames.{UnknownNames}
 use Rattle.siteaudit.specs.declared.auditing.SiteAudit.{SiteAudit}
 
 -- ---- standings
 
--- A module of a site, whose plain modules are these, stands as the code says. The other module of a clash has the name
--- and the path that are given, and so many of those in step use the variable as it does; a refusal has its reason.
+-- A module of a site, whose candidates are these, stands as the code says. The module that uses what it reads, and the
+-- other module of a clash, have the name and the path that are given, and so many of the candidates in step use the
+-- variable of the clash as the other does; a refusal has its reason.
 abbrev pub StandsAs : Site → List Module → SiteModule → Standing → Type 0
 StandsAs site ms m Certified = HasStanding site ms m standings.Certified
 StandsAs site ms m (Asks first) = HasStanding site ms m (standings.Asks (question_view first))
 StandsAs site ms m (OneWay first) = HasStanding site ms m (standings.OneWay (record_view first))
+StandsAs site ms m (ReadsUsed used) =
+    (other : Module) × (other.name ≡ string_bytes used.user_name) × (other.path ≡ string_bytes used.user_path)
+    × HasStanding site ms m (standings.ReadsUsed (string_bytes used.variable) other)
 StandsAs site ms m (OutOfStep variable one other) =
     HasStanding site ms m (standings.OutOfStep (string_bytes variable) (use_view one) (use_view other))
 StandsAs site ms m (Clashes clash) =
@@ -67,6 +73,7 @@ abbrev pub is_certified : Standing → Bool
 is_certified Certified = true
 is_certified (Asks first) = false
 is_certified (OneWay first) = false
+is_certified (ReadsUsed used) = false
 is_certified (OutOfStep variable one other) = false
 is_certified (Clashes clash) = false
 is_certified (Refused refusal) = false
@@ -136,22 +143,18 @@ unknown_names outcomes = flat_map (unknown_of (means_one outcomes)) outcomes
 
 -- ---- the whole
 
--- the plain ones of some evaluated modules, in their order
-abbrev pub plain_among : List Evaluated → List Module
-plain_among outcomes = filter_map plain_of outcomes
-
 -- What was found is an audit of the site: a walk over it has these directories and these outcomes. It has each module of
--- the walk, in its order, with how it stands; the certificate of its plain modules, each use once; those of its
+-- the walk, in its order, with how it stands; the certificate of its candidates, each use once; those of its
 -- directories that aren't there, in their order; the files in the places of modules that are no modulefiles; the bad
 -- default files of the modules in turn, each once; the names that mean no module; and the reasons for which the environment at hand doesn't agree with the certificate, use after use.
 pub record IsAudit (site : Site) (found : SiteAudit) : Type 0 where
   pub dirs : List Text
   pub outcomes : List Evaluated
   pub walk : IsWalk site dirs outcomes
-  pub plain_modules : ArePlainModules site (plain_among outcomes)
+  pub candidates : AreCandidates site (candidates_among outcomes)
   pub modules : map audited_file found.modules.items ≡ map (λ outcome. outcome.0) outcomes
-  pub standing : AllStand site (plain_among outcomes) found.modules.items
-  pub certificate : map used_view found.certificate.items ≡ each_once (certificate (plain_among outcomes))
+  pub standing : AllStand site (candidates_among outcomes) found.modules.items
+  pub certificate : map used_view found.certificate.items ≡ each_once (certificate (candidates_among outcomes))
   pub missing_directories : texts_in found.missing_directories ≡ missing_among site.listings dirs
   pub no_modulefiles : AreNoModulefiles site.files site.listings dirs (texts_in found.no_modulefiles)
   pub bad_default_files : AreBadDefaultFiles site.limits site.files site.listings (map (λ outcome. outcome.0) outcomes)
@@ -163,11 +166,12 @@ pub record IsAudit (site : Site) (found : SiteAudit) : Type 0 where
 
 -- What the certificate that was found promises of the site. These modules, with the records of their evaluations, are
 -- those that stand as certified, and the certificate is what they use. Sessions that load only those of them with whose
--- uses the start agrees return to it: of the others nothing is asked.
+-- uses the start agrees, and whose reads have in it the values of the audit, return to it: of the others nothing is
+-- asked.
 pub record CertificateStands (site : Site) (found : SiteAudit) : Type 0 where
   pub certain : List Module
   pub exact : map file_of certain ≡ certified_files found.modules.items
-  pub records : (m : Module) → IsAmong m certain → HasPlainRecords site (file_of m) m.records
+  pub records : (m : Module) → IsAmong m certain → HasSettledRecords site (file_of m) m.records
   pub uses : (p : UsedVariable) → IsAmong p (used_by_modules certain)
       ↔ IsAmong p (map used_view found.certificate.items)
   pub holds : CertificateHolds site certain

@@ -1,14 +1,15 @@
 -- What each module of a site shows by itself, and what the answers about clashes make of it: for this crate's own
 -- contracts alone.
-use Rattle.std.specs.Prelude.{◌≡◌, true, false, List, [], ◌∷◌, ◌++◌, map, flat_map, Option, Some, None, Result}
-use Rattle.std.specs.Prelude.{Ok, Err, string_bytes}
+use Rattle.std.specs.Prelude.{◌≡◌, ◌⊎◌, Bool, true, false, not, List, [], ◌∷◌, ◌++◌, map, find, flat_map, Option, Some}
+use Rattle.std.specs.Prelude.{None, Result, Ok, Err, string_bytes}
 use Rattle.std.specs.List.{list_all, AllByRecursion}
 use Rattle.envvars.specs.Fields.{colon}
 use Rattle.modulefile.specs.RecordViews.{record_view}
 use Rattle.modulerun.specs.declared.question.Question.{Question}
 use Rattle.modulerun.specs.declared.run.FileRun.{FileRun}
-use Rattle.modulerun.specs.Questions.{IsFirst}
+use Rattle.modulerun.specs.Questions.{question_view}
 use Rattle.modulefile.specs.Records.{Record}
+use Rattle.modulefile.specs.declared.records.Record as code
 use Rattle.modulefile.specs.Moves.{Module}
 use Rattle.reversal.specs.VariableUses.{Pathed, is_reversible, UsedVariable}
 use Rattle.modules.specs.MoveViews.{module_view}
@@ -16,15 +17,19 @@ use Rattle.modules.specs.declared.refusal.Refusal.{Refusal}
 use Rattle.sitecertificate.specs.RecordUses.{used_by, used_by_modules, IsAmong, modulepath, same_use}
 use Rattle.sitecertificate.specs.RecordUses.{are_in_step}
 use Rattle.sitecertificate.specs.UseViews.{use_view}
+use Rattle.settled.specs.Resting.{keeps_answer}
+use Rattle.sitereads.specs.declared.readers.UsedRead.{UsedRead}
 use Rattle.sitelaws.specs.Sites.{SiteModule, with_records}
 use Rattle.sitelaws.specs.Standings.{IsFirstOneWay, IsUsedTwice}
 use Rattle.sitecertificate.specs.declared.answers.Clash.{Clash}
 use Rattle.sitecertificate.specs.ClashAnswers.{AreAnswers, without_clashes}
 use Rattle.sitecertificate.specs.EachOnce.{each_once}
 use Rattle.siteaudit.specs.declared.walk.Evaluation.{Evaluation}
+use Rattle.siteaudit.specs.SettledRuns.{AreUsedReads, evaluated_file, settled_module}
 use Rattle.siteaudit.specs.declared.standing.UnlikeUses.{UnlikeUses}
 use Rattle.siteaudit.specs.declared.standing.Standing.{Standing}
-use Rattle.siteaudit.specs.declared.standing.Standing.TheVariants.{Certified, Asks, OneWay, OutOfStep, Clashes, Refused}
+use Rattle.siteaudit.specs.declared.standing.Standing.TheVariants.{Certified, Asks, OneWay, ReadsUsed, OutOfStep}
+use Rattle.siteaudit.specs.declared.standing.Standing.TheVariants.{Clashes, Refused}
 use Rattle.siteaudit.specs.declared.standing.ModuleFinding.{ModuleFinding}
 use Rattle.siteaudit.specs.declared.standing.ModuleFinding.TheVariants.{Stands, InStep}
 use Rattle.siteaudit.specs.declared.judgement.JudgedModule.{JudgedModule}
@@ -39,28 +44,44 @@ pub record AreUnlike (ps : List UsedVariable) (unlike : UnlikeUses) : Type 0 whe
   pub second : IsAmong (string_bytes unlike.variable, use_view unlike.other) ((modulepath, Pathed colon) ∷ ps)
   pub differ : same_use (use_view unlike.one) (use_view unlike.other) ≡ false
 
--- By what its evaluation asked, and by its records, the module stands so, whatever the other modules do.
-abbrev pub IsDecided : List Question → List Record → Standing → Type 0
-IsDecided asked rs Certified = ⊥
-IsDecided asked rs (Asks first) = IsFirst first asked
-IsDecided asked rs (OneWay first) = (asked ≡ []) × IsFirstOneWay rs (record_view first)
-IsDecided asked rs (OutOfStep variable one other) =
-    (asked ≡ []) × (list_all is_reversible rs ≡ true)
-    × IsUsedTwice rs (string_bytes variable) (use_view one) (use_view other)
-IsDecided asked rs (Clashes clash) = ⊥
-IsDecided asked rs (Refused refusal) = ⊥
+-- What a settled module with these records shows by itself, whose reads no settled module uses.
+abbrev pub IsUseFinding : List Record → ModuleFinding → Type 0
+IsUseFinding rs (Stands Certified) = ⊥
+IsUseFinding rs (Stands (Asks first)) = ⊥
+IsUseFinding rs (Stands (OneWay first)) = ⊥
+IsUseFinding rs (Stands (ReadsUsed used)) = ⊥
+IsUseFinding rs (Stands (OutOfStep variable one other)) =
+    IsUsedTwice rs (string_bytes variable) (use_view one) (use_view other)
+IsUseFinding rs (Stands (Clashes clash)) = ⊥
+IsUseFinding rs (Stands (Refused refusal)) = ⊥
+IsUseFinding rs (InStep records) = (are_in_step (used_by rs) ≡ true) × (map record_view records.items ≡ rs)
 
--- what a module with these records shows by itself
-abbrev pub IsFindingOf : List Question → List Record → ModuleFinding → Type 0
-IsFindingOf asked rs (Stands standing) = IsDecided asked rs standing
-IsFindingOf asked rs (InStep records) =
-    (asked ≡ []) × (list_all is_reversible rs ≡ true) × (are_in_step (used_by rs) ≡ true)
-    × (map record_view records.items ≡ rs)
+-- The same of any settled module, by the first of its reads that a settled module uses.
+abbrev pub IsSettledFinding : List Record → Option UsedRead → ModuleFinding → Type 0
+IsSettledFinding rs (Some used) finding = finding ≡ Stands (ReadsUsed used)
+IsSettledFinding rs None finding = IsUseFinding rs finding
 
--- what the outcome of its evaluation shows
-abbrev pub IsFinding : Result FileRun Refusal → ModuleFinding → Type 0
-IsFinding (Ok ran) finding = IsFindingOf ran.asked.items (map record_view ran.records.items) finding
-IsFinding (Err refusal) finding = finding ≡ Stands (Refused refusal)
+-- The same of a module whose questions keep their answers.
+abbrev pub IsKeptFinding : List Record → Option UsedRead → ModuleFinding → Type 0
+IsKeptFinding rs used finding =
+    ((list_all is_reversible rs ≡ true) × IsSettledFinding rs used finding)
+    ⊎ ((first : code.Record) × IsFirstOneWay rs (record_view first) × (finding ≡ Stands (OneWay first)))
+
+-- the questions keep their answers beside these records
+abbrev pub are_kept : List Record → List Question → Bool
+are_kept rs questions = list_all (λ q. keeps_answer rs (question_view q)) questions
+
+-- What a module with these records shows by itself that asked these questions.
+abbrev pub IsFindingOf : List Question → List Record → Option UsedRead → ModuleFinding → Type 0
+IsFindingOf questions rs used finding =
+    ((are_kept rs questions ≡ true) × IsKeptFinding rs used finding)
+    ⊎ ((first : Question) × (find (λ q. not (keeps_answer rs (question_view q))) questions ≡ Some first)
+    × (finding ≡ Stands (Asks first)))
+
+-- what the outcome of its evaluation shows, and what it reads that a settled module uses
+abbrev pub IsFinding : Result FileRun Refusal → Option UsedRead → ModuleFinding → Type 0
+IsFinding (Ok ran) used finding = IsFindingOf ran.asked.items (map record_view ran.records.items) used finding
+IsFinding (Err refusal) used finding = finding ≡ Stands (Refused refusal)
 
 -- its standing, unless others decide
 abbrev pub standing_of : ModuleFinding → Option Standing
@@ -74,41 +95,54 @@ steps_of m (InStep records) = with_records m (map record_view records.items) ∷
 
 -- ---- all modules
 
--- the module of an evaluation
-abbrev pub evaluated_file : Evaluation → SiteModule
-evaluated_file e = record { name = string_bytes e.name; path = string_bytes e.path }
-
--- an evaluation, and what it shows
+-- an evaluation, what of its reads a settled module uses, and what it shows
 abbrev pub Shown : Type 0
-Shown = Evaluation × ModuleFinding
+Shown = Evaluation × Option UsedRead × ModuleFinding
 
 -- what is kept of it
 abbrev pub judged_of : Shown → JudgedModule
-judged_of (e, finding) = record { name = e.name; path = e.path; standing = standing_of finding }
+judged_of (e, used, finding) = record { name = e.name; path = e.path; standing = standing_of finding }
 
--- the module, where it is plain and in step
+-- the module, where other modules decide how it stands
 abbrev pub steps_in : Shown → List Module
-steps_in (e, finding) = steps_of (evaluated_file e) finding
+steps_in (e, used, finding) = steps_of (evaluated_file e) finding
 
 -- what the evaluation shows is right
 abbrev pub IsShown : Shown → Type 0
-IsShown (e, finding) = IsFinding e.outcome finding
+IsShown (e, used, finding) = IsFinding e.outcome used finding
 
--- Each module of some evaluations is judged by itself, in their order; and these are the plain ones in step.
-pub record AreJudged (evaluations : List Evaluation) (judged : List JudgedModule) (in_step : List Module) : Type 0 where
+-- the first of some answers, if there is one, and those after it
+abbrev pub first_read : List (Option UsedRead) → Option UsedRead
+first_read [] = None
+first_read (answer ∷ answers) = answer
+
+abbrev pub later_reads : List (Option UsedRead) → List (Option UsedRead)
+later_reads [] = []
+later_reads (answer ∷ answers) = answers
+
+-- the answers for each of some evaluations, in their order
+abbrev pub reads_along : List Evaluation → List (Option UsedRead) → List (Option UsedRead)
+reads_along [] answers = []
+reads_along (e ∷ es) answers = first_read answers ∷ reads_along es (later_reads answers)
+
+-- Each module of some evaluations is judged by itself, in their order, by these answers of what it reads; and these are
+-- the settled ones in step whose reads none of them uses.
+pub record AreJudged (evaluations : List Evaluation) (used : List (Option UsedRead)) (judged : List JudgedModule)
+    (in_step : List Module) : Type 0 where
   pub shown : List Shown
   pub evaluated : map (λ s. s.0) shown ≡ evaluations
+  pub read : map (λ s. s.1) shown ≡ used
   pub right : AllByRecursion IsShown shown
   pub kept : judged ≡ map judged_of shown
   pub steps : in_step ≡ flat_map steps_in shown
 
 -- one module more is judged by itself
-pub record AddsJudged (evaluation : Evaluation) (old new : JudgedSite) : Type 0 where
+pub record AddsJudged (evaluation : Evaluation) (used : Option UsedRead) (old new : JudgedSite) : Type 0 where
   pub finding : ModuleFinding
-  pub right : IsFinding evaluation.outcome finding
-  pub kept : new.judged.items ≡ old.judged.items ++ judged_of (evaluation, finding) ∷ []
+  pub right : IsFinding evaluation.outcome used finding
+  pub kept : new.judged.items ≡ old.judged.items ++ judged_of (evaluation, used, finding) ∷ []
   pub steps : map module_view new.in_step.items
-      ≡ map module_view old.in_step.items ++ steps_in (evaluation, finding)
+      ≡ map module_view old.in_step.items ++ steps_in (evaluation, used, finding)
 
 -- ---- answers about clashes
 
@@ -139,18 +173,21 @@ module_with judged answers =
     record { name = judged.name; path = judged.path; standing = standing_with judged.standing answers }
 
 -- The modules with their standings: those for whom others decide have the answers, in their order.
-abbrev pub settled : List JudgedModule → List (Option Clash) → List AuditedModule
-settled [] answers = []
-settled (judged ∷ rest) answers = module_with judged answers ∷ settled rest (answers_left judged.standing answers)
+abbrev pub modules_with : List JudgedModule → List (Option Clash) → List AuditedModule
+modules_with [] answers = []
+modules_with (judged ∷ rest) answers =
+    module_with judged answers ∷ modules_with rest (answers_left judged.standing answers)
 
 -- The modules of some evaluations stand so, and these are the uses of those that are certified, each once: by what each
--- shows by itself, and by what is answered of the clashes of those that are plain and in step.
+-- shows by itself and reads, and by what is answered of the clashes of those that are settled and in step.
 pub record AreStandings (evaluations : List Evaluation) (modules : List AuditedModule) (uses : List UsedVariable)
     : Type 0 where
+  pub used : List (Option UsedRead)
   pub judged : List JudgedModule
   pub in_step : List Module
   pub answers : List (Option Clash)
-  pub by_themselves : AreJudged evaluations judged in_step
+  pub read : AreUsedReads (map settled_module evaluations) evaluations used
+  pub by_themselves : AreJudged evaluations (reads_along evaluations used) judged in_step
   pub answered : AreAnswers in_step in_step answers
-  pub settled : modules ≡ settled judged answers
+  pub standings : modules ≡ modules_with judged answers
   pub certified : uses ≡ each_once (used_by_modules (without_clashes in_step answers))

@@ -7,6 +7,7 @@ pub mod NoModulefiles
 pub mod Folders
 -- for the contracts of private functions
 pub mod WalkParts
+pub mod SettledRuns
 pub mod Findings
 pub mod Mentions
 pub mod FilesBelow

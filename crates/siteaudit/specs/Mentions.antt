@@ -11,7 +11,7 @@ use Rattle.modules.specs.declared.refusal.Refusal.{Refusal}
 use Rattle.sitelaws.specs.Sites.{SiteModule}
 use Rattle.siteaudit.specs.declared.walk.Evaluation.{Evaluation}
 use Rattle.siteaudit.specs.Audits.{Mention, unknown_in}
-use Rattle.siteaudit.specs.Findings.{evaluated_file}
+use Rattle.siteaudit.specs.SettledRuns.{evaluated_file}
 
 -- the name means one of the evaluated modules
 abbrev pub is_known : List Evaluation → Text → Bool

@@ -11,7 +11,8 @@ use Rattle.sitelaws.specs.Sites.{Site}
 use Rattle.siteaudit.specs.Walks.{IsWalkAnswer}
 use Rattle.siteaudit.specs.declared.walk.SiteWalk.{SiteWalk}
 use Rattle.siteaudit.specs.Audits.{mention_of, IsAudit, CertificateStands}
-use Rattle.siteaudit.specs.Findings.{evaluated_file, AreStandings}
+use Rattle.siteaudit.specs.SettledRuns.{evaluated_file}
+use Rattle.siteaudit.specs.Findings.{AreStandings}
 use Rattle.siteaudit.specs.Folders.{AreBadDefaultFiles, EvaluatedLookAt}
 use Rattle.siteaudit.specs.Missing.{missing_among}
 use Rattle.siteaudit.specs.NoModulefiles.{AreNoModulefiles}

@@ -103,15 +103,6 @@ AreEvaluationsBelow site dir evaluations =
 
 -- ---- directories
 
--- the evaluation is that of a plain module
-abbrev pub is_plain_ran : FileRun → Bool
-is_plain_ran ran = not (any_question (questions_in ran.asked.items)) && list_all is_reversible (map record_view ran.records.items)
-
--- the directories that a module adds whose evaluation leaves this, or is refused so
-abbrev pub directories_after : Result FileRun Refusal → List Text
-directories_after (Ok ran) = if is_plain_ran ran then added_directories (map record_view ran.records.items) else []
-directories_after (Err refusal) = []
-
 -- the directories that the evaluated modules add
 abbrev pub directories_found : List Evaluation → List Text
 directories_found evaluations = flat_map (λ evaluation. directories_after evaluation.outcome) evaluations

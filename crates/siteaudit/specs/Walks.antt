@@ -18,7 +18,7 @@ use Rattle.requests.specs.Reasons.{RequestReason, refused_edit}
 use Rattle.modules.specs.Answers.{cause_of}
 use Rattle.modules.specs.declared.refusal.Refusal.{Refusal}
 use Rattle.sitecertificate.specs.RecordUses.{IsAmong}
-use Rattle.sitelaws.specs.Sites.{Site, Evaluated, EvaluatesTo, first_directories, added_directories, plain_of, site_of}
+use Rattle.sitelaws.specs.Sites.{Site, Evaluated, EvaluatesTo, first_directories, added_directories, settled_of, site_of}
 use Rattle.sitelaws.specs.Sites.{IsDirectory, AreDirectories, AreModulesIn}
 use Rattle.siteaudit.specs.declared.fault.WalkFault.{WalkFault}
 use Rattle.siteaudit.specs.declared.fault.WalkFault.TheVariants.{Refused, TooManyDirectories}
@@ -29,16 +29,16 @@ use Rattle.siteaudit.specs.declared.walk.SiteWalk.{SiteWalk}
 abbrev pub most_directories : ℕ
 most_directories = 65536
 
--- the directories that a module adds, where it is plain
-abbrev pub directories_by_plain : Option Module → List Text
-directories_by_plain None = []
-directories_by_plain (Some m) = added_directories m.records
+-- the directories that a module adds, where it is settled
+abbrev pub directories_by_settled : Option Module → List Text
+directories_by_settled None = []
+directories_by_settled (Some m) = added_directories m.records
 
 -- the directories that an evaluated module adds
 abbrev pub directories_of : Evaluated → List Text
-directories_of outcome = directories_by_plain (plain_of outcome)
+directories_of outcome = directories_by_settled (settled_of outcome)
 
--- These directories are those of the site, each once: those of MODULEPATH, and then those that the plain modules in
+-- These directories are those of the site, each once: those of MODULEPATH, and then those that the settled modules in
 -- them add, as they come; and they are no more than a walk goes through. These are the modules in them in turn, each
 -- with the outcome of its evaluation.
 pub record IsWalk (site : Site) (dirs : List Text) (outcomes : List Evaluated) : Type 0 where

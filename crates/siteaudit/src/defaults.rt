@@ -8,7 +8,7 @@ ghost use Rattle.filetree.specs.Causes.{Applies};
 ghost use Rattle.modules.specs.Answers.{cause_of, is_failure};
 ghost use Rattle.sitecertificate.specs.RecordUses.{IsAmong};
 ghost use Rattle.sitelaws.specs.DirectorySets.{with_directories};
-ghost use Rattle.siteaudit.specs.Findings.{evaluated_file};
+ghost use Rattle.siteaudit.specs.SettledRuns.{evaluated_file};
 ghost use Rattle.siteaudit.specs.Folders.{FolderText, folder_view, HoldsModule, IsBadAnswer, AreBadDefaultFiles};
 ghost use Rattle.siteaudit.specs.Folders.{AddsBadAnswer, AddsNewAnswer, AddsBadDefault, AddsFolder};
 ghost use Rattle.siteaudit.specs.Folders.{SearchLooksAt, ModuleLooksAt, EvaluatedLookAt};

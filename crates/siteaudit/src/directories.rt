@@ -4,9 +4,10 @@ ghost use Rattle.filetree.specs.Modulefiles.{directories};
 ghost use Rattle.modulefile.specs.RecordViews.{record_view};
 ghost use Rattle.sitelaws.specs.Sites.{directories_in, directories_by, added_directories};
 ghost use Rattle.sitelaws.specs.DirectorySets.{with_directories};
-ghost use Rattle.siteaudit.specs.WalkParts.{directories_after, directories_found};
+ghost use Rattle.siteaudit.specs.SettledRuns.{directories_after};
+ghost use Rattle.siteaudit.specs.WalkParts.{directories_found};
 
-use crate::plain::is_plain;
+use crate::settled::is_settled;
 use crate::walk::Evaluation;
 use modulefile::Record;
 use modulerun::FileRun;
@@ -63,12 +64,12 @@ fn push_added(alloc: Global, dirs: &mut Directories, records: &[Record]) -> Resu
     Ok(())
 }
 
-/// Adds the directories that a file adds whose evaluation left this, if its module is plain.
-fn push_plain(alloc: Global, dirs: &mut Directories, ran: &FileRun) -> Result<(), AllocError>
+/// Adds the directories that a file adds whose evaluation left this, if its module is settled.
+fn push_settled(alloc: Global, dirs: &mut Directories, ran: &FileRun) -> Result<(), AllocError>
     ensures { OnOk result (map string_bytes dirs.new.keys
         ≡ with_directories (map string_bytes dirs.old.keys) (directories_after (Ok ran.now))) }
 {
-    if is_plain(ran) {
+    if is_settled(alloc, ran)? {
         push_added(alloc, dirs, ran.records.as_slice())
     } else {
         Ok(())
@@ -85,7 +86,7 @@ fn push_evaluated(
         ≡ with_directories (map string_bytes dirs.old.keys) (directories_after evaluation.now.outcome)) }
 {
     match &evaluation.outcome {
-        Ok(ran) => push_plain(alloc, dirs, ran),
+        Ok(ran) => push_settled(alloc, dirs, ran),
         Err(_) => Ok(()),
     }
 }

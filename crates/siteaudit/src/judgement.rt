@@ -5,13 +5,15 @@ ghost use Rattle.modules.specs.MoveViews.{module_view};
 ghost use Rattle.sitecertificate.specs.UseViews.{used_view};
 ghost use Rattle.siteaudit.specs.Findings as findings;
 ghost use Rattle.siteaudit.specs.Findings.{standing_of, steps_of, AddsJudged, AreJudged, AreStandings, answers_left};
-ghost use Rattle.siteaudit.specs.Findings.{settled};
+ghost use Rattle.siteaudit.specs.Findings.{first_read, later_reads, reads_along};
 
 use crate::auditing::AuditedModule;
+use crate::reads::used_in;
 use crate::standing::{ModuleFinding, Standing, judge};
 use crate::walk::Evaluation;
 use modules::Module;
 use sitecertificate::{Clash, FoundClashes, UsedVariable, clashes};
+use sitereads::UsedRead;
 use std::alloc::{AllocError, Global};
 use std::vec::IntoIter;
 
@@ -20,7 +22,7 @@ use std::vec::IntoIter;
 pub(crate) struct JudgedModule {
     name: String,
     path: String,
-    /// How it stands; `None` where it is plain and in step, so that the other modules decide.
+    /// How it stands; `None` where it is settled and in step, so that the other modules decide.
     standing: Option<Standing>,
 }
 
@@ -29,11 +31,11 @@ pub(crate) struct JudgedModule {
 pub(crate) struct JudgedSite {
     /// All of them, in their order.
     pub(crate) judged: Vec<JudgedModule>,
-    /// The plain ones in step, in the same order.
+    /// The settled ones in step whose reads none of them uses, in the same order.
     pub(crate) in_step: Vec<Module>,
 }
 
-/// Where other modules decide how a module stands, it joins those that are plain and in step; else this is how it
+/// Where other modules decide how a module stands, it joins those that are settled and in step; else this is how it
 /// stands.
 fn sort_out(
     alloc: Global,
@@ -59,20 +61,32 @@ fn sort_out(
     }
 }
 
-/// Judges one module more by itself.
+/// The next of the answers about what modules read.
+fn next_read(used: &mut IntoIter<Option<UsedRead>>) -> Option<UsedRead>
+    ensures read { result ≡ first_read (into_iter_items used.old) }
+    ensures left { into_iter_items used.new ≡ later_reads (into_iter_items used.old) }
+{
+    match used.next() {
+        Some(answer) => answer,
+        None => None,
+    }
+}
+
+/// Judges one module more by itself, of whose reads a settled module uses this.
 fn judge_next(
     alloc: Global,
     evaluation: Evaluation,
+    used: Option<UsedRead>,
     judgement: &mut JudgedSite,
 ) -> Result<(), AllocError>
-    ensures { OnOk result (AddsJudged evaluation judgement.old judgement.new) }
+    ensures { OnOk result (AddsJudged evaluation used judgement.old judgement.new) }
 {
     let Evaluation {
         name,
         path,
         outcome,
     } = evaluation;
-    let finding = judge(alloc, outcome)?;
+    let finding = judge(alloc, outcome, used)?;
     let standing = sort_out(
         alloc,
         name.as_str(),
@@ -88,20 +102,22 @@ fn judge_next(
     Ok(())
 }
 
-/// Judges each module by itself.
+/// Judges each module by itself, of whose reads settled modules use these.
 pub(crate) fn judge_all(
     alloc: Global,
     evaluations: Vec<Evaluation>,
+    used: Vec<Option<UsedRead>>,
 ) -> Result<JudgedSite, AllocError>
-    ensures { IfOk result (λ judgement. AreJudged evaluations.items judgement.judged.items
-        (map module_view judgement.in_step.items)) }
+    ensures { IfOk result (λ judgement. AreJudged evaluations.items (reads_along evaluations.items used.items)
+        judgement.judged.items (map module_view judgement.in_step.items)) }
 {
+    let mut used = used.into_iter();
     let mut judgement = JudgedSite {
         judged: Vec::new(alloc),
         in_step: Vec::new(alloc),
     };
     for evaluation in evaluations {
-        judge_next(alloc, evaluation, &mut judgement)?;
+        judge_next(alloc, evaluation, next_read(&mut used), &mut judgement)?;
     }
     Ok(judgement)
 }
@@ -148,12 +164,12 @@ fn module_with(judged: JudgedModule, answers: &mut IntoIter<Option<Clash>>) -> A
 }
 
 /// The modules with their standings: those for whom others decide have these answers, in their order.
-pub(crate) fn settle(
+pub(crate) fn modules_with(
     alloc: Global,
     judged: Vec<JudgedModule>,
     answers: Vec<Option<Clash>>,
 ) -> Result<Vec<AuditedModule>, AllocError>
-    ensures { IfOk result (λ modules. modules.items ≡ settled judged.items answers.items) }
+    ensures { IfOk result (λ modules. modules.items ≡ findings.modules_with judged.items answers.items) }
 {
     let mut modules = Vec::new(alloc);
     let mut answers = answers.into_iter();
@@ -170,7 +186,8 @@ pub(crate) struct SiteStandings {
     pub(crate) certificate: Vec<UsedVariable>,
 }
 
-/// Judges the modules of a site: each by itself, and those that are plain and in step by their clashes.
+/// Judges the modules of a site: each by itself and by what it reads, and those that are settled and in step by their
+/// clashes.
 pub(crate) fn judge_modules(
     alloc: Global,
     evaluations: Vec<Evaluation>,
@@ -178,13 +195,14 @@ pub(crate) fn judge_modules(
     ensures { IfOk result (λ found.
         AreStandings evaluations.items found.modules.items (map used_view found.certificate.items)) }
 {
-    let JudgedSite { judged, in_step } = judge_all(alloc, evaluations)?;
+    let used = used_in(alloc, evaluations.as_slice())?;
+    let JudgedSite { judged, in_step } = judge_all(alloc, evaluations, used)?;
     let FoundClashes {
         answers,
         unclashed_uses,
     } = clashes(alloc, in_step.as_slice())?;
     Ok(SiteStandings {
-        modules: settle(alloc, judged, answers)?,
+        modules: modules_with(alloc, judged, answers)?,
         certificate: unclashed_uses,
     })
 }

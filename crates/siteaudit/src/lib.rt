@@ -16,8 +16,9 @@ mod judgement;
 mod missing;
 mod names;
 mod no_modulefiles;
-mod plain;
 mod progress;
+mod reads;
+mod settled;
 mod standing;
 mod walk;
 

@@ -10,7 +10,7 @@ ghost use Rattle.modulefile.specs.Records.{prereq_groups};
 ghost use Rattle.sitelaws.specs.DirectorySets.{with_directories};
 ghost use Rattle.siteaudit.specs.Audits as spec;
 ghost use Rattle.siteaudit.specs.Audits.{mention_of, conflict_mention, prereq_mention, unknown_in};
-ghost use Rattle.siteaudit.specs.Findings.{evaluated_file};
+ghost use Rattle.siteaudit.specs.SettledRuns.{evaluated_file};
 ghost use Rattle.siteaudit.specs.Mentions.{is_known, known_in, unknown_among, unknown_groups, unknown_after};
 
 use crate::auditing::UnknownNames;

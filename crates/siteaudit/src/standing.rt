@@ -1,6 +1,5 @@
 //! How each module of a site stands: whether it is certified, and else why it is not.
 ghost use Rattle.std.specs.Prelude.{◌≡◌, true, false, not, [], ◌++◌, find, map, position, string_bytes, IfOk, MatchOption};
-ghost use Rattle.std.specs.List.{list_all};
 ghost use Rattle.std.specs.Option.{option_map};
 ghost use Rattle.envvars.specs.Fields.{colon};
 ghost use Rattle.modulefile.specs.RecordViews.{record_view};
@@ -8,31 +7,37 @@ ghost use Rattle.reversal.specs.VariableUses as variable_uses;
 ghost use Rattle.sitecertificate.specs.RecordUses as uses;
 ghost use Rattle.sitecertificate.specs.RecordUses.{use_alike, are_in_step, modulepath};
 ghost use Rattle.sitecertificate.specs.UseViews.{use_view, used_view};
-ghost use Rattle.siteaudit.specs.Findings.{AreUnlike, IsFinding, IsFindingOf};
+ghost use Rattle.siteaudit.specs.Findings.{AreUnlike, IsUseFinding, IsSettledFinding, IsKeptFinding, IsFindingOf};
+ghost use Rattle.siteaudit.specs.Findings.{IsFinding};
 
 use modulefile::{Delimiter, Record};
-use modulerun::{FileRun, Question, records_unless_asked};
+use modulerun::{FileRun, Question};
 use modules::{Refusal, is_reversible};
+use settled::first_unkept;
 use sitecertificate::{Clash, UsedVariable, VariableUse, first_unlike, used_by};
+use sitereads::UsedRead;
 use std::alloc::{AllocError, Global};
 
 /// How a module of a site stands.
 #[derive(Debug, Drop)]
 pub enum Standing {
-    /// It is plain, in step, and without a clash: its loads and unloads need no judgement.
+    /// It is settled, in step, and without a clash: its loads and unloads need no judgement.
     Certified,
-    /// Its evaluation asked this first, so that its records may differ elsewhere.
+    /// Its evaluation asked this, the first question that doesn't keep its answer, so that its records may differ
+    /// elsewhere.
     Asks(Question),
-    /// It asked nothing, and this is the first of its records that unloading doesn't undo.
+    /// Each question keeps its answer, and this is the first of its records that unloading doesn't undo.
     OneWay(Record),
-    /// It is plain, and uses the variable in these two ways; or the variable is MODULEPATH, and the second way is that
+    /// It is settled, and reads a variable that a settled module uses.
+    ReadsUsed(UsedRead),
+    /// It is settled, and uses the variable in these two ways; or the variable is MODULEPATH, and the second way is that
     /// of a path with colons.
     OutOfStep {
         variable: String,
         one: VariableUse,
         other: VariableUse,
     },
-    /// It is plain and in step, and clashes with a certified module in a variable.
+    /// It is settled and in step, and clashes with a certified module in a variable.
     Clashes(Clash),
     /// Its evaluation is refused.
     Refused(Refusal),
@@ -51,7 +56,7 @@ pub(crate) struct UnlikeUses {
 pub(crate) enum ModuleFinding {
     /// It stands so, whatever the other modules do.
     Stands(Standing),
-    /// It is plain and in step, with these records: the other modules decide.
+    /// It is settled and in step, with these records: the other modules decide.
     InStep(Vec<Record>),
 }
 
@@ -129,10 +134,9 @@ fn unlike_in(alloc: Global, records: &[Record]) -> Result<Option<UnlikeUses>, Al
     unlike_uses(alloc, used.as_slice())
 }
 
-/// What a plain module shows by itself.
-fn judge_plain(alloc: Global, records: Vec<Record>) -> Result<ModuleFinding, AllocError>
-    requires { list_all variable_uses.is_reversible (map record_view records.items) ≡ true }
-    ensures { IfOk result (IsFindingOf [] (map record_view records.items)) }
+/// What a settled module shows by itself, whose reads no settled module uses.
+fn judge_candidate(alloc: Global, records: Vec<Record>) -> Result<ModuleFinding, AllocError>
+    ensures { IfOk result (IsUseFinding (map record_view records.items)) }
 {
     match unlike_in(alloc, records.as_slice())? {
         Some(unlike) => {
@@ -151,38 +155,64 @@ fn judge_plain(alloc: Global, records: Vec<Record>) -> Result<ModuleFinding, All
     }
 }
 
-/// What a module that asked nothing shows by itself.
-fn judge_records(alloc: Global, records: Vec<Record>) -> Result<ModuleFinding, AllocError>
-    ensures { IfOk result (IsFindingOf [] (map record_view records.items)) }
+/// What a settled module shows by itself, of whose reads this one is used by a settled module.
+fn judge_settled(
+    alloc: Global,
+    records: Vec<Record>,
+    used: Option<UsedRead>,
+) -> Result<ModuleFinding, AllocError>
+    ensures { IfOk result (IsSettledFinding (map record_view records.items) used) }
+{
+    match used {
+        Some(used) => Ok(ModuleFinding::Stands(Standing::ReadsUsed(used))),
+        None => judge_candidate(alloc, records),
+    }
+}
+
+/// What a module shows by itself, whose questions keep their answers.
+fn judge_records(
+    alloc: Global,
+    records: Vec<Record>,
+    used: Option<UsedRead>,
+) -> Result<ModuleFinding, AllocError>
+    ensures { IfOk result (IsKeptFinding (map record_view records.items) used) }
 {
     match first_one_way(records.as_slice()) {
         Some(place) => {
             let mut records = records;
             Ok(ModuleFinding::Stands(Standing::OneWay(records.swap_remove(place))))
         }
-        None => judge_plain(alloc, records),
+        None => judge_settled(alloc, records, used),
     }
 }
 
 /// What a module shows by itself, whose evaluation is accepted.
-fn judge_ran(alloc: Global, ran: FileRun) -> Result<ModuleFinding, AllocError>
-    ensures { IfOk result (IsFindingOf ran.asked.items (map record_view ran.records.items)) }
+fn judge_ran(
+    alloc: Global,
+    ran: FileRun,
+    used: Option<UsedRead>,
+) -> Result<ModuleFinding, AllocError>
+    ensures { IfOk result (IsFindingOf ran.asked.items (map record_view ran.records.items) used) }
 {
-    match records_unless_asked(ran) {
-        Ok(records) => judge_records(alloc, records),
-        Err(first) => Ok(ModuleFinding::Stands(Standing::Asks(first))),
+    match first_unkept(alloc, &ran)? {
+        Some(place) => {
+            let mut questions = ran.asked;
+            Ok(ModuleFinding::Stands(Standing::Asks(questions.swap_remove(place))))
+        }
+        None => judge_records(alloc, ran.records, used),
     }
 }
 
-/// What a module shows by itself, by the outcome of its evaluation.
+/// What a module shows by itself, by the outcome of its evaluation, and by what it reads that a settled module uses.
 pub(crate) fn judge(
     alloc: Global,
     outcome: Result<FileRun, Refusal>,
+    used: Option<UsedRead>,
 ) -> Result<ModuleFinding, AllocError>
-    ensures { IfOk result (IsFinding outcome) }
+    ensures { IfOk result (IsFinding outcome used) }
 {
     match outcome {
-        Ok(ran) => judge_ran(alloc, ran),
+        Ok(ran) => judge_ran(alloc, ran, used),
         Err(refusal) => Ok(ModuleFinding::Stands(Standing::Refused(refusal))),
     }
 }

@@ -58,7 +58,7 @@ fn modulepath(env: &Env) -> &str
     }
 }
 
-/// Evaluates each module below a directory, and adds to the directories those that the plain ones add.
+/// Evaluates each module below a directory, and adds to the directories those that the settled ones add.
 ///
 /// Errors: a device that failed; want of memory.
 fn walk_directory<T: Tree, P: WalkProgress>(

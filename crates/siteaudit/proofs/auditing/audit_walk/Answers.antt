@@ -9,7 +9,7 @@ use Rattle.sitecertificate.specs.RecordUses.{IsAmong}
 use Rattle.siteaudit.specs.declared.walk.Evaluation.{Evaluation}
 use Rattle.siteaudit.specs.Audits.{mention_of}
 use Rattle.siteaudit.specs.FilesBelow.{LooksAtAny}
-use Rattle.siteaudit.specs.Findings.{evaluated_file}
+use Rattle.siteaudit.specs.SettledRuns.{evaluated_file}
 use Rattle.siteaudit.specs.Folders.{AreBadDefaultFiles, EvaluatedLookAt}
 use Rattle.siteaudit.specs.Mentions.{is_known, unknown_after}
 use Rattle.siteaudit.specs.NoModulefiles.{AreNoModulefiles}

@@ -6,6 +6,6 @@ returns c =
     audited.parts_are_audits (record {
       one = c.files.ensures.one;
       modules = c.walks.ensures.modules;
-      plain = c.walks.ensures.plain;
+      settled = c.walks.ensures.settled;
       audits = c.sessions_return.ensures.audits;
     })

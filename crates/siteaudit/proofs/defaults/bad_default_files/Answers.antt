@@ -4,7 +4,7 @@ use Rattle.envvars.specs.Texts.{texts_in}
 use Rattle.filetree.specs.Agreement.{InEachPair}
 use Rattle.filetree.proofs.FailedPaths.{fails_then}
 use Rattle.modules.specs.Answers.{is_failure}
-use Rattle.siteaudit.specs.Findings.{evaluated_file}
+use Rattle.siteaudit.specs.SettledRuns.{evaluated_file}
 use Rattle.siteaudit.specs.Folders.{folder_view, ModuleLooksAt, EvaluatedLookAt}
 use Rattle.siteaudit.proofs.AmongLemmas.{among_at}
 use Rattle.siteaudit.proofs.BadDefaults.{none_so_far, bad_more, bad_whole}

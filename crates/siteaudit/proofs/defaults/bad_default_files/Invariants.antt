@@ -2,7 +2,7 @@ use Rattle.std.proofs.Common.{◌≡◌, map, take, string_bytes}
 use Rattle.std.specs.Prelude.{◌↔◌}
 use Rattle.filetree.specs.Agreement.{InEachPair, ReadsOn}
 use Rattle.sitecertificate.specs.RecordUses.{IsAmong}
-use Rattle.siteaudit.specs.Findings.{evaluated_file}
+use Rattle.siteaudit.specs.SettledRuns.{evaluated_file}
 use Rattle.siteaudit.specs.Folders.{FolderText, folder_view, HoldsOneOf}
 use Rattle.siteaudit.proofs.BadDefaults.{AreBadSoFar}
 use Rattle.siteaudit.proofs.defaults.bad_default_files.Given as goal

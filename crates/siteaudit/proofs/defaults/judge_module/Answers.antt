@@ -4,7 +4,7 @@ use Rattle.filetree.specs.Agreement.{InEachPair}
 use Rattle.filetree.proofs.FailedPaths.{fails_last}
 use Rattle.modules.specs.Answers.{is_failure}
 use Rattle.siteaudit.specs.declared.defaults.Folder.{Folder}
-use Rattle.siteaudit.specs.Findings.{evaluated_file}
+use Rattle.siteaudit.specs.SettledRuns.{evaluated_file}
 use Rattle.siteaudit.specs.Folders.{folder_view, SearchLooksAt, ModuleLooksAt}
 use Rattle.siteaudit.proofs.BadDefaults.{IsFolderOf, one_added, one_bad}
 use Rattle.siteaudit.proofs.defaults.judge_module.Goals as goal

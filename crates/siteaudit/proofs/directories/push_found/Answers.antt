@@ -1,6 +1,7 @@
 use Rattle.std.proofs.Common.{List, map, string_bytes, append-nil}
 use Rattle.envvars.specs.Texts.{Text}
-use Rattle.siteaudit.specs.WalkParts.{directories_after, directories_found}
+use Rattle.siteaudit.specs.SettledRuns.{directories_after}
+use Rattle.siteaudit.specs.WalkParts.{directories_found}
 use Rattle.siteaudit.specs.declared.walk.Evaluation.{Evaluation}
 use Rattle.sitelaws.proofs.DirectorySetLemmas.{dirs_turn}
 use Rattle.siteaudit.proofs.AmongSites.{flat_map_parts}

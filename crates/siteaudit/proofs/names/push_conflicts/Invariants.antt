@@ -1,6 +1,6 @@
 use Rattle.std.proofs.Common.{◌≡◌, ◌++◌, map, take, string_bytes}
 use Rattle.siteaudit.specs.Audits.{mention_of, conflict_mention}
-use Rattle.siteaudit.specs.Findings.{evaluated_file}
+use Rattle.siteaudit.specs.SettledRuns.{evaluated_file}
 use Rattle.siteaudit.proofs.names.push_conflicts.Given as goal
 
 abbrev pub invariant-loop-name : goal.invariant-loop-name

@@ -1,7 +1,7 @@
 use Rattle.std.proofs.Common.{◌≡◌, ◌++◌, map, take}
 use Rattle.envvars.specs.Texts.{texts_in}
 use Rattle.siteaudit.specs.Audits.{mention_of, prereq_mention}
-use Rattle.siteaudit.specs.Findings.{evaluated_file}
+use Rattle.siteaudit.specs.SettledRuns.{evaluated_file}
 use Rattle.siteaudit.proofs.names.push_prereqs.Given as goal
 
 abbrev pub invariant-loop-names : goal.invariant-loop-names

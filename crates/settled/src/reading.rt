@@ -1,0 +1,67 @@
+//! The variables that a modulefile reads, and the first of its questions that doesn't keep its answer.
+ghost use Rattle.std.specs.Prelude.{◌≡◌, not, map, position, string_bytes, IfOk};
+ghost use Rattle.std.specs.Option.{option_map};
+ghost use Rattle.envvars.specs.Texts.{slice_texts};
+ghost use Rattle.tclrules.specs.Oracle.{OracleAnswer, OfCommand};
+ghost use Rattle.modulefile.specs.RecordViews.{record_view};
+ghost use Rattle.modulerun.specs.Questions.{question_view, questions_in};
+ghost use Rattle.settled.specs.Resting.{keeps_answer, read_by, variables_read};
+
+use crate::resting::keeps_answer;
+use modulefile::{Call, CallFault, call_of};
+use modulerun::{FileRun, Question};
+use std::alloc::{AllocError, Global};
+
+/// The place of the first question that doesn't keep its answer beside the records of its file; `None` where each keeps
+/// it.
+///
+/// The only error is want of memory.
+pub fn first_unkept(alloc: Global, ran: &FileRun) -> Result<Option<usize>, AllocError>
+    ensures { IfOk result (λ place. place ≡ position (λ q. not (keeps_answer (map record_view ran.now.records.items)
+        (question_view q))) ran.now.asked.items) }
+{
+    for (place, question) in ran.asked.iter().enumerate() {
+        if !keeps_answer(alloc, ran.records.as_slice(), question)? {
+            return Ok(Some(place));
+        }
+    }
+    Ok(None)
+}
+
+/// The variable that a question of these words reads.
+fn read_by_words(alloc: Global, words: &[String]) -> Result<Option<&str>, AllocError>
+    ensures { IfOk result (λ variable. (answer : OracleAnswer) → option_map (λ name. name.now) variable
+        ≡ read_by (OfCommand (map string_bytes words.now) answer)) }
+{
+    match call_of(alloc, words) {
+        Ok(Call::Getenv { var, .. }) => Ok(Some(var)),
+        Err(CallFault::OutOfMemory) => Err(AllocError),
+        _ => Ok(None),
+    }
+}
+
+/// The variable that a question reads.
+fn read_by(alloc: Global, question: &Question) -> Result<Option<&str>, AllocError>
+    ensures { IfOk result (λ variable. option_map (λ name. name.now) variable
+        ≡ read_by (question_view question.now)) }
+{
+    match question {
+        Question::Variable(name, _) => Ok(Some(name.as_str())),
+        Question::Command(words, _) => read_by_words(alloc, words.as_slice()),
+    }
+}
+
+/// The variables that questions read, in their order, one as often as it is read.
+///
+/// The only error is want of memory.
+pub fn variables_read(alloc: Global, questions: &[Question]) -> Result<Vec<&str>, AllocError>
+    ensures { IfOk result (λ names. slice_texts names.items ≡ variables_read (questions_in questions.now)) }
+{
+    let mut names = Vec::new(alloc);
+    for question in questions {
+        if let Some(name) = read_by(alloc, question)? {
+            names.push(name)?;
+        }
+    }
+    Ok(names)
+}

@@ -1,0 +1,112 @@
+//! On what the answers to a modulefile's questions rest.
+ghost use Rattle.std.specs.Prelude.{◌≡◌, map, string_bytes, IfOk};
+ghost use Rattle.std.specs.Option.{option_map};
+ghost use Rattle.envvars.specs.Texts.{has};
+ghost use Rattle.tclrules.specs.Oracle.{OracleAnswer, OfCommand};
+ghost use Rattle.modulefile.specs.Records.{variable_of};
+ghost use Rattle.modulefile.specs.RecordViews.{record_view};
+ghost use Rattle.modulerun.specs.Questions.{question_view};
+ghost use Rattle.settled.specs.Resting.{shell_variables, is_variable, is_resting, keeps_answer};
+
+use envvars::is_protected;
+use modulefile::{Call, CallFault, Record, call_of};
+use modulerun::Question;
+use std::alloc::{AllocError, Global};
+
+/// The variables that shells change by themselves.
+const SHELL_VARIABLES: [&str; 19] = [
+    "PWD",
+    "OLDPWD",
+    "SHLVL",
+    "_",
+    "RANDOM",
+    "SRANDOM",
+    "SECONDS",
+    "EPOCHSECONDS",
+    "EPOCHREALTIME",
+    "LINENO",
+    "LINES",
+    "COLUMNS",
+    "PPID",
+    "BASHPID",
+    "PIPESTATUS",
+    "OPTIND",
+    "OPTARG",
+    "REPLY",
+    "HISTCMD",
+];
+
+/// The same as a slice.
+fn shell_variables() -> &'static [&'static str]
+    ensures { map (λ n. n.now) result.now ≡ shell_variables }
+{
+    &SHELL_VARIABLES
+}
+
+/// Whether the variable is one that shells change by themselves.
+fn is_of_shells(variable: &str) -> bool
+    ensures { result ≡ has variable.now shell_variables }
+{
+    shell_variables().iter().any(|name| variable == *name)
+}
+
+/// The variable that a record names, if it names one.
+fn variable_of(recorded: &Record) -> Option<&str>
+    ensures { option_map (λ name. name.now) result ≡ variable_of (record_view recorded.now) }
+{
+    match recorded {
+        Record::Set { var, .. }
+        | Record::Unset { var, .. }
+        | Record::Push { var, .. }
+        | Record::Path { var, .. } => Some(var.as_str()),
+        Record::Conflict(_) | Record::Prereq(_) | Record::Whatis(_) => None,
+    }
+}
+
+/// Whether a record names the variable.
+fn names(recorded: &Record, variable: &str) -> bool
+    ensures { result ≡ is_variable variable.now (variable_of (record_view recorded.now)) }
+{
+    match variable_of(recorded) {
+        Some(name) => variable == name,
+        None => false,
+    }
+}
+
+/// Whether the variable rests beside these records: it is none of the tool's, none that shells change by themselves, and
+/// none that the records name.
+fn is_resting(records: &[Record], variable: &str) -> bool
+    ensures { result ≡ is_resting (map record_view records.now) variable.now }
+{
+    !is_protected(variable)
+        && !is_of_shells(variable)
+        && !records.iter().any(|recorded| names(recorded, variable))
+}
+
+/// Whether a question of these words keeps its answer.
+fn call_keeps(alloc: Global, records: &[Record], words: &[String]) -> Result<bool, AllocError>
+    ensures { IfOk result (λ kept. (answer : OracleAnswer)
+        → kept ≡ keeps_answer (map record_view records.now) (OfCommand (map string_bytes words.now) answer)) }
+{
+    match call_of(alloc, words) {
+        Ok(Call::Getenv { var, .. }) => Ok(is_resting(records, var)),
+        Err(CallFault::OutOfMemory) => Err(AllocError),
+        _ => Ok(false),
+    }
+}
+
+/// Whether a question keeps its answer beside these records: it asks for a variable that rests.
+///
+/// The only error is want of memory.
+pub fn keeps_answer(
+    alloc: Global,
+    records: &[Record],
+    question: &Question,
+) -> Result<bool, AllocError>
+    ensures { IfOk result (λ kept. kept ≡ keeps_answer (map record_view records.now) (question_view question.now)) }
+{
+    match question {
+        Question::Variable(name, _) => Ok(is_resting(records, name.as_str())),
+        Question::Command(words, _) => call_keeps(alloc, records, words.as_slice()),
+    }
+}

@@ -1,0 +1,151 @@
+-- What of the reads of evaluated modules settled ones use, by the answers for them.
+use Rattle.std.proofs.Common.{◌≡◌, inl, inr, Bool, true, false, cond, not, ◌||◌, List, [], ◌∷◌, ◌++◌, map, find, Option, Some}
+use Rattle.std.proofs.Common.{None, Result, Ok, Err, refl, ap, sym, ◌∙◌, subst}
+use Rattle.std.specs.Prelude.{bytes_eq, flat_map}
+use Rattle.std.specs.List.{list_any, cons_option, AllByRecursion}
+use Rattle.std.proofs.lemmas.Bool.{false≢true}
+use Rattle.envvars.specs.Texts.{Text, has}
+use Rattle.envvars.proofs.TextLemmas.{same_text, bytes_eq-same}
+use Rattle.modulefile.specs.Files.{Ran}
+use Rattle.modulefile.specs.Records.{Record}
+use Rattle.modulefile.specs.RecordViews.{record_view}
+use Rattle.modulefile.specs.Moves.{Module}
+use Rattle.modulerun.specs.declared.run.FileRun as code
+use Rattle.modules.specs.declared.refusal.Refusal.{Refusal}
+use Rattle.requests.specs.Reasons.{RequestReason}
+use Rattle.reversal.specs.VariableUses.{VariableUse, UsedVariable}
+use Rattle.sitecertificate.specs.RecordUses.{used_by, used_by_modules, IsAmong, Uses}
+use Rattle.sitecertificate.proofs.UsedLemmas.{by_test, by_cases, used_among, user_of}
+use Rattle.sitecertificate.proofs.Exact.{any_some, some_any}
+use Rattle.sitereads.specs.Reads.{uses_variable, first_user, first_used}
+use Rattle.sitereads.specs.Answers.{IsAnswer}
+use Rattle.sitereads.specs.declared.readers.UsedRead.{UsedRead}
+use Rattle.sitelaws.specs.Sites.{SiteModule, Evaluated, with_records, settled_of, settled_among}
+use Rattle.siteaudit.specs.declared.walk.Evaluation.{Evaluation}
+use Rattle.siteaudit.specs.declared.standing.ModuleFinding.{ModuleFinding}
+use Rattle.siteaudit.specs.Walks.{IsOutcome, AreEvaluations}
+use Rattle.siteaudit.specs.SettledRuns.{is_settled_ran, settled_records, settled_reads, settled_module, evaluated_file}
+use Rattle.siteaudit.specs.SettledRuns.{AreUsedReads}
+use Rattle.siteaudit.specs.Findings.{Shown, first_read, reads_along}
+use Rattle.siteaudit.proofs.AmongLemmas.{among_map, of_map}
+use Rattle.siteaudit.proofs.Evaluations.{same_file}
+
+-- ---- the first that passes a test
+
+pub found_passes : {X : Type 0} (p : X → Bool) (xs : List X) (x : X) → find p xs ≡ Some x → IsAmong x xs × (p x ≡ true)
+found_passes p [] x e = absurd (cc)
+found_passes p (y ∷ xs) x e = by_test (p y) _
+    (λ t. let s : Some y ≡ Some x = rw t at e in let k : y ≡ x = cc in (inl (sym k), ap p (sym k) ∙ t))
+    (λ f. let i = found_passes p xs x (rw f at e) in (inr i.0, i.1))
+
+none_passes : {X : Type 0} (p : X → Bool) (xs : List X) (x : X) → find p xs ≡ None → IsAmong x xs → p x ≡ false
+none_passes p [] x e a = absurd a
+none_passes p (y ∷ xs) x e (inl same) = by_test (p y) _
+    (λ t. absurd (let s : Some y ≡ None = rw t at e in cc))
+    (λ f. ap p same ∙ f)
+none_passes p (y ∷ xs) x e (inr a) = by_test (p y) _
+    (λ t. absurd (let s : Some y ≡ None = rw t at e in cc))
+    (λ f. none_passes p xs x (rw f at e) a)
+
+-- ---- texts of a list
+
+pub has_text : (v : Text) (names : List Text) → IsAmong v names → has v names ≡ true
+has_text v names a = some_any (bytes_eq v) names v a (bytes_eq-same v)
+
+text_of : (v : Text) (names : List Text) → has v names ≡ true → IsAmong v names
+text_of v names h = let i = any_some (bytes_eq v) names h in subst (λ (n : Text). IsAmong n names) (sym (same_text v i.0 i.2)) i.1
+
+-- ---- variables that records use
+
+pub uses_some : (v : Text) (rs : List Record) → uses_variable v rs ≡ true → (x : VariableUse) × Uses rs v x
+uses_some v rs h =
+    let i = of_map (λ (p : UsedVariable). p.0) v (used_by rs) (text_of v (map (λ (p : UsedVariable). p.0) (used_by rs)) h) in
+    let same : i.0 ≡ (v, i.0.1) = (λ k. (i.2 k, i.0.1)) in
+    (i.0.1, subst (λ (p : UsedVariable). IsAmong p (used_by rs)) same i.1)
+
+some_uses : (v : Text) (x : VariableUse) (rs : List Record) → Uses rs v x → uses_variable v rs ≡ true
+some_uses v x rs u = has_text v (map (λ (p : UsedVariable). p.0) (used_by rs)) (among_map (λ (p : UsedVariable). p.0) (v, x) (used_by rs) u)
+
+-- ---- reads that are used
+
+abbrev reads_used : List UsedVariable → List Text → Bool
+reads_used used reads = list_any (λ p. has p.0 reads) used
+
+pub none_used : (ms : List Module) (reads : List Text) → first_used ms reads ≡ None → reads_used (used_by_modules ms) reads ≡ false
+none_used ms reads e = by_test (reads_used (used_by_modules ms) reads) _
+    (λ t. let i = any_some (λ (p : UsedVariable). has p.0 reads) (used_by_modules ms) t in
+    let u = user_of i.0.0 i.0.1 ms i.1 in
+    let no = none_passes (λ v. list_any (λ (m : Module). uses_variable v m.records) ms) reads i.0.0 e (text_of i.0.0 reads i.2) in
+    absurd (false≢true (sym no ∙ some_any (λ (m : Module). uses_variable i.0.0 m.records) ms u.user u.there (some_uses i.0.0 i.0.1 u.user.records u.uses))))
+    (λ f. f)
+
+pub some_used : (ms : List Module) (reads : List Text) (v : Text) → first_used ms reads ≡ Some v → reads_used (used_by_modules ms) reads ≡ true
+some_used ms reads v e =
+    let i = found_passes (λ v. list_any (λ (m : Module). uses_variable v m.records) ms) reads v e in
+    let u = any_some (λ (m : Module). uses_variable v m.records) ms i.1 in
+    let x = uses_some v u.0.records u.2 in
+    some_any (λ (p : UsedVariable). has p.0 reads) (used_by_modules ms) (v, x.0) (used_among v x.0 u.0 ms u.1 x.1) (has_text v reads i.0)
+
+-- ---- the settled ones of the evaluated modules
+
+module_by : (m : SiteModule) (rs : List Record) (b : Bool) (rest : List Module)
+    → used_by (cond b rs []) ++ used_by_modules rest ≡ used_by_modules (cons_option (cond b (Some (with_records m rs)) None) rest)
+module_by m rs true rest = refl
+module_by m rs false rest = refl
+
+one_used : (m : SiteModule) (outcome : Result code.FileRun Refusal) (out : Result Ran RequestReason) (rest : List Module) → IsOutcome outcome out
+    → used_by (settled_records outcome) ++ used_by_modules rest ≡ used_by_modules (cons_option (settled_of (m, out)) rest)
+one_used m (Ok ran) out rest o =
+    module_by m (map record_view ran.records.items) (is_settled_ran ran) rest
+    ∙ sym (ap (λ (x : Result Ran RequestReason). used_by_modules (cons_option (settled_of (m, x)) rest)) o.1)
+one_used m (Err refusal) out rest o = sym (ap (λ (x : Result Ran RequestReason). used_by_modules (cons_option (settled_of (m, x)) rest)) o.2)
+
+-- they use the same variables
+pub same_used : (es : List Evaluation) (outs : List Evaluated) → AreEvaluations es outs → used_by_modules (map settled_module es) ≡ used_by_modules (settled_among outs)
+same_used [] [] h = refl
+same_used [] (o ∷ outs) h = absurd h
+same_used (e ∷ es) [] h = absurd h
+same_used (e ∷ es) (o ∷ outs) h =
+    ap (λ (l : List UsedVariable). used_by (settled_records e.outcome) ++ l) (same_used es outs h.1)
+    ∙ one_used o.0 e.outcome o.1 (settled_among outs) h.0.outcome
+
+-- one that uses a variable is one of them
+user_by : (n : Module) (m : SiteModule) (rs : List Record) (b : Bool) (v : Text) (x : VariableUse) (rest : List Module) → n ≡ with_records m (cond b rs []) → Uses n.records v x
+    → IsAmong n (cons_option (cond b (Some (with_records m rs)) None) rest)
+user_by n m rs true v x rest same u = inl same
+user_by n m rs false v x rest same u = absurd (subst (λ (k : Module). Uses k.records v x) same u)
+
+one_user : (n : Module) (e : Evaluation) (o : Evaluated) (v : Text) (x : VariableUse) (rest : List Module) (outcome : Result code.FileRun Refusal) → IsOutcome outcome o.1
+    → n ≡ with_records o.0 (settled_records outcome) → Uses n.records v x → IsAmong n (cons_option (settled_of o) rest)
+one_user n e (m, out) v x rest (Ok ran) h same u =
+    subst (λ (k : Result Ran RequestReason). IsAmong n (cons_option (settled_of (m, k)) rest)) (sym h.1)
+    (user_by n m (map record_view ran.records.items) (is_settled_ran ran) v x rest same u)
+one_user n e (m, out) v x rest (Err refusal) h same u = absurd (subst (λ (k : Module). Uses k.records v x) same u)
+
+later_one : (n : Module) (o : Option Module) (rest : List Module) → IsAmong n rest → IsAmong n (cons_option o rest)
+later_one n None rest a = a
+later_one n (Some m) rest a = inr a
+
+pub user_settled : (es : List Evaluation) (outs : List Evaluated) (n : Module) (v : Text) (x : VariableUse) → AreEvaluations es outs → IsAmong n (map settled_module es) → Uses n.records v x
+    → IsAmong n (settled_among outs)
+user_settled [] outs n v x h a u = absurd a
+user_settled (e ∷ es) [] n v x h a u = absurd h
+user_settled (e ∷ es) (o ∷ outs) n v x h (inl same) u =
+    one_user n e o v x (settled_among outs) e.outcome h.0.outcome (same ∙ ap (λ (m : SiteModule). with_records m (settled_records e.outcome)) (sym (same_file e o h.0))) u
+user_settled (e ∷ es) (o ∷ outs) n v x h (inr a) u = later_one n (settled_of o) (settled_among outs) (user_settled es outs n v x h.1 a u)
+
+-- ---- the answer of each
+
+abbrev pub AnswersShown : List Module → Shown → Type 0
+AnswersShown ms s = IsAnswer ms (settled_reads s.0.outcome) s.1
+
+one_tail : (x y : Option UsedRead) (xs ys : List (Option UsedRead)) → x ∷ xs ≡ y ∷ ys → (x ≡ y) × (xs ≡ ys)
+one_tail x y xs ys e = cc
+
+pub answers_shown : (ms : List Module) (shown : List Shown) (used : List (Option UsedRead)) → AreUsedReads ms (map (λ (s : Shown). s.0) shown) used
+    → map (λ (s : Shown). s.1) shown ≡ reads_along (map (λ (s : Shown). s.0) shown) used → AllByRecursion (AnswersShown ms) shown
+answers_shown ms [] used h e = tt
+answers_shown ms (s ∷ shown) [] h e = absurd h
+answers_shown ms (s ∷ shown) (answer ∷ used) h e =
+    let p = one_tail s.1 answer (map (λ (k : Shown). k.1) shown) (reads_along (map (λ (k : Shown). k.0) shown) used) e in
+    (subst (IsAnswer ms (settled_reads s.0.outcome)) (sym p.0) h.0, answers_shown ms shown used h.1 p.1)
