@@ -1,3 +1,4 @@
+mod Seen
 mod Noted
 pub mod Rests
 pub mod ReadVariables

@@ -1,5 +1,6 @@
 //! The variables that a modulefile reads, and the first of its questions that doesn't keep its answer.
-ghost use Rattle.std.specs.Prelude.{◌≡◌, not, map, position, string_bytes, IfOk};
+ghost use Rattle.std.specs.Prelude.{◌≡◌, ◌++◌, [], not, map, position, string_bytes, IfOk, OnOk};
+ghost use Rattle.std.specs.List.{cons_option};
 ghost use Rattle.std.specs.Option.{option_map};
 ghost use Rattle.envvars.specs.Texts.{slice_texts};
 ghost use Rattle.tclrules.specs.Oracle.{OracleAnswer, OfCommand};
@@ -31,7 +32,7 @@ pub fn first_unkept(alloc: Global, ran: &FileRun) -> Result<Option<usize>, Alloc
 /// The variable that a question of these words reads.
 fn read_by_words(alloc: Global, words: &[String]) -> Result<Option<&str>, AllocError>
     ensures { IfOk result (λ variable. (answer : OracleAnswer) → option_map (λ name. name.now) variable
-        ≡ read_by (OfCommand (map string_bytes words.now) answer)) }
+        ≡ read_by (OfCommand (map string_bytes words.entry.now) answer)) }
 {
     match call_of(alloc, words) {
         Ok(Call::Getenv { var, .. }) => Ok(Some(var)),
@@ -43,7 +44,7 @@ fn read_by_words(alloc: Global, words: &[String]) -> Result<Option<&str>, AllocE
 /// The variable that a question reads.
 fn read_by(alloc: Global, question: &Question) -> Result<Option<&str>, AllocError>
     ensures { IfOk result (λ variable. option_map (λ name. name.now) variable
-        ≡ read_by (question_view question.now)) }
+        ≡ read_by (question_view question.entry.now)) }
 {
     match question {
         Question::Variable(name, _) => Ok(Some(name.as_str())),
@@ -51,17 +52,30 @@ fn read_by(alloc: Global, question: &Question) -> Result<Option<&str>, AllocErro
     }
 }
 
+/// Adds the variable that a question reads, if it reads one.
+fn push_read<'a>(
+    alloc: Global,
+    names: &mut Vec<&'a str>,
+    question: &'a Question,
+) -> Result<(), AllocError>
+    ensures { OnOk result (slice_texts names.new.items
+        ≡ slice_texts names.old.items ++ cons_option (read_by (question_view question.entry.now)) []) }
+{
+    if let Some(name) = read_by(alloc, question)? {
+        names.push(name)?;
+    }
+    Ok(())
+}
+
 /// The variables that questions read, in their order, one as often as it is read.
 ///
 /// The only error is want of memory.
 pub fn variables_read(alloc: Global, questions: &[Question]) -> Result<Vec<&str>, AllocError>
-    ensures { IfOk result (λ names. slice_texts names.items ≡ variables_read (questions_in questions.now)) }
+    ensures { IfOk result (λ names. slice_texts names.items ≡ variables_read (questions_in questions.entry.now)) }
 {
     let mut names = Vec::new(alloc);
     for question in questions {
-        if let Some(name) = read_by(alloc, question)? {
-            names.push(name)?;
-        }
+        push_read(alloc, &mut names, question)?;
     }
     Ok(names)
 }

@@ -1,5 +1,6 @@
 //! On what the answers to a modulefile's questions rest.
 ghost use Rattle.std.specs.Prelude.{◌≡◌, map, string_bytes, IfOk};
+ghost use Rattle.std.specs.List.{list_any};
 ghost use Rattle.std.specs.Option.{option_map};
 ghost use Rattle.envvars.specs.Texts.{has};
 ghost use Rattle.tclrules.specs.Oracle.{OracleAnswer, OfCommand};
@@ -13,41 +14,32 @@ use modulefile::{Call, CallFault, Record, call_of};
 use modulerun::Question;
 use std::alloc::{AllocError, Global};
 
-/// The variables that shells change by themselves.
-const SHELL_VARIABLES: [&str; 19] = [
-    "PWD",
-    "OLDPWD",
-    "SHLVL",
-    "_",
-    "RANDOM",
-    "SRANDOM",
-    "SECONDS",
-    "EPOCHSECONDS",
-    "EPOCHREALTIME",
-    "LINENO",
-    "LINES",
-    "COLUMNS",
-    "PPID",
-    "BASHPID",
-    "PIPESTATUS",
-    "OPTIND",
-    "OPTARG",
-    "REPLY",
-    "HISTCMD",
-];
-
-/// The same as a slice.
-fn shell_variables() -> &'static [&'static str]
-    ensures { map (λ n. n.now) result.now ≡ shell_variables }
-{
-    &SHELL_VARIABLES
-}
-
 /// Whether the variable is one that shells change by themselves.
+#[tactic(auto, unfolding(crate::specs::Resting::shell_variables))]
 fn is_of_shells(variable: &str) -> bool
     ensures { result ≡ has variable.now shell_variables }
 {
-    shell_variables().iter().any(|name| variable == *name)
+    matches!(
+        variable,
+        "PWD" | "OLDPWD"
+            | "SHLVL"
+            | "_"
+            | "RANDOM"
+            | "SRANDOM"
+            | "SECONDS"
+            | "EPOCHSECONDS"
+            | "EPOCHREALTIME"
+            | "LINENO"
+            | "LINES"
+            | "COLUMNS"
+            | "PPID"
+            | "BASHPID"
+            | "PIPESTATUS"
+            | "OPTIND"
+            | "OPTARG"
+            | "REPLY"
+            | "HISTCMD"
+    )
 }
 
 /// The variable that a record names, if it names one.
@@ -73,14 +65,19 @@ fn names(recorded: &Record, variable: &str) -> bool
     }
 }
 
+/// Whether one of the records names the variable.
+fn is_named(records: &[Record], variable: &str) -> bool
+    ensures { result ≡ list_any (λ r. is_variable variable.now (variable_of (record_view r))) records.now }
+{
+    records.iter().any(|recorded| names(recorded, variable))
+}
+
 /// Whether the variable rests beside these records: it is none of the tool's, none that shells change by themselves, and
 /// none that the records name.
 fn is_resting(records: &[Record], variable: &str) -> bool
     ensures { result ≡ is_resting (map record_view records.now) variable.now }
 {
-    !is_protected(variable)
-        && !is_of_shells(variable)
-        && !records.iter().any(|recorded| names(recorded, variable))
+    !is_protected(variable) && !is_of_shells(variable) && !is_named(records, variable)
 }
 
 /// Whether a question of these words keeps its answer.

@@ -1,5 +1,5 @@
 //! Which of the variables that modules read others of them use.
-ghost use Rattle.std.specs.Prelude.{◌≡◌, find, map, IfOk};
+ghost use Rattle.std.specs.Prelude.{◌≡◌, List, find, map, string_bytes, IfOk};
 ghost use Rattle.std.specs.Option.{option_map};
 ghost use Rattle.envvars.specs.Texts.{Text, slice_texts};
 ghost use Rattle.sitereads.specs.Reads.{uses_variable};
@@ -9,6 +9,19 @@ ghost use Rattle.sitereads.specs.Users.{user_in};
 use crate::readers::{Reader, UsedRead};
 use crate::users::Users;
 use std::alloc::{AllocError, Global};
+
+/// A variable that is read, and the module that uses it.
+fn used_read(alloc: Global, variable: &str, user: &Reader<'_>) -> Result<UsedRead, AllocError>
+    ensures variable { IfOk result (λ used. string_bytes used.variable ≡ variable.now) }
+    ensures name { IfOk result (λ used. string_bytes used.user_name ≡ user.now.name.now) }
+    ensures path { IfOk result (λ used. string_bytes used.user_path ≡ user.now.path.now) }
+{
+    Ok(UsedRead {
+        variable: String::from_str(alloc, variable)?,
+        user_name: String::from_str(alloc, user.name)?,
+        user_path: String::from_str(alloc, user.path)?,
+    })
+}
 
 /// The first of these variables that is used, with the module that uses it.
 fn first_used(
@@ -22,11 +35,7 @@ fn first_used(
 {
     for variable in reads {
         if let Some(user) = users.get(variable) {
-            return Ok(Some(UsedRead {
-                variable: String::from_str(alloc, variable)?,
-                user_name: String::from_str(alloc, user.name)?,
-                user_path: String::from_str(alloc, user.path)?,
-            }));
+            return Ok(Some(used_read(alloc, variable, user)?));
         }
     }
     Ok(None)

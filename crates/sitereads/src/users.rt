@@ -1,5 +1,5 @@
 //! The first users of variables, by the variables' names.
-ghost use Rattle.std.specs.Prelude.{◌≡◌, find, None, IfOk, OnOk};
+ghost use Rattle.std.specs.Prelude.{◌≡◌, ◌∷◌, [], find, bytes_eq, if◌then◌else◌, Some, None, IfOk, OnOk};
 ghost use Rattle.std.specs.Option.{option_map, option_or};
 ghost use Rattle.envvars.specs.Texts.{Text};
 ghost use Rattle.modulefile.specs.RecordViews.{record_view};
@@ -67,14 +67,27 @@ impl<'a> Users<'a> {
         Ok(())
     }
 
+    /// Enters a module for the variable that this record of it uses, if it uses one.
+    fn enter_record(
+        &mut self,
+        recorded: &'a Record,
+        reader: &'a Reader<'a>,
+    ) -> Result<(), AllocError>
+        ensures { OnOk result ((v : Text) → user_in self.new v ≡ option_or (user_in self.old v)
+            (if uses_variable v (record_view recorded.now ∷ []) then Some reader.now else None)) }
+    {
+        match variable_used(recorded) {
+            Some(variable) => self.enter(variable, reader),
+            None => Ok(()),
+        }
+    }
+
     /// Enters a module for each variable that its records use.
     fn enter_reader(&mut self, reader: &'a Reader<'a>) -> Result<(), AllocError>
         ensures { OnOk result ((v : Text) → user_in self.new v ≡ option_or (user_in self.old v) (user_by v reader.now)) }
     {
         for recorded in reader.records {
-            if let Some(variable) = variable_used(recorded) {
-                self.enter(variable, reader)?;
-            }
+            self.enter_record(recorded, reader)?;
         }
         Ok(())
     }
