@@ -1,4 +1,4 @@
--- What a walk over a site has when it ends: all directories, all modules below each, and all plain modules.
+-- What a walk over a site has when it ends: all directories, and all modules below each.
 use Rattle.std.proofs.Common.{◌≡◌, ◌⊎◌, inl, inr, Bool, true, false, ◌||◌, List, [], ◌∷◌, ◌++◌, map, refl, ap, sym, ◌∙◌}
 use Rattle.std.proofs.Common.{subst}
 use Rattle.std.specs.Prelude.{bytes_eq}
