@@ -73,7 +73,7 @@ same_said one site ms m s t h k =
 -- free reads, or not
 
 not_free : (site : Site) (m : SiteModule) (v : Text) (n : Module) → HasFreeReads site m → Reads site m v → IsUserOf site v n → ⊥
-not_free site m v n free r u = free v n u.use r u.settled u.uses
+not_free site m v n free r u = free v n u.used r u.settled u.uses
 
 -- in step and out of step
 

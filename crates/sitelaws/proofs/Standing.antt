@@ -112,13 +112,15 @@ settled_stands one site settled ms m ran found all of_site h kept reversible =
     } in
     by_test (list_any (λ (q : UsedVariable). has q.0 (variables_read ran.asked)) (used_by_modules settled)) _
     (λ t. let q = any_some (λ (q : UsedVariable). has q.0 (variables_read ran.asked)) (used_by_modules settled) t in
-    let u = user_of q.0.0 q.0.1 settled q.1 in
-    (ReadsUsed q.0.0 u.user, (
-      ran.records,
-      p,
-      record { ran = ran; evaluated = h; read = q.2 },
-      record { settled = (found u.user).0 u.there; use = q.0.1; uses = u.uses },
-    )))
+    let u = user_of q.0.0 q.0.1 settled q.1 in (
+      ReadsUsed q.0.0 u.user,
+      (
+        ran.records,
+        p,
+        record { ran = ran; evaluated = h; read = q.2 },
+        record { settled = (found u.user).0 u.there; used = q.0.1; uses = u.uses },
+      ),
+    ))
     (λ f. candidate_stands site ms m ran.records all of_site p
     (λ v n x r s u. false≢true (sym (fails_each (λ (q : UsedVariable). has q.0 (variables_read ran.asked)) (used_by_modules settled) (v, x) f
     (used_among v x n settled ((found n).1 s) u)) ∙ read_by_ran one site m ran v h r)) reversible)
