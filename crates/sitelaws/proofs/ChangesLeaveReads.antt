@@ -1,8 +1,8 @@
 -- A change by hand of another variable keeps the values of what a settled module reads.
-use Rattle.std.proofs.Common.{◌≡◌, ◌⊎◌, inl, inr, Bool, true, false, cond, List, refl, sym, ap, ◌∙◌, subst, Option, Some}
+use Rattle.std.proofs.Common.{◌≡◌, inl, inr, Bool, true, false, cond, List, sym, ap, ◌∙◌, subst, Some}
 use Rattle.std.specs.Prelude.{bytes_eq}
 use Rattle.envvars.specs.Texts.{Text}
-use Rattle.envvars.specs.Environment.{Environment, lookup, with_value}
+use Rattle.envvars.specs.Environment.{Environment, lookup}
 use Rattle.envvars.proofs.EnvLemmas.{lookup-with_value}
 use Rattle.envvars.proofs.TextLemmas.{same_text}
 use Rattle.envstate.specs.Roles.{VariableRole, role_of, is_editable, IsNameOf}
@@ -13,7 +13,6 @@ use Rattle.envstate.proofs.RoleLemmas.{name_of_role}
 use Rattle.envstate.proofs.FrameLemmas.{keeps_other, rest_stays, path_edits_variable}
 use Rattle.modulefile.specs.Laws as files
 use Rattle.modulefile.specs.Moves.{Module}
-use Rattle.reversal.specs.VariableUses.{VariableUse}
 use Rattle.handchanges.specs.HandChanges.{HandChange, use_of_role, MayChange, start_by_use}
 use Rattle.handchanges.proofs.OneChange.{start_edits}
 use Rattle.settled.proofs.Rests.{IsOfUser}

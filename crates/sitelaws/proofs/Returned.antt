@@ -240,8 +240,8 @@ site_sessions_return one leads exact conflicts begins preserve law site ms all s
 loads_certified : CertifiedAreExact → (site : Site) (ms certain : List Module) (start : Environment) (todo : List Move) → ((m : Module) → IsAmong m certain → IsCertified ms m)
     → LoadsAreOf site certain start todo → LoadsAreOf site (certified ms) start todo
 loads_certified exact site ms certain start [] each h = tt
-loads_certified exact site ms certain start (Loads m ∷ todo) each ((c, among, rest), h) =
-    ((c, (exact ms c).1 (each c among), rest), loads_certified exact site ms certain start todo each h)
+loads_certified exact site ms certain start (Loads m ∷ todo) each ((c, among, name, path, agrees, reads), h) =
+    ((c, (exact ms c).1 (each c among), name, path, agrees, reads), loads_certified exact site ms certain start todo each h)
 loads_certified exact site ms certain start (Unloads m ∷ todo) each h = loads_certified exact site ms certain start todo each h
 
 pub audits_hold : CertifiedAreExact → SiteSessionsReturn → AuditsHold

@@ -1,6 +1,6 @@
 -- The settled modules of a site, and the candidates among them, by the outcomes of its evaluations.
-use Rattle.std.proofs.Common.{◌≡◌, inl, inr, Bool, true, false, cond, not, List, [], ◌∷◌, map, filter, Option, Some, None}
-use Rattle.std.proofs.Common.{Result, Ok, Err, refl, ap, sym, ◌∙◌, subst}
+use Rattle.std.proofs.Common.{◌≡◌, inl, inr, Bool, true, false, cond, List, [], ◌∷◌, map, filter, Some, None, Result, Ok}
+use Rattle.std.proofs.Common.{Err, refl, ap, sym, ◌∙◌, subst}
 use Rattle.std.specs.Prelude.{filter_map}
 use Rattle.std.specs.List.{list_any}
 use Rattle.std.proofs.lemmas.Bool.{false≢true, not_from_true, not_from_false}
