@@ -11,7 +11,7 @@ use Rattle.filetree.specs.Relations.{Is, Then, If}
 use Rattle.modulefile.specs.Records.{Record}
 use Rattle.modulefile.specs.Effects as modes
 use Rattle.modulefile.specs.Effects.{Mode}
-use Rattle.modulefile.specs.Moves.{Module, Move, Loads, Unloads, moved}
+use Rattle.modulefile.specs.Moves.{Move, Loads, Unloads, moved}
 use Rattle.modulefile.specs.Moves as moves
 use Rattle.modulefile.specs.Files.{Ran}
 use Rattle.search.specs.Reasons.{bad_name}
@@ -32,33 +32,26 @@ use Rattle.sitelaws.specs.Laws.{StepsAreAdmitted, SessionsAreAdmitted}
 use Rattle.requests.proofs.Bound.{bound, ok_of_refused_as, allowed, went_on}
 use Rattle.sitelaws.proofs.Parts.{ran_ok, script_held, found_script}
 
--- the records are those that the file made
-abbrev pub IsFrom : RequestContext → Module → Type 0
-IsFrom s m = (ran : Ran) × HasEvaluatedTo s m.name m.path ran × (m.records ≡ ran.records)
-
 -- the mode in which a move's file is evaluated
 abbrev pub mode_of : Move → Mode
 mode_of (Loads m) = modes.load
 mode_of (Unloads m) = modes.unload
 
--- so they are, by an evaluation in this environment
-abbrev pub IsFromAt : RequestContext → Move → Environment → Type 0
-IsFromAt s m old =
+-- the records of a move are those that the file of its module made, by an evaluation in this environment
+abbrev pub IsFrom : RequestContext → Move → Environment → Type 0
+IsFrom s m old =
     (ran : Ran) × (left : HasEvaluatedTo s (moves.module_of_move m).name (moves.module_of_move m).path ran)
     × ((moves.module_of_move m).records ≡ ran.records) × (left.context.before ≡ old) × (left.context.mode ≡ mode_of m)
-
-pub as_from : (s : RequestContext) (m : Move) (old : Environment) → IsFromAt s m old → IsFrom s (moves.module_of_move m)
-as_from s m old (ran, left, is, before, mode) = (ran, left, is)
 
 -- the moves, with what is known of each
 abbrev pub TracedReach : RequestContext → List Move → Environment → Environment → Type 0
 TracedReach s [] old new = new ≡ old
 TracedReach s (m ∷ ms) old new =
-    (IsAdmitted m old × IsFromAt s m old) × ((mid : Environment) × (moved m old ≡ Ok mid) × TracedReach s ms mid new)
+    (IsAdmitted m old × IsFrom s m old) × ((mid : Environment) × (moved m old ≡ Ok mid) × TracedReach s ms mid new)
 
 more : (s : RequestContext) (ms : List Move) (m : Move) (e d t : Environment) → TracedReach s ms e d → IsAdmitted m d
-    → IsFromAt s m d → moved m d ≡ Ok t → TracedReach s (ms ++ m ∷ []) e t
-more s [] m e d t h a f k = ((subst (λ x. IsAdmitted m x) h a, subst (λ x. IsFromAt s m x) h f), (t, subst (λ x. moved m x ≡ Ok t) h k, refl))
+    → IsFrom s m d → moved m d ≡ Ok t → TracedReach s (ms ++ m ∷ []) e t
+more s [] m e d t h a f k = ((subst (λ x. IsAdmitted m x) h a, subst (λ x. IsFrom s m x) h f), (t, subst (λ x. moved m x ≡ Ok t) h k, refl))
 more s (x ∷ ms) m e d t h a f k = (h.0, (h.1.0, h.1.1, more s ms m h.1.0 d t h.1.2 a f k))
 
 pub both : (s : RequestContext) (ms ns : List Move) (e d t : Environment) → TracedReach s ms e d → TracedReach s ns d t → TracedReach s (ms ++ ns) e t
@@ -74,7 +67,7 @@ abbrev Traces : RequestContext → Environment → (Result Done RequestReason �
 Traces s e Comes = (d : Done) → Comes (Ok d) → IsTraced s e d
 
 trace_went : (s : RequestContext) (e : Environment) (d : Done) (m : Move) (messages : List Text) → IsAdmitted m d.env
-    → IsFromAt s m d.env → IsTraced s e d → Traces s e (Is (continued d m messages))
+    → IsFrom s m d.env → IsTraced s e d → Traces s e (Is (continued d m messages))
 trace_went s e d m messages admitted from by_moves t h =
     let b = bound (refused_as refused_edit (moved m d.env)) (λ x. Ok (with_move d m messages x)) t (sym h) in
     let same : with_move d m messages b.0 ≡ t = cc in

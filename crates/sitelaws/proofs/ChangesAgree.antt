@@ -25,7 +25,7 @@ use Rattle.sitecertificate.specs.RecordUses.{Uses, uses_by}
 use Rattle.sitecertificate.specs.Certificates.{AgreesWithUse}
 use Rattle.sitecertificate.proofs.UsedLemmas.{by_test}
 use Rattle.sitelaws.specs.Laws.{ChangesAgree}
-use Rattle.sitelaws.proofs.Editable.{plain_editable}
+use Rattle.sitelaws.proofs.Editable.{settled_editable}
 
 -- a variable that is left
 kept_agrees : (b d : Environment) (v : Text) (x : VariableUse) → IsVariableUnchanged b d v → loaded_in d ≡ loaded_in b → AgreesWithUse b v x → AgreesWithUse d v x
@@ -58,7 +58,7 @@ path_agrees b d e live c delim (Pathed g) s k o same m = subst (IsPathInOrder d 
 path_agrees b d e live c delim Stacked s k o same m = λ xs l. inl (s ∙ sym k ∙ m)
 
 pub changes_agree : OneChangeHolds → RecordsAreAllowed → ChangesAgree
-changes_agree holds allowed site ms live start e m c plain agrees layered may each one_delim =
+changes_agree holds allowed site ms live start e m c settled agrees layered may each one_delim =
     record {
       loaded = after.begins.order.loaded;
       uses = by_role (role_of c.variable) refl (name_of_role c.variable) may after.begins after.loaded;
@@ -71,7 +71,7 @@ changes_agree holds allowed site ms live start e m c plain agrees layered may ea
     after = holds (uses_by live) start e live c layered.begins layered.order over may
 
     editable : (v : Text) (x : VariableUse) → Uses m.records v x → is_editable v ≡ true
-    editable v x u = plain_editable allowed site m plain v x u
+    editable v x u = settled_editable allowed site m settled v x u
 
     here : (y x : VariableUse) → is_editable c.variable ≡ true → uses_by live c.variable ≡ y → MayChange (Some y) live e c → IsStart (uses_by live) (start_by_use (Some y) live start e c)
         → Uses m.records c.variable x → AgreesWithUse (start_by_use (Some y) live start e c) c.variable x

@@ -1,4 +1,4 @@
--- Plain modules use variables alone that modulefiles may edit.
+-- Settled modules use variables alone that modulefiles may edit.
 use Rattle.std.proofs.Common.{◌≡◌, true, List, [], ◌∷◌, refl, sym, subst, Option, Some, None}
 use Rattle.std.specs.Prelude.{is_none}
 use Rattle.std.specs.List.{list_all}
@@ -14,8 +14,8 @@ use Rattle.reversal.specs.VariableUses.{VariableUse, UsedVariable, use_by}
 use Rattle.reversal.proofs.RecordKinds.{used_name}
 use Rattle.sitecertificate.specs.RecordUses.{used_by, Uses}
 use Rattle.sitecertificate.proofs.UsedLemmas.{by_cases, cons_either}
-use Rattle.sitelaws.specs.Sites.{Site, file_of, HasPlainRecords}
-use Rattle.sitelaws.proofs.Records.{evaluated}
+use Rattle.sitelaws.specs.Sites.{Site, file_of, HasSettledRecords}
+use Rattle.sitelaws.proofs.Evaluations.{evaluated}
 
 none_of : (o : Option RecordReason) → is_none o ≡ true → o ≡ None
 none_of None h = refl
@@ -30,8 +30,8 @@ used_editable (r ∷ rs) v x a u =
     let p = and_parts (is_allowed r) (list_all is_allowed rs) a in
     by_cases (cons_either (v, x) (use_by r) (used_by rs) u) (λ k. use_editable r (v, x) p.0 k) (λ k. used_editable rs v x p.1 k)
 
-pub plain_editable : RecordsAreAllowed → (site : Site) (m : Module) → HasPlainRecords site (file_of m) m.records → (v : Text) (x : VariableUse) → Uses m.records v x → is_editable v ≡ true
-plain_editable allowed site m p v x u =
+pub settled_editable : RecordsAreAllowed → (site : Site) (m : Module) → HasSettledRecords site (file_of m) m.records → (v : Text) (x : VariableUse) → Uses m.records v x → is_editable v ≡ true
+settled_editable allowed site m p v x u =
     let h = evaluated site (file_of m) p.ran p.evaluated in
     used_editable m.records v x
     (subst (λ (rs : List Record). list_all is_allowed rs ≡ true) (sym p.records) (allowed site.limits h.context h.text p.ran h.runs)) u

@@ -1,15 +1,15 @@
 mod Parts
+mod Evaluations
 mod Admissions
-mod Records
+mod SettledRecords
 mod Standing
 mod OneStanding
 mod Forbidden
 mod Unloaded
 mod Returned
-mod SettledRecords
-mod SettledReturned
 mod Editable
 mod ChangesAgree
+mod ChangesLeaveReads
 mod Walked
-mod PlainOnes
+mod SettledOnes
 pub mod DirectorySetLemmas

@@ -1,75 +1,67 @@
 -- A module of a site stands in one way alone.
-use Rattle.std.proofs.Common.{◌≡◌, ℕ, ◌==◌, inl, inr, false, List, [], ◌∷◌, Option, Some, None, Result, Ok, Err}
-use Rattle.std.proofs.Common.{refl, ap, sym, ◌∙◌, subst}
-use Rattle.std.proofs.lemmas.Bool.{false≢true, eq-eqb}
+use Rattle.std.proofs.Common.{◌≡◌, ℕ, ◌==◌, inl, inr, Bool, true, false, cond, not, ◌&&◌, List, [], ◌∷◌, find, Some, Result, Ok}
+use Rattle.std.proofs.Common.{Err, refl, ap, sym, ◌∙◌, subst}
+use Rattle.std.specs.List.{list_all}
+use Rattle.std.proofs.lemmas.Bool.{false≢true, and_parts, eq-eqb}
 use Rattle.envvars.specs.Texts.{Text}
 use Rattle.envvars.specs.Fields.{colon}
-use Rattle.filetree.specs.Modulefiles.{modulefile}
-use Rattle.filetree.specs.Relations.{IsOne}
-use Rattle.filetree.proofs.OneOutcome.{one_is, one_then}
-use Rattle.tclrules.specs.Oracle.{Question}
-use Rattle.modulefile.specs.Effects as modes
 use Rattle.modulefile.specs.Records.{Record}
 use Rattle.modulefile.specs.Moves.{Module}
-use Rattle.modulefile.specs.Files.{Ran, RunsFile}
+use Rattle.modulefile.specs.Files.{Ran}
 use Rattle.modulefile.specs.Laws as files
-use Rattle.reversal.specs.VariableUses.{VariableUse, Pathed}
-use Rattle.requests.specs.Refusals.{refused_as, RefusedAs}
-use Rattle.requests.specs.Reasons.{RequestReason, file_refused}
-use Rattle.requests.specs.Steps.{entries_of, script_at, context_of}
-use Rattle.requests.specs.Verdicts.{Verdict, plain, asked, one_way, verdict_of}
+use Rattle.reversal.specs.VariableUses.{VariableUse, Pathed, is_reversible}
+use Rattle.requests.specs.Reasons.{RequestReason}
+use Rattle.settled.specs.Resting.{keeps_answer}
 use Rattle.sitecertificate.specs.RecordUses.{used_by, IsAmong, modulepath, same_use, AreInStep}
 use Rattle.sitecertificate.proofs.Exact.{use_itself}
 use Rattle.sitecertificate.proofs.CertifiedOnes.{certified_apart}
-use Rattle.sitelaws.specs.Sites.{Site, SiteModule, over_site, EvaluatesTo, HasPlainRecords, with_records}
-use Rattle.sitelaws.specs.Standings.{Standing, Certified, Asks, OneWay, OutOfStep, Clashes, Refused, IsUsedTwice}
-use Rattle.sitelaws.specs.Standings.{ClashesWith, HasStanding, standing_word}
+use Rattle.sitelaws.specs.Sites.{Site, SiteModule, EvaluatesTo, HasSettledRecords, Reads, HasFreeReads, with_records}
+use Rattle.sitelaws.specs.Standings.{Standing, Certified, Asks, OneWay, ReadsUsed, OutOfStep, Clashes, Refused}
+use Rattle.sitelaws.specs.Standings.{IsUsedTwice, ClashesWith, IsUserOf, HasStanding, standing_word}
 use Rattle.sitelaws.specs.Laws.{OneStanding}
+use Rattle.sitelaws.proofs.Evaluations.{one_outcome, one_list}
 
--- an evaluation has one outcome
+-- what a standing says of the outcome: refused 0, settled 1, each question keeps its answer but a record is one-way 2,
+-- and else 3
 
-one_refused_as : {A R S : Type 0} {f : R → S} {First : Result A R → Type 0} → IsOne First → IsOne (RefusedAs f First)
-one_refused_as {f = f} u o p h k = h.2 ∙ (ap (refused_as f) (u h.0 k.0 h.1 k.1) ∙ sym k.2)
+abbrev seen : Result Ran RequestReason → ℕ
+seen (Ok ran) = cond (list_all (keeps_answer ran.records) ran.asked) (cond (list_all is_reversible ran.records) 1 2) 3
+seen (Err reason) = 0
 
-pub one_outcome : files.OneOutcome → (site : Site) (m : SiteModule) → IsOne (EvaluatesTo site m)
-one_outcome one site m =
-    one_then (one_is (entries_of site.env)) (λ xs. one_then (one_is (script_at m.path (modulefile (site.files m.path)))) (λ text.
-    one_refused_as {f = file_refused} {First = RunsFile site.limits (context_of (over_site site) modes.load false m.name m.name m.path xs site.env) text}
-    (one site.limits (context_of (over_site site) modes.load false m.name m.name m.path xs site.env) text)))
+abbrev said : Standing → ℕ
+said Certified = 1
+said (Asks q) = 3
+said (OneWay r) = 2
+said (ReadsUsed v n) = 1
+said (OutOfStep v x y) = 1
+said (Clashes v x y n) = 1
+said (Refused reason) = 0
 
--- what a standing says of the outcome: a reason, or a verdict
+found_at : {X : Type 0} (p : X → Bool) (y x : X) (xs : List X) (b : Bool) → cond (not b) (Some y) (find (λ z. not (p z)) xs) ≡ Some x
+    → (find (λ z. not (p z)) xs ≡ Some x → list_all p xs ≡ false) → (b && list_all p xs) ≡ false
+found_at p y x xs true h more = more h
+found_at p y x xs false h more = refl
 
-abbrev Seen : Type 0
-Seen = Option Verdict
-
-abbrev seen : Result Ran RequestReason → Seen
-seen (Ok ran) = Some (verdict_of ran)
-seen (Err reason) = None
-
-abbrev said : Standing → Seen
-said Certified = Some plain
-said (Asks q) = Some asked
-said (OneWay r) = Some one_way
-said (OutOfStep v x y) = Some plain
-said (Clashes v x y n) = Some plain
-said (Refused reason) = None
-
--- what asked something first has asked
-asked_first : (ran : Ran) (q : Question) (later : List Question) → ran.asked ≡ q ∷ later → verdict_of ran ≡ asked
-asked_first ran q later e = rw e refl
+-- where one fails, not all pass
+not_all : {X : Type 0} (p : X → Bool) (xs : List X) (x : X) → find (λ z. not (p z)) xs ≡ Some x → list_all p xs ≡ false
+not_all p [] x h = absurd (cc)
+not_all p (y ∷ xs) x h = found_at p y x xs (p y) h (not_all p xs x)
 
 abbrev Says : Site → SiteModule → Standing → Type 0
 Says site m s = (o : Result Ran RequestReason) × EvaluatesTo site m o × (seen o ≡ said s)
 
-of_plain : (site : Site) (m : SiteModule) (rs : List Record) → HasPlainRecords site m rs → (o : Result Ran RequestReason) × EvaluatesTo site m o × (seen o ≡ Some plain)
-of_plain site m rs p = (Ok p.ran, p.evaluated, ap (λ (v : Verdict). Some v) p.plain)
+of_settled : (site : Site) (m : SiteModule) (rs : List Record) → HasSettledRecords site m rs → (o : Result Ran RequestReason) × EvaluatesTo site m o × (seen o ≡ 1)
+of_settled site m rs p =
+    let k = and_parts (list_all (keeps_answer p.ran.records) p.ran.asked) (list_all is_reversible p.ran.records) p.settled in
+    (Ok p.ran, p.evaluated, rw (k.0, k.1) refl)
 
 says : (site : Site) (ms : List Module) (m : SiteModule) (s : Standing) → HasStanding site ms m s → Says site m s
-says site ms m Certified h = of_plain site m h.0 h.1
-says site ms m (Asks q) h = (Ok h.0, h.1, ap (λ (v : Verdict). Some v) (asked_first h.0 q h.2.0 h.2.1))
-says site ms m (OneWay r) h = (Ok h.0, h.1, ap (λ (v : Verdict). Some v) h.2)
-says site ms m (OutOfStep v x y) h = of_plain site m h.0 h.1
-says site ms m (Clashes v x y n) h = of_plain site m h.0 h.1
+says site ms m Certified h = of_settled site m h.0 h.1
+says site ms m (Asks q) (ran, h, first) = (Ok ran, h, rw (not_all (keeps_answer ran.records) ran.asked q first) refl)
+says site ms m (OneWay r) (ran, h, kept, first) = (Ok ran, h, rw (kept, not_all is_reversible ran.records r first) refl)
+says site ms m (ReadsUsed v n) h = of_settled site m h.0 h.1
+says site ms m (OutOfStep v x y) h = of_settled site m h.0 h.1
+says site ms m (Clashes v x y n) h = of_settled site m h.0 h.1
 says site ms m (Refused reason) h = (Err reason, h, refl)
 
 same_said : files.OneOutcome → (site : Site) (ms : List Module) (m : SiteModule) (s t : Standing) → HasStanding site ms m s → HasStanding site ms m t → said s ≡ said t
@@ -78,15 +70,10 @@ same_said one site ms m s t h k =
     let b = says site ms m t k in
     sym a.2 ∙ (ap seen (one_outcome one site m a.0 b.0 a.1 b.1) ∙ b.2)
 
--- plain modules have one list of records
+-- free reads, or not
 
-abbrev records_in : Result Ran RequestReason → List Record
-records_in (Ok ran) = ran.records
-records_in (Err reason) = []
-
-one_list : files.OneOutcome → (site : Site) (m : SiteModule) (rs qs : List Record) → HasPlainRecords site m rs → HasPlainRecords site m qs → rs ≡ qs
-one_list one site m rs qs p q =
-    p.records ∙ (ap records_in (one_outcome one site m (Ok p.ran) (Ok q.ran) p.evaluated q.evaluated) ∙ sym q.records)
+not_free : (site : Site) (m : SiteModule) (v : Text) (n : Module) → HasFreeReads site m → Reads site m v → IsUserOf site v n → ⊥
+not_free site m v n free r u = free v n u.used r u.settled u.uses
 
 -- in step and out of step
 
@@ -105,72 +92,49 @@ not_both rs v x y u s = by_second u.second
 
 certified_not_twice : files.OneOutcome → (site : Site) (ms : List Module) (m : SiteModule) (v : Text)
     (x y : VariableUse) → HasStanding site ms m Certified → HasStanding site ms m (OutOfStep v x y) → ⊥
-certified_not_twice one site ms m v x y (rs, p, c) (qs, q, u) =
+certified_not_twice one site ms m v x y (rs, p, f, c) (qs, q, g, u) =
     not_both rs v x y (subst (λ (l : List Record). IsUsedTwice l v x y) (sym (one_list one site m rs qs p q)) u) c.in_step.in_step
 
 certified_not_clash : files.OneOutcome → (site : Site) (ms : List Module) (m : SiteModule) (v : Text)
     (x y : VariableUse) (n : Module) → HasStanding site ms m Certified → HasStanding site ms m (Clashes v x y n) → ⊥
-certified_not_clash one site ms m v x y n (rs, p, c) (qs, q, k) =
+certified_not_clash one site ms m v x y n (rs, p, f, c) (qs, q, g, k) =
     let w : ClashesWith ms (with_records m rs) v x y n = subst (λ (l : List Record). ClashesWith ms (with_records m l) v x y n) (sym (one_list one site m rs qs p q)) k in
     certified_apart ms (with_records m rs) n v x y c w.certain w.another w.clash
 
 twice_not_clash : files.OneOutcome → (site : Site) (ms : List Module) (m : SiteModule) (v w : Text)
     (x y a b : VariableUse) (n : Module) → HasStanding site ms m (OutOfStep v x y)
     → HasStanding site ms m (Clashes w a b n) → ⊥
-twice_not_clash one site ms m v w x y a b n (rs, p, u) (qs, q, k) =
+twice_not_clash one site ms m v w x y a b n (rs, p, f, u) (qs, q, g, k) =
     let c : ClashesWith ms (with_records m rs) w a b n = subst (λ (l : List Record). ClashesWith ms (with_records m l) w a b n) (sym (one_list one site m rs qs p q)) k in
     not_both rs v x y u c.in_step.in_step
 
 -- all of them
 
-abbrev number_of : Seen → ℕ
-number_of None = 0
-number_of (Some plain) = 1
-number_of (Some asked) = 2
-number_of (Some one_way) = 3
-
-apart : (s t : Standing) → (number_of (said s) == number_of (said t)) ≡ false → said s ≡ said t → ⊥
-apart s t f e =
-    false≢true (sym f ∙ (ap (λ x. number_of (said s) == number_of x) (sym e) ∙ eq-eqb (number_of (said s)) (number_of (said s)) refl))
+apart : (s t : Standing) → (said s == said t) ≡ false → said s ≡ said t → ⊥
+apart s t f e = false≢true (sym f ∙ (ap (λ x. said s == x) (sym e) ∙ eq-eqb (said s) (said s) refl))
 
 by_said : files.OneOutcome → (site : Site) (ms : List Module) (m : SiteModule) (s t : Standing) → said s ≡ said t
     → HasStanding site ms m s → HasStanding site ms m t → standing_word s ≡ standing_word t
 by_said one site ms m Certified Certified e h k = refl
+by_said one site ms m Certified (ReadsUsed v n) e h k = absurd (not_free site m v n h.2 k.2 k.3)
 by_said one site ms m Certified (OutOfStep v x y) e h k = absurd (certified_not_twice one site ms m v x y h k)
 by_said one site ms m Certified (Clashes v x y n) e h k = absurd (certified_not_clash one site ms m v x y n h k)
+by_said one site ms m (ReadsUsed v n) Certified e h k = absurd (not_free site m v n k.2 h.2 h.3)
+by_said one site ms m (ReadsUsed v n) (ReadsUsed w l) e h k = refl
+by_said one site ms m (ReadsUsed v n) (OutOfStep w x y) e h k = absurd (not_free site m v n k.2 h.2 h.3)
+by_said one site ms m (ReadsUsed v n) (Clashes w x y l) e h k = absurd (not_free site m v n k.2 h.2 h.3)
 by_said one site ms m (OutOfStep v x y) Certified e h k = absurd (certified_not_twice one site ms m v x y k h)
+by_said one site ms m (OutOfStep v x y) (ReadsUsed w l) e h k = absurd (not_free site m w l h.2 k.2 k.3)
 by_said one site ms m (OutOfStep v x y) (OutOfStep w a b) e h k = refl
 by_said one site ms m (OutOfStep v x y) (Clashes w a b n) e h k = absurd (twice_not_clash one site ms m v w x y a b n h k)
 by_said one site ms m (Clashes v x y n) Certified e h k = absurd (certified_not_clash one site ms m v x y n k h)
+by_said one site ms m (Clashes v x y n) (ReadsUsed w l) e h k = absurd (not_free site m w l h.2 k.2 k.3)
 by_said one site ms m (Clashes v x y n) (OutOfStep w a b) e h k = absurd (twice_not_clash one site ms m w v a b x y n k h)
 by_said one site ms m (Clashes v x y n) (Clashes w a b l) e h k = refl
 by_said one site ms m (Asks q) (Asks p) e h k = refl
 by_said one site ms m (OneWay r) (OneWay q) e h k = refl
 by_said one site ms m (Refused r) (Refused q) e h k = refl
-by_said one site ms m Certified (Asks k) e h g = absurd (apart Certified (Asks k) refl e)
-by_said one site ms m Certified (OneWay r) e h k = absurd (apart Certified (OneWay r) refl e)
-by_said one site ms m Certified (Refused r) e h k = absurd (apart Certified (Refused r) refl e)
-by_said one site ms m (OutOfStep v x y) (Asks k) e h g = absurd (apart (OutOfStep v x y) (Asks k) refl e)
-by_said one site ms m (OutOfStep v x y) (OneWay r) e h k = absurd (apart (OutOfStep v x y) (OneWay r) refl e)
-by_said one site ms m (OutOfStep v x y) (Refused r) e h k = absurd (apart (OutOfStep v x y) (Refused r) refl e)
-by_said one site ms m (Clashes v x y n) (Asks k) e h g = absurd (apart (Clashes v x y n) (Asks k) refl e)
-by_said one site ms m (Clashes v x y n) (OneWay r) e h k = absurd (apart (Clashes v x y n) (OneWay r) refl e)
-by_said one site ms m (Clashes v x y n) (Refused r) e h k = absurd (apart (Clashes v x y n) (Refused r) refl e)
-by_said one site ms m (Asks k) Certified e h g = absurd (apart (Asks k) Certified refl e)
-by_said one site ms m (Asks k) (OneWay r) e h g = absurd (apart (Asks k) (OneWay r) refl e)
-by_said one site ms m (Asks k) (OutOfStep v x y) e h g = absurd (apart (Asks k) (OutOfStep v x y) refl e)
-by_said one site ms m (Asks k) (Clashes v x y n) e h g = absurd (apart (Asks k) (Clashes v x y n) refl e)
-by_said one site ms m (Asks k) (Refused r) e h g = absurd (apart (Asks k) (Refused r) refl e)
-by_said one site ms m (OneWay r) Certified e h k = absurd (apart (OneWay r) Certified refl e)
-by_said one site ms m (OneWay r) (Asks k) e h g = absurd (apart (OneWay r) (Asks k) refl e)
-by_said one site ms m (OneWay r) (OutOfStep v x y) e h k = absurd (apart (OneWay r) (OutOfStep v x y) refl e)
-by_said one site ms m (OneWay r) (Clashes v x y n) e h k = absurd (apart (OneWay r) (Clashes v x y n) refl e)
-by_said one site ms m (OneWay r) (Refused q) e h k = absurd (apart (OneWay r) (Refused q) refl e)
-by_said one site ms m (Refused r) Certified e h k = absurd (apart (Refused r) Certified refl e)
-by_said one site ms m (Refused r) (Asks k) e h g = absurd (apart (Refused r) (Asks k) refl e)
-by_said one site ms m (Refused r) (OneWay q) e h k = absurd (apart (Refused r) (OneWay q) refl e)
-by_said one site ms m (Refused r) (OutOfStep v x y) e h k = absurd (apart (Refused r) (OutOfStep v x y) refl e)
-by_said one site ms m (Refused r) (Clashes v x y n) e h k = absurd (apart (Refused r) (Clashes v x y n) refl e)
+by_said one site ms m s t e h k = absurd (apart s t refl e)
 
 pub one_standing : files.OneOutcome → OneStanding
 one_standing one site ms m s t h k = by_said one site ms m s t (same_said one site ms m s t h k) h k

@@ -1,40 +1,25 @@
--- What a walk over a site has when it ends: all directories, all modules below each, and all plain modules.
-use Rattle.std.proofs.Common.{◌≡◌, ◌⊎◌, inl, inr, Bool, true, false, ◌||◌, List, [], ◌∷◌, ◌++◌, map, refl, ap, sym, ◌∙◌}
-use Rattle.std.proofs.Common.{subst}
+-- What a walk over a site has when it ends: all directories, and all modules below each.
+use Rattle.std.proofs.Common.{◌≡◌, inl, inr, true, List, [], ◌∷◌, map, refl, ap, sym, ◌∙◌, subst}
 use Rattle.std.specs.Prelude.{bytes_eq}
 use Rattle.std.specs.List.{list_any}
-use Rattle.std.proofs.lemmas.Bool.{false≢true}
 use Rattle.envvars.specs.Texts.{Text}
 use Rattle.envvars.proofs.TextLemmas.{same_text, bytes_eq-same}
 use Rattle.filetree.specs.Modulefiles.{path_of}
 use Rattle.search.specs.Listed.{names_of}
 use Rattle.sitecertificate.specs.RecordUses.{IsAmong}
+use Rattle.sitecertificate.proofs.UsedLemmas.{by_cases, among_left, among_right, among_either}
+use Rattle.sitecertificate.proofs.Exact.{any_some, some_any}
 use Rattle.sitelaws.specs.Sites.{Site, SiteModule, module_below, IsIn, IsDirectory, first, added, IsClosed}
 use Rattle.sitelaws.specs.Sites.{AreNamesBelow, AreModulesIn}
 use Rattle.sitelaws.specs.Laws.{NamesListed, DirectoriesFound, ModulesFound}
 
 -- members of lists of texts, by the test
 
-or_true : (a b : Bool) → b ≡ true → (a || b) ≡ true
-or_true true b h = refl
-or_true false b h = h
-
-either : (a b : Bool) → (a || b) ≡ true → (a ≡ true) ⊎ (b ≡ true)
-either true b h = inl refl
-either false b h = inr h
-
-by_cases : {A B P : Type 0} → A ⊎ B → (A → P) → (B → P) → P
-by_cases (inl a) f g = f a
-by_cases (inr b) f g = g b
-
 among_by_test : (x : Text) (xs : List Text) → list_any (bytes_eq x) xs ≡ true → IsAmong x xs
-among_by_test x [] h = absurd (false≢true h)
-among_by_test x (y ∷ xs) h = by_cases (either (bytes_eq x y) (list_any (bytes_eq x) xs) h) (λ t. inl (same_text x y t)) (λ t. inr (among_by_test x xs t))
+among_by_test x xs h = let y = any_some (bytes_eq x) xs h in subst (λ (t : Text). IsAmong t xs) (sym (same_text x y.0 y.2)) y.1
 
 test_of_among : (x : Text) (xs : List Text) → IsAmong x xs → list_any (bytes_eq x) xs ≡ true
-test_of_among x [] a = absurd a
-test_of_among x (y ∷ xs) (inl e) = let t : bytes_eq x y ≡ true = ap (bytes_eq x) (sym e) ∙ bytes_eq-same x in rw t refl
-test_of_among x (y ∷ xs) (inr a) = or_true (bytes_eq x y) (list_any (bytes_eq x) xs) (test_of_among x xs a)
+test_of_among x xs a = some_any (bytes_eq x) xs x a (bytes_eq-same x)
 
 -- a listing of the search has the names below its directory
 pub names_listed : NamesListed
@@ -65,25 +50,11 @@ map_among dir m [] a = absurd a
 map_among dir m (n ∷ names) (inl e) = (inl (ap (λ (k : SiteModule). k.name) e), ap (λ (k : SiteModule). k.path) e ∙ ap (path_of dir) (sym (ap (λ (k : SiteModule). k.name) e)))
 map_among dir m (n ∷ names) (inr a) = let p = map_among dir m names a in (inr p.0, p.1)
 
-left_among : (m : SiteModule) (ms ns : List SiteModule) → IsAmong m ms → IsAmong m (ms ++ ns)
-left_among m [] ns a = absurd a
-left_among m (k ∷ ms) ns (inl e) = inl e
-left_among m (k ∷ ms) ns (inr a) = inr (left_among m ms ns a)
-
-right_among : (m : SiteModule) (ms ns : List SiteModule) → IsAmong m ns → IsAmong m (ms ++ ns)
-right_among m [] ns a = a
-right_among m (k ∷ ms) ns a = inr (right_among m ms ns a)
-
-parted : (m : SiteModule) (ms ns : List SiteModule) → IsAmong m (ms ++ ns) → IsAmong m ms ⊎ IsAmong m ns
-parted m [] ns a = inr a
-parted m (k ∷ ms) ns (inl e) = inl (inl e)
-parted m (k ∷ ms) ns (inr a) = by_cases (parted m ms ns a) (λ b. inl (inr b)) (λ b. inr b)
-
 -- each of the modules is in one of the directories
 in_directory : (site : Site) (dirs : List Text) (ms : List SiteModule) (m : SiteModule) → AreModulesIn site dirs ms → IsAmong m ms → (dir : Text) × IsAmong dir dirs × IsIn site dir m
 in_directory site [] ms m e a = absurd (subst (IsAmong m) e a)
 in_directory site (dir ∷ dirs) ms m (names, rest, below, more, e) a =
-    by_cases (parted m (map (module_below dir) names) rest (subst (IsAmong m) e a))
+    by_cases (among_either m (map (module_below dir) names) rest (subst (IsAmong m) e a))
     (λ b. let p = map_among dir m names b in (dir, inl refl, record { below = (below.exact m.name).0 p.0; path = p.1 }))
     (λ b. let i = in_directory site dirs rest m more b in (i.0, inr i.1, i.2))
 
@@ -98,9 +69,9 @@ placed site dir names m below there =
 among_modules : (site : Site) (dirs : List Text) (ms : List SiteModule) (dir : Text) (m : SiteModule) → AreModulesIn site dirs ms → IsAmong dir dirs → IsIn site dir m → IsAmong m ms
 among_modules site [] ms dir m e a there = absurd a
 among_modules site (d ∷ dirs) ms dir m (names, rest, below, more, e) (inl q) there =
-    subst (IsAmong m) (sym e) (left_among m (map (module_below d) names) rest (placed site d names m below (subst (λ (t : Text). IsIn site t m) q there)))
+    subst (IsAmong m) (sym e) (among_left m (map (module_below d) names) rest (placed site d names m below (subst (λ (t : Text). IsIn site t m) q there)))
 among_modules site (d ∷ dirs) ms dir m (names, rest, below, more, e) (inr a) there =
-    subst (IsAmong m) (sym e) (right_among m (map (module_below d) names) rest (among_modules site dirs rest dir m more a there))
+    subst (IsAmong m) (sym e) (among_right m (map (module_below d) names) rest (among_modules site dirs rest dir m more a there))
 
 -- so the modules in all directories of a site are those of the site
 pub modules_found : ModulesFound

@@ -1,6 +1,6 @@
 -- The laws of sites (own): loads are admitted, settled modules have one list of records, sessions of certified modules
 -- return to their start, and changes by hand keep its agreement with what a module uses.
-use Rattle.std.specs.Prelude.{◌≡◌, ◌↔◌, ℕ, List, [], ◌∷◌, ◌++◌, Some, Ok}
+use Rattle.std.specs.Prelude.{◌≡◌, ◌↔◌, ℕ, true, List, [], ◌∷◌, ◌++◌, Some, Ok}
 use Rattle.envvars.specs.Texts.{Text}
 use Rattle.envvars.specs.Environment.{Environment}
 use Rattle.envloaded.specs.Loaded.{AreLoadedInOrder}

@@ -71,8 +71,8 @@ IsCandidateAnd site m P = (rs : List Record) × HasSettledRecords site m rs × H
 -- A settled module of the site uses the variable.
 pub record IsUserOf (site : Site) (v : Text) (n : Module) : Type 0 where
   pub settled : IsSettledModule site n
-  pub use : VariableUse
-  pub uses : Uses n.records v use
+  pub used : VariableUse
+  pub uses : Uses n.records v used
 
 -- A module of the site, whose candidates are these, stands so. Each module stands in one of the seven ways: its
 -- evaluation is refused, or asks what doesn't keep its answer, or has a record that unloading doesn't undo, or it is

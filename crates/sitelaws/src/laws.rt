@@ -54,6 +54,7 @@ pub fn sessions_return()
 {
     admissions();
     settled_records();
+    modulefile::files();
     requests::sessions();
     sitecertificate::laws::certified();
     sitecertificate::laws::conflicts();
@@ -66,6 +67,7 @@ pub fn command_returns()
 {
     admissions();
     settled_records();
+    modulefile::files();
     requests::outcomes();
     sitecertificate::laws::certified();
     sitecertificate::laws::conflicts();

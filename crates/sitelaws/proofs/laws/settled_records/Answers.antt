@@ -1,5 +1,5 @@
-use Rattle.sitelaws.proofs.Records.{plain_records_are_all}
-use Rattle.sitelaws.proofs.laws.plain_records.Goals as goal
+use Rattle.sitelaws.proofs.SettledRecords.{settled_records}
+use Rattle.sitelaws.proofs.laws.settled_records.Goals as goal
 
 pub returns : goal.returns
-returns c = plain_records_are_all c.plain.ensures
+returns c = settled_records c.settled.ensures

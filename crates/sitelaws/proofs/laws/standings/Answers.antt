@@ -1,10 +1,9 @@
-use Rattle.sitelaws.proofs.Records.{certified_stand}
-use Rattle.sitelaws.proofs.Standing.{each_stands}
+use Rattle.sitelaws.proofs.Standing.{each_stands, certified_stand}
 use Rattle.sitelaws.proofs.OneStanding.{one_standing}
 use Rattle.sitelaws.proofs.laws.standings.Goals as goal
 
 pub returns-clause-each : goal.returns-clause-each
-returns-clause-each c = each_stands c.files.ensures.some
+returns-clause-each c = each_stands c.files.ensures.one c.files.ensures.some
 
 pub returns-clause-one : goal.returns-clause-one
 returns-clause-one c = one_standing c.files.ensures.one

@@ -1,5 +1,5 @@
 use Rattle.sitelaws.proofs.Walked.{names_listed, directories_found, modules_found}
-use Rattle.sitelaws.proofs.PlainOnes.{plain_modules_found}
+use Rattle.sitelaws.proofs.SettledOnes.{settled_modules_found}
 use Rattle.sitelaws.proofs.laws.walks.Goals as goal
 
 pub returns-clause-names : goal.returns-clause-names
@@ -11,5 +11,5 @@ returns-clause-directories c = directories_found
 pub returns-clause-modules : goal.returns-clause-modules
 returns-clause-modules c = modules_found
 
-pub returns-clause-plain : goal.returns-clause-plain
-returns-clause-plain c = plain_modules_found c.files.ensures.one
+pub returns-clause-settled : goal.returns-clause-settled
+returns-clause-settled c = settled_modules_found c.files.ensures.one
