@@ -2,6 +2,7 @@
 use Rattle.std.proofs.Common.{◌≡◌, List, map, filter, refl, ap, sym, ◌∙◌, subst}
 use Rattle.std.specs.Prelude.{flat_map}
 use Rattle.envvars.specs.Texts.{Text, texts_in}
+use Rattle.envvars.specs.Fields.{without_repeats}
 use Rattle.modulefile.specs.Laws as files
 use Rattle.modulefile.specs.Moves.{Module}
 use Rattle.reversal.specs.VariableUses.{UsedVariable}
@@ -9,6 +10,7 @@ use Rattle.sitecertificate.specs.RecordUses.{IsAmong, used_by_modules, is_in_ste
 use Rattle.sitecertificate.specs.Certificates.{certified, certificate}
 use Rattle.sitecertificate.specs.UseViews.{used_view}
 use Rattle.sitelaws.specs.Sites.{Site, SiteModule, file_of, Evaluated, AreEvaluated, settled_among, candidates_among}
+use Rattle.sitelaws.specs.Sites.{reads_of}
 use Rattle.sitelaws.specs.Laws.{ModulesFound, SettledModulesFound, AuditsHold}
 use Rattle.sitecertificate.specs.ClashAnswers.{AreAnswers, without_clashes}
 use Rattle.sitecertificate.specs.EachOnce.{each_once}
@@ -22,7 +24,7 @@ use Rattle.siteaudit.specs.SettledRuns.{settled_module, AreUsedReads}
 use Rattle.siteaudit.specs.Findings.{Shown, judged_of, steps_in, reads_along, modules_with, AreStandings}
 use Rattle.siteaudit.specs.Folders.{AreBadDefaultFiles}
 use Rattle.siteaudit.specs.Parts.{PartsAreAudits}
-use Rattle.siteaudit.proofs.Judged.{IsJudging, steps_are, certified_are, all_stand, files_are, certified_files_are}
+use Rattle.siteaudit.proofs.Judged.{IsJudging, steps_are, certified_are, all_stand, files_are, reads_are, certified_files_are}
 use Rattle.siteaudit.proofs.Evaluations.{same_files}
 use Rattle.siteaudit.proofs.UsedReads.{same_used, user_settled, answers_shown}
 use Rattle.siteaudit.proofs.Unknown.{mentioned_alike}
@@ -41,6 +43,7 @@ evaluated_all laws site dirs outs w = record { modules = λ m. laws.modules site
 -- how the modules stand
 record AreJudgedRight (site : Site) (ms : List Module) (outs : List Evaluated) (modules : List AuditedModule) (found : List UsedVariable) : Type 0 where
   files : map audited_file modules ≡ map (λ (o : Evaluated). o.0) outs
+  reads : map (λ (m : AuditedModule). texts_in m.reads) modules ≡ map (λ (o : Evaluated). without_repeats (reads_of o)) outs
   standing : AllStand site ms modules
   uses : found ≡ each_once (certificate ms)
   certain : certified_files modules ≡ map file_of (certified ms)
@@ -72,6 +75,7 @@ judged_right laws site es outs modules uses all h s =
     let sure : without_clashes (filter is_in_step ms) s.answers ≡ certified ms = certified_are ms s.answers answers in
     record {
       files = ap (map audited_file) standings_are ∙ files_are shown outs s.answers h';
+      reads = ap (map (λ (m : AuditedModule). texts_in m.reads)) standings_are ∙ reads_are shown outs s.answers h';
       standing = subst (AllStand site ms) (sym standings_are)
           (all_stand site outs ms readers shown outs s.answers judging h' s.by_themselves.right answered shown_answers (λ o a. (all.evaluated o a, a)));
       uses = s.certified ∙ ap (λ (l : List Module). each_once (used_by_modules l)) (ap (λ (l : List Module). without_clashes l s.answers) step ∙ sure);
@@ -94,6 +98,7 @@ parts_are_audits laws site walk found (outs, w, h) parts =
         walk = w;
         candidates = (laws.settled site outs all).1;
         modules = right.files;
+        reads = right.reads;
         standing = right.standing;
         certificate = right.uses;
         missing_directories = parts.missing_directories;

@@ -4,8 +4,8 @@ use Rattle.std.proofs.Common.{Option, Some, None, Result, Ok, Err, refl, ap, sym
 use Rattle.std.specs.Prelude.{filter_map, flat_map, string_bytes}
 use Rattle.std.specs.List.{list_all, list_any, cons_option, AllByRecursion}
 use Rattle.std.proofs.lemmas.Bool.{false≢true, and_parts, and_from}
-use Rattle.envvars.specs.Texts.{Text, has}
-use Rattle.envvars.specs.Fields.{colon}
+use Rattle.envvars.specs.Texts.{Text, has, texts_in}
+use Rattle.envvars.specs.Fields.{colon, without_repeats}
 use Rattle.envvars.specs.Environment.{Environment}
 use Rattle.envvars.proofs.TextLemmas.{bytes_eq-same}
 use Rattle.modulefile.specs.Files.{Ran}
@@ -33,14 +33,15 @@ use Rattle.sitecertificate.proofs.CertifiedOnes as ones
 use Rattle.sitecertificate.proofs.Answered.{answered_none, answers_are}
 use Rattle.sitelaws.specs.Sites.{Site, SiteModule, file_of, with_records, EvaluatesTo, HasSettledRecords, HasFreeReads}
 use Rattle.sitelaws.specs.Sites.{AreSettledModules, AreCandidates, Evaluated, settled_of, settled_among, reads_none}
-use Rattle.sitelaws.specs.Sites.{candidates_among}
+use Rattle.sitelaws.specs.Sites.{candidates_among, reads_of}
 use Rattle.sitelaws.specs.Standings.{IsUsedTwice}
 use Rattle.sitecertificate.specs.ClashAnswers.{AreAnswers, without_clashes}
 use Rattle.sitecertificate.specs.declared.answers.Clash.{Clash}
-use Rattle.siteaudit.specs.Walks.{IsOutcome, AreEvaluations}
+use Rattle.siteaudit.specs.Walks.{IsOutcome, outcome_reads, AreEvaluations}
 use Rattle.siteaudit.specs.declared.standing.Standing.{Standing}
 use Rattle.siteaudit.specs.declared.standing.Standing.TheVariants.{Certified, Asks, OneWay, ReadsUsed, OutOfStep}
 use Rattle.siteaudit.specs.declared.standing.Standing.TheVariants.{Clashes, Refused}
+use Rattle.siteaudit.specs.declared.auditing.AuditedModule.{AuditedModule}
 use Rattle.siteaudit.specs.declared.standing.ModuleFinding.{ModuleFinding}
 use Rattle.siteaudit.specs.declared.standing.ModuleFinding.TheVariants.{Stands, InStep}
 use Rattle.siteaudit.specs.Audits.{StandsAs, audited_file, AllStand, is_certified, certified_files}
@@ -305,7 +306,7 @@ stands_by_read site outs ms readers m ran u j e settled a =
         ran.records,
         record { ran = ran; evaluated = e; settled = settled; records = refl },
         record { ran = ran; evaluated = e; read = has_text v (variables_read ran.asked) reads },
-        record { settled = (j.settled a.user).0 (j.users a.user v x.0 user.0 x.1); use = x.0; uses = x.1 },
+        record { settled = (j.settled a.user).0 (j.users a.user v x.0 user.0 x.1); used = x.0; uses = x.1 },
       ),
     )
 
@@ -376,6 +377,21 @@ files_are (s ∷ shown) [] answers e = absurd e
 files_are ((e, u, finding) ∷ shown) ((m, out) ∷ outs) answers (one, more) =
     ap (λ (l : List SiteModule). evaluated_file e ∷ l) (files_are shown outs (answers_left (standing_of finding) answers) more)
     ∙ ap (λ (k : SiteModule). k ∷ map (λ (o : Evaluated). o.0) outs) (sym (same_file e (m, out) one))
+
+-- and what they read
+
+read_of : (outcome : Result code.FileRun Refusal) (m : SiteModule) (out : Result Ran RequestReason) → IsOutcome outcome out → outcome_reads outcome ≡ reads_of (m, out)
+read_of (Ok ran) m out o = sym (ap (λ (x : Result Ran RequestReason). reads_of (m, x)) o.1)
+read_of (Err refusal) m out o = sym (ap (λ (x : Result Ran RequestReason). reads_of (m, x)) o.2)
+
+pub reads_are : (shown : List Shown) (outs : List Evaluated) (answers : List (Option Clash)) → AreEvaluations (map (λ s. s.0) shown) outs
+    → map (λ (m : AuditedModule). texts_in m.reads) (modules_with (map judged_of shown) answers) ≡ map (λ (o : Evaluated). without_repeats (reads_of o)) outs
+reads_are [] [] answers e = refl
+reads_are [] (o ∷ outs) answers e = absurd e
+reads_are (s ∷ shown) [] answers e = absurd e
+reads_are ((e, u, finding) ∷ shown) ((m, out) ∷ outs) answers (one, more) =
+    ap (λ (l : List (List Text)). texts_in e.reads ∷ l) (reads_are shown outs (answers_left (standing_of finding) answers) more)
+    ∙ ap (λ (l : List Text). l ∷ map (λ (o : Evaluated). without_repeats (reads_of o)) outs) (one.reads ∙ ap without_repeats (read_of e.outcome m out one.outcome))
 
 -- a finding that is decided is no certificate
 abbrev is_certificate : ModuleFinding → Bool

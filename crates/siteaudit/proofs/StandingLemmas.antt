@@ -29,6 +29,13 @@ none_from q (x ∷ xs) k e = by_test (q x) _
 pub none_fails : {X : Type 0} (q : X → Bool) (xs : List X) → position (λ x. not (q x)) xs ≡ None → list_all q xs ≡ true
 none_fails q xs e = none_from q xs 0 (sym (position_from-zero (λ x. not (q x)) xs) ∙ e)
 
+place_from : {X : Type 0} (q : X → Bool) (xs : List X) (k j : ℕ) → position_from (λ x. not (q x)) k xs ≡ Some j → list_all q xs ≡ false
+place_from q [] k j e = absurd (cc)
+place_from q (x ∷ xs) k j e = by_test (q x) _ (λ t. rw t (place_from q xs (k + 1) j (rw t at e))) (λ f. rw f refl)
+
+pub place_fails : {X : Type 0} (q : X → Bool) (xs : List X) (j : ℕ) → position (λ x. not (q x)) xs ≡ Some j → list_all q xs ≡ false
+place_fails q xs j e = place_from q xs 0 j (sym (position_from-zero (λ x. not (q x)) xs) ∙ e)
+
 record IsFirst {X : Type 0} (q : X → Bool) (xs : List X) (k j : ℕ) : Type 0 where
   far : k ≤ j
   inside : j - k < length xs

@@ -1,9 +1,10 @@
 -- What of the reads of evaluated modules settled ones use, by the answers for them.
-use Rattle.std.proofs.Common.{◌≡◌, inl, inr, Bool, true, false, cond, not, ◌||◌, List, [], ◌∷◌, ◌++◌, map, find, Option, Some}
+use Rattle.std.proofs.Common.{◌≡◌, inl, inr, ℕ, ◌+◌, ◌<◌, take, length, get_or, Bool, true, false, cond, not, ◌||◌, List, [], ◌∷◌, ◌++◌, map, find, Option, Some}
 use Rattle.std.proofs.Common.{None, Result, Ok, Err, refl, ap, sym, ◌∙◌, subst}
 use Rattle.std.specs.Prelude.{bytes_eq, flat_map}
 use Rattle.std.specs.List.{list_any, cons_option, AllByRecursion}
 use Rattle.std.proofs.lemmas.Bool.{false≢true}
+use Rattle.std.proofs.lemmas.List.{map-append, take_more}
 use Rattle.envvars.specs.Texts.{Text, has}
 use Rattle.envvars.proofs.TextLemmas.{same_text, bytes_eq-same}
 use Rattle.modulefile.specs.Files.{Ran}
@@ -18,7 +19,9 @@ use Rattle.sitecertificate.specs.RecordUses.{used_by, used_by_modules, IsAmong, 
 use Rattle.sitecertificate.proofs.UsedLemmas.{by_test, by_cases, used_among, user_of}
 use Rattle.sitecertificate.proofs.Exact.{any_some, some_any}
 use Rattle.sitereads.specs.Reads.{uses_variable, first_user, first_used}
+use Rattle.sitereads.specs.Answers as answers
 use Rattle.sitereads.specs.Answers.{IsAnswer}
+use Rattle.sitereads.specs.declared.readers.Reader.{Reader}
 use Rattle.sitereads.specs.declared.readers.UsedRead.{UsedRead}
 use Rattle.sitelaws.specs.Sites.{SiteModule, Evaluated, with_records, settled_of, settled_among}
 use Rattle.siteaudit.specs.declared.walk.Evaluation.{Evaluation}
@@ -140,7 +143,7 @@ abbrev pub AnswersShown : List Module → Shown → Type 0
 AnswersShown ms s = IsAnswer ms (settled_reads s.0.outcome) s.1
 
 one_tail : (x y : Option UsedRead) (xs ys : List (Option UsedRead)) → x ∷ xs ≡ y ∷ ys → (x ≡ y) × (xs ≡ ys)
-one_tail x y xs ys e = cc
+one_tail x y xs ys e = (cc, cc)
 
 pub answers_shown : (ms : List Module) (shown : List Shown) (used : List (Option UsedRead)) → AreUsedReads ms (map (λ (s : Shown). s.0) shown) used
     → map (λ (s : Shown). s.1) shown ≡ reads_along (map (λ (s : Shown). s.0) shown) used → AllByRecursion (AnswersShown ms) shown
@@ -149,3 +152,28 @@ answers_shown ms (s ∷ shown) [] h e = absurd h
 answers_shown ms (s ∷ shown) (answer ∷ used) h e =
     let p = one_tail s.1 answer (map (λ (k : Shown). k.1) shown) (reads_along (map (λ (k : Shown). k.0) shown) used) e in
     (subst (IsAnswer ms (settled_reads s.0.outcome)) (sym p.0) h.0, answers_shown ms shown used h.1 p.1)
+
+-- ---- readers in turn
+
+pub map_turn : {X Y Z : Type 0} (f : X → Z) (g : Y → Z) (xs : List X) (ys : List Y) (i : ℕ) (y : Y) (x : X) → i < length ys → y ≡ get_or ys i y
+    → map f xs ≡ map g (take i ys) → f x ≡ g y → map f (xs ++ x ∷ []) ≡ map g (take (i + 1) ys)
+map_turn f g xs ys i y x l e before now =
+    map-append f xs (x ∷ []) ∙ (ap (λ (zs : List _). zs ++ f x ∷ []) before ∙ (ap (λ (z : _). map g (take i ys) ++ z ∷ []) now
+    ∙ sym (ap (map g) (take_more ys i y l ∙ ap (λ (z : _). take i ys ++ z ∷ []) (sym e)) ∙ map-append g (take i ys) (y ∷ []))))
+
+one_more_read : (x y : List Text) (xs ys : List (List Text)) → x ∷ xs ≡ y ∷ ys → (x ≡ y) × (xs ≡ ys)
+one_more_read x y xs ys e = (cc, cc)
+
+pub used_along : (ms : List Module) (es : List Evaluation) (rs : List Reader) (used : List (Option UsedRead)) → map answers.reads_of rs ≡ map (λ (e : Evaluation). settled_reads e.outcome) es
+    → answers.AreAnswers ms rs used → AreUsedReads ms es used
+used_along ms [] [] used e h = none used h
+  where
+    none : (us : List (Option UsedRead)) → answers.AreAnswers ms [] us → AreUsedReads ms [] us
+    none [] k = tt
+    none (u ∷ us) k = absurd k
+used_along ms [] (r ∷ rs) used e h = absurd (cc)
+used_along ms (x ∷ es) [] used e h = absurd (cc)
+used_along ms (x ∷ es) (r ∷ rs) [] e h = absurd h
+used_along ms (x ∷ es) (r ∷ rs) (u ∷ used) e h =
+    let p = one_more_read (answers.reads_of r) (settled_reads x.outcome) (map answers.reads_of rs) (map (λ (k : Evaluation). settled_reads k.outcome) es) e in
+    (subst (λ (l : List Text). IsAnswer ms l u) p.0 h.0, used_along ms es rs used p.1 h.1)

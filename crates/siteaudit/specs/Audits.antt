@@ -21,7 +21,7 @@ use Rattle.sitecertificate.specs.Disagreements.{AreDisagreements}
 use Rattle.sitecertificate.specs.DisagreementViews.{disagreement_view}
 use Rattle.sitecertificate.specs.EachOnce.{each_once}
 use Rattle.sitelaws.specs.Sites.{Site, SiteModule, Evaluated, file_of, HasSettledRecords, AreCandidates}
-use Rattle.sitelaws.specs.Sites.{candidates_among}
+use Rattle.sitelaws.specs.Sites.{candidates_among, reads_of}
 use Rattle.sitelaws.specs.Standings as standings
 use Rattle.sitelaws.specs.Standings.{HasStanding}
 use Rattle.sitelaws.specs.Laws.{CertificateHolds}
@@ -144,7 +144,7 @@ unknown_names outcomes = flat_map (unknown_of (means_one outcomes)) outcomes
 -- ---- the whole
 
 -- What was found is an audit of the site: a walk over it has these directories and these outcomes. It has each module of
--- the walk, in its order, with how it stands; the certificate of its candidates, each use once; those of its
+-- the walk, in its order, with the variables that its evaluation reads, each once, and how it stands; the certificate of its candidates, each use once; those of its
 -- directories that aren't there, in their order; the files in the places of modules that are no modulefiles; the bad
 -- default files of the modules in turn, each once; the names that mean no module; and the reasons for which the environment at hand doesn't agree with the certificate, use after use.
 pub record IsAudit (site : Site) (found : SiteAudit) : Type 0 where
@@ -153,6 +153,7 @@ pub record IsAudit (site : Site) (found : SiteAudit) : Type 0 where
   pub walk : IsWalk site dirs outcomes
   pub candidates : AreCandidates site (candidates_among outcomes)
   pub modules : map audited_file found.modules.items ≡ map (λ outcome. outcome.0) outcomes
+  pub reads : map (λ m. texts_in m.reads) found.modules.items ≡ map (λ o. without_repeats (reads_of o)) outcomes
   pub standing : AllStand site (candidates_among outcomes) found.modules.items
   pub certificate : map used_view found.certificate.items ≡ each_once (certificate (candidates_among outcomes))
   pub missing_directories : texts_in found.missing_directories ≡ missing_among site.listings dirs

@@ -101,7 +101,8 @@ Shown = Evaluation × Option UsedRead × ModuleFinding
 
 -- what is kept of it
 abbrev pub judged_of : Shown → JudgedModule
-judged_of (e, used, finding) = record { name = e.name; path = e.path; standing = standing_of finding }
+judged_of (e, used, finding) =
+    record { name = e.name; path = e.path; reads = e.reads; standing = standing_of finding }
 
 -- the module, where other modules decide how it stands
 abbrev pub steps_in : Shown → List Module
@@ -170,7 +171,12 @@ answers_left None answers = answers_after answers
 -- the module with its standing
 abbrev pub module_with : JudgedModule → List (Option Clash) → AuditedModule
 module_with judged answers =
-    record { name = judged.name; path = judged.path; standing = standing_with judged.standing answers }
+    record {
+      name = judged.name;
+      path = judged.path;
+      reads = judged.reads;
+      standing = standing_with judged.standing answers;
+    }
 
 -- The modules with their standings: those for whom others decide have the answers, in their order.
 abbrev pub modules_with : List JudgedModule → List (Option Clash) → List AuditedModule

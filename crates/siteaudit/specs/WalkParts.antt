@@ -28,6 +28,7 @@ use Rattle.sitelaws.specs.DirectorySets.{with_directories}
 use Rattle.sitelaws.specs.Sites.{Site, SiteModule, Evaluated, EvaluatesTo, AreNamesBelow, added_directories}
 use Rattle.sitelaws.specs.Sites.{module_below}
 use Rattle.siteaudit.specs.Walks.{IsEvaluation, AreEvaluations}
+use Rattle.siteaudit.specs.SettledRuns.{directories_after}
 use Rattle.siteaudit.specs.declared.walk.Evaluation.{Evaluation}
 
 -- ---- the file of a module

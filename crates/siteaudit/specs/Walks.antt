@@ -11,7 +11,9 @@ use Rattle.filetree.specs.Agreement.{Files, Listings, InEachPair}
 use Rattle.filetree.specs.Causes.{Applies, because}
 use Rattle.modulefile.specs.Files as files
 use Rattle.modulerun.specs.declared.run.FileRun.{FileRun}
+use Rattle.modulerun.specs.Questions.{questions_in}
 use Rattle.modulerun.specs.Running.{ran_view}
+use Rattle.settled.specs.Resting.{variables_read}
 use Rattle.modulefile.specs.Judgments.{bad_edit}
 use Rattle.modulefile.specs.Moves.{Module}
 use Rattle.requests.specs.Reasons.{RequestReason, refused_edit}
@@ -56,11 +58,17 @@ IsOutcome (Ok ran) outcome = (e : Environment) × (outcome ≡ Ok (ran_view ran 
 IsOutcome (Err refusal) outcome = (reason : RequestReason) × (cause_of refusal ≡ because reason)
     × (outcome ≡ Err reason)
 
+-- the variables that it reads
+abbrev pub outcome_reads : Result FileRun Refusal → List Text
+outcome_reads (Ok ran) = variables_read (questions_in ran.asked.items)
+outcome_reads (Err refusal) = []
+
 -- the same of a module
 pub record IsEvaluation (evaluation : Evaluation) (evaluated : Evaluated) : Type 0 where
   pub name : evaluated.0.name ≡ string_bytes evaluation.name
   pub path : evaluated.0.path ≡ string_bytes evaluation.path
   pub outcome : IsOutcome evaluation.outcome evaluated.1
+  pub reads : texts_in evaluation.reads ≡ without_repeats (outcome_reads evaluation.outcome)
 
 -- the same of each module, in their order
 abbrev pub AreEvaluations : List Evaluation → List Evaluated → Type 0

@@ -33,6 +33,8 @@ pub struct AuditedModule {
     pub name: String,
     /// The path of its file.
     pub path: String,
+    /// The variables that the evaluation of its file reads, each once, in the order in which it first reads them.
+    pub reads: Vec<String>,
     /// How it stands.
     pub standing: Standing,
 }
@@ -122,8 +124,8 @@ fn audit_walk<T: Tree>(
 /// once; the environment doesn't change.
 ///
 /// What is found is an audit of the site (`exact`). Its certificate stands (`holds`): a session that begins in an
-/// environment whose loaded list is in order, and loads only modules that stand as certified and with whose uses this
-/// environment agrees, returns to its start.
+/// environment whose loaded list is in order, and loads only modules that stand as certified, with whose uses this
+/// environment agrees and whose reads have in it the values of the audit, returns to its start.
 ///
 /// Errors: loaded lists that don't fit together (35); a device that failed in this call, at a path that the audit looks
 /// at (43); want of memory (11, 31, 41); more than `MAX_DIRECTORIES` directories.

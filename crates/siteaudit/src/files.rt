@@ -1,6 +1,7 @@
 //! The evaluation of the file of a module of a site.
 ghost use Rattle.std.specs.Prelude.{◌≡◌, ◌<◌, IfOk, IfErr, map, string_bytes};
 ghost use Rattle.envvars.specs.Texts.{texts_in};
+ghost use Rattle.envvars.specs.Fields.{without_repeats};
 ghost use Rattle.filetree.specs.Agreement.{FailsAt, InEachPair, ReadsOn};
 ghost use Rattle.modulefile.specs.Files.{RunsFile};
 ghost use Rattle.modules.specs.Answers.{is_failure};
@@ -9,18 +10,21 @@ ghost use Rattle.requests.specs.Refusals.{RefusedAs};
 ghost use Rattle.sitelaws.specs.Sites.{EvaluatesTo, site_of, module_below};
 ghost use Rattle.siteaudit.specs.WalkParts.{HasLoaded, HasListCause, site_context, ComesTo, ComesToOverTree, GivesUp};
 ghost use Rattle.siteaudit.specs.WalkParts.{IsEvaluationOf};
+ghost use Rattle.siteaudit.specs.Walks.{outcome_reads};
 
 use crate::given_up::unless_given_up;
 use crate::walk::Evaluation;
 use envloaded::loaded;
+use envvars::fields::{deduplicated, owned};
 use envvars::{Env, WorkingCopy};
 use filetree::Tree;
 use modulefile::Mode;
 use modulerun::{FileContext, FileRun, run_file};
 use modules::{Refusal, script_at};
 use search::path_of;
+use settled::variables_read;
 use shelltext::Shell;
-use std::alloc::Global;
+use std::alloc::{AllocError, Global};
 use tclrules::Limits;
 
 /// What each file of a site is evaluated in.
@@ -95,6 +99,24 @@ fn evaluate_file<T: Tree>(
     run_script(settings, name, path, text.as_str())
 }
 
+/// The variables that the evaluation of a file reads, each once, in the order in which it first reads them; none where it
+/// is refused.
+fn reads_of(
+    alloc: Global,
+    outcome: &Result<FileRun, Refusal>,
+) -> Result<Vec<String>, AllocError>
+    ensures { IfOk result (λ reads. texts_in reads ≡ without_repeats (outcome_reads outcome.now)) }
+{
+    match outcome {
+        Ok(ran) => {
+            let names = variables_read(alloc, ran.asked.as_slice())?;
+            let names = deduplicated(alloc, names.as_slice())?;
+            owned(alloc, names.as_slice())
+        }
+        Err(_) => Ok(Vec::new(alloc)),
+    }
+}
+
 /// The module of this name below a directory, with what the evaluation of its file leaves.
 ///
 /// Errors: a device that failed, at the path of the file; want of memory.
@@ -113,12 +135,15 @@ pub(crate) fn evaluate_module<T: Tree>(
     ensures failed { FailsAt is_failure (T.failed tree.old) (T.failed tree.new) result (λ at.
         at ≡ (module_below dir.now name.now).path) }
 {
-    let path = path_of(settings.alloc, dir, name)?;
-    let full_name = String::from_str(settings.alloc, name)?;
+    let alloc = settings.alloc;
+    let path = path_of(alloc, dir, name)?;
+    let full_name = String::from_str(alloc, name)?;
     let outcome = unless_given_up(evaluate_file(settings, tree, name, path.as_str()))?;
+    let reads = reads_of(alloc, &outcome)?;
     Ok(Evaluation {
         name: full_name,
         path,
         outcome,
+        reads,
     })
 }

@@ -22,6 +22,8 @@ use std::vec::IntoIter;
 pub(crate) struct JudgedModule {
     name: String,
     path: String,
+    /// The variables that its evaluation reads, each once.
+    reads: Vec<String>,
     /// How it stands; `None` where it is settled and in step, so that the other modules decide.
     standing: Option<Standing>,
 }
@@ -85,6 +87,7 @@ fn judge_next(
         name,
         path,
         outcome,
+        reads,
     } = evaluation;
     let finding = judge(alloc, outcome, used)?;
     let standing = sort_out(
@@ -97,6 +100,7 @@ fn judge_next(
     judgement.judged.push(JudgedModule {
         name,
         path,
+        reads,
         standing,
     })?;
     Ok(())
@@ -154,11 +158,13 @@ fn module_with(judged: JudgedModule, answers: &mut IntoIter<Option<Clash>>) -> A
     let JudgedModule {
         name,
         path,
+        reads,
         standing,
     } = judged;
     AuditedModule {
         name,
         path,
+        reads,
         standing: standing_with(standing, answers),
     }
 }

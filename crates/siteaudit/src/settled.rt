@@ -12,5 +12,8 @@ use std::alloc::{AllocError, Global};
 pub(crate) fn is_settled(alloc: Global, ran: &FileRun) -> Result<bool, AllocError>
     ensures { IfOk result (λ settled. settled ≡ is_settled_ran ran.now) }
 {
-    Ok(first_unkept(alloc, ran)?.is_none() && are_reversible(ran.records.as_slice()))
+    match first_unkept(alloc, ran)? {
+        Some(_) => Ok(false),
+        None => Ok(are_reversible(ran.records.as_slice())),
+    }
 }

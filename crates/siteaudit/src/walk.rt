@@ -36,6 +36,8 @@ pub struct Evaluation {
     pub path: String,
     /// What its evaluation leaves, or why it is refused.
     pub outcome: Result<FileRun, Refusal>,
+    /// The variables that its evaluation reads, each once.
+    pub reads: Vec<String>,
 }
 
 /// What a walk over a site finds.

@@ -19,7 +19,8 @@ use Rattle.siteaudit.specs.declared.auditing.AuditedModule.{AuditedModule}
 use Rattle.siteaudit.specs.declared.auditing.SiteAudit.{SiteAudit}
 use Rattle.siteaudit.specs.declared.auditing.UnknownNames.{UnknownNames}
 use Rattle.siteaudit.specs.declared.standing.Standing.{Standing}
-use Rattle.siteaudit.specs.declared.standing.Standing.TheVariants.{Certified, Asks, OneWay, OutOfStep, Clashes, Refused}
+use Rattle.siteaudit.specs.declared.standing.Standing.TheVariants.{Certified, Asks, OneWay, ReadsUsed, OutOfStep}
+use Rattle.siteaudit.specs.declared.standing.Standing.TheVariants.{Clashes, Refused}
 use Rattle.sitereport.specs.declared.selection.Selection.{Selection}
 use Rattle.sitereport.specs.Remarks.{command_of}
 use Rattle.modulerun.specs.Questions.{question_view}
@@ -87,22 +88,29 @@ two_uses_fields variable one other =
 abbrev pub place_value : String Global → String Global → Json
 place_value name path = object_of ((codes "name", text_value name) ∷ (codes "path", text_value path) ∷ [])
 
--- why a module stands so
-abbrev pub standing_fields : Standing → List Field
-standing_fields Certified = []
-standing_fields (Asks first) = (codes "question", string (question_words (question_view first))) ∷ []
-standing_fields (OneWay first) = (codes "record", string (record_words first)) ∷ []
-standing_fields (OutOfStep variable one other) = two_uses_fields variable one other
-standing_fields (Clashes c) =
+-- the variables that a certified module reads; nothing where it reads none
+abbrev pub reads_fields : List (String Global) → List Field
+reads_fields [] = []
+reads_fields (name ∷ names) = texts_field (codes "reads") (name ∷ names) ∷ []
+
+-- why a module that reads these variables stands so
+abbrev pub standing_fields : List (String Global) → Standing → List Field
+standing_fields reads Certified = reads_fields reads
+standing_fields reads (Asks first) = (codes "question", string (question_words (question_view first))) ∷ []
+standing_fields reads (OneWay first) = (codes "record", string (record_words first)) ∷ []
+standing_fields reads (ReadsUsed used) =
+    (codes "variable", text_value used.variable) ∷ (codes "other", place_value used.user_name used.user_path) ∷ []
+standing_fields reads (OutOfStep variable one other) = two_uses_fields variable one other
+standing_fields reads (Clashes c) =
     two_uses_fields c.variable c.own c.theirs
     ++ (codes "other", place_value c.other_name c.other_path) ∷ (codes "alike", number (decimal c.alike)) ∷ []
-standing_fields (Refused refusal) = (codes "refusal", string (message_of refusal)) ∷ []
+standing_fields reads (Refused refusal) = (codes "refusal", string (message_of refusal)) ∷ []
 
 -- a module, how it stands in one word, and why
 abbrev pub module_fields : AuditedModule → List Field
 module_fields m =
     (codes "name", text_value m.name) ∷ (codes "path", text_value m.path)
-    ∷ (codes "standing", string (standing_word m.standing)) ∷ standing_fields m.standing
+    ∷ (codes "standing", string (standing_word m.standing)) ∷ standing_fields m.reads.items m.standing
 
 -- the same as an object
 abbrev pub module_value : AuditedModule → Json

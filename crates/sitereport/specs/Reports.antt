@@ -12,7 +12,7 @@ use Rattle.sitereport.specs.Remarks.{environment_lines}
 unfoldable pub module_line : AuditedModule → Text
 module_line m =
     spelled (string_bytes m.name) ++ (codes "\t" ++ (standing_word m.standing ++ (codes "\t"
-    ++ (spelled (reason m.standing) ++ (codes "\t" ++ (spelled (string_bytes m.path) ++ codes "\n"))))))
+    ++ (spelled (reason m) ++ (codes "\t" ++ (spelled (string_bytes m.path) ++ codes "\n"))))))
 
 -- the line of a module that the report names; else nothing
 abbrev pub named_line : Selection → AuditedModule → Text
@@ -35,8 +35,9 @@ sum_line word modules = number_line (standing_count word modules) word
 -- the same of each standing but certified
 abbrev pub sum_lines : List AuditedModule → Text
 sum_lines modules =
-    sum_line (codes "asks") modules ++ (sum_line (codes "one-way") modules ++ (sum_line (codes "out-of-step") modules
-    ++ (sum_line (codes "clashes") modules ++ sum_line (codes "refused") modules)))
+    sum_line (codes "asks") modules ++ (sum_line (codes "one-way") modules ++ (sum_line (codes "reads-used") modules
+    ++ (sum_line (codes "out-of-step") modules ++ (sum_line (codes "clashes") modules
+    ++ sum_line (codes "refused") modules))))
 
 -- The whole report: the modules that it names, the count, the sums of those that aren't certified, and the remarks.
 abbrev pub report_of : Selection → SiteAudit → Text

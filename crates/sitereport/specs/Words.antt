@@ -6,7 +6,7 @@ use Rattle.std.specs.Prelude.{◌++◌, bytes_eq, chars, codes, count_by, decima
 use Rattle.std.specs.Prelude.{string_bytes}
 use Rattle.std.specs.Char.{digit_char}
 use Rattle.std.specs.List.{join_with_byte}
-use Rattle.envvars.specs.Texts.{Text}
+use Rattle.envvars.specs.Texts.{Text, texts_in}
 use Rattle.tcllist.specs.Lists.{list_text}
 use Rattle.tclrules.specs.Oracle.{Question, OfCommand, OfVariable}
 use Rattle.modulefile.specs.declared.records.Record.{Record}
@@ -17,10 +17,12 @@ use Rattle.sitecertificate.specs.declared.uses.VariableUse.{VariableUse}
 use Rattle.sitecertificate.specs.declared.uses.VariableUse.TheVariants.{Fixed, Pathed, Stacked}
 use Rattle.sitecertificate.specs.declared.answers.Clash.{Clash}
 use Rattle.modules.specs.Messages.{message_of}
+use Rattle.sitereads.specs.declared.readers.UsedRead.{UsedRead}
 use Rattle.siteaudit.specs.Audits.{is_certified}
 use Rattle.siteaudit.specs.declared.auditing.AuditedModule.{AuditedModule}
 use Rattle.siteaudit.specs.declared.standing.Standing.{Standing}
-use Rattle.siteaudit.specs.declared.standing.Standing.TheVariants.{Certified, Asks, OneWay, OutOfStep, Clashes, Refused}
+use Rattle.siteaudit.specs.declared.standing.Standing.TheVariants.{Certified, Asks, OneWay, ReadsUsed, OutOfStep}
+use Rattle.siteaudit.specs.declared.standing.Standing.TheVariants.{Clashes, Refused}
 use Rattle.sitereport.specs.declared.selection.Selection.{Selection}
 use Rattle.sitereport.specs.declared.selection.Selection.TheVariants.{Each, NotCertified}
 
@@ -74,6 +76,7 @@ abbrev pub standing_word : Standing → Text
 standing_word Certified = codes "certified"
 standing_word (Asks first) = codes "asks"
 standing_word (OneWay first) = codes "one-way"
+standing_word (ReadsUsed used) = codes "reads-used"
 standing_word (OutOfStep variable one other) = codes "out-of-step"
 standing_word (Clashes clash) = codes "clashes"
 standing_word (Refused refusal) = codes "refused"
@@ -106,17 +109,33 @@ clash_words c =
     ++ (codes " in " ++ (string_bytes c.other_name ++ (codes " (" ++ (string_bytes c.other_path
     ++ (codes "); used so by " ++ decimal c.alike)))))))))
 
+-- the variable that a module reads, and the module that uses it
+abbrev pub used_read_words : UsedRead → Text
+used_read_words used =
+    string_bytes used.variable ++ (codes ": read here, used in " ++ (string_bytes used.user_name ++ (codes " ("
+    ++ (string_bytes used.user_path ++ codes ")"))))
+
+-- the variables that a certified module reads; nothing where it reads none
+abbrev pub reads_words : List Text → Text
+reads_words [] = []
+reads_words (name ∷ names) = codes "reads " ++ (name ++ flat_map (λ n. codes ", " ++ n) names)
+
 -- what was asked, as a modulefile has it: the words of a command with a space between two, or a variable as `$env(VAR)`
 abbrev pub question_words : Question → Text
 question_words (OfCommand words answer) = join_with_byte 32 words
 question_words (OfVariable name value) = codes "$env(" ++ (name ++ codes ")")
 
--- Why a module stands so: of one that asks its first question, of one that is one way the record, of a refused one the
--- refusal.
-abbrev pub reason : Standing → Text
-reason Certified = []
-reason (Asks first) = question_words (question_view first)
-reason (OneWay first) = record_words first
-reason (OutOfStep variable one other) = two_uses (string_bytes variable) one other
-reason (Clashes clash) = clash_words clash
-reason (Refused refusal) = message_of refusal
+-- Why a module that reads these variables stands so: of a certified one what it reads, of one that asks the question, of
+-- one that is one way the record, of a refused one the refusal.
+abbrev pub reason_of : List Text → Standing → Text
+reason_of reads Certified = reads_words reads
+reason_of reads (Asks first) = question_words (question_view first)
+reason_of reads (OneWay first) = record_words first
+reason_of reads (ReadsUsed used) = used_read_words used
+reason_of reads (OutOfStep variable one other) = two_uses (string_bytes variable) one other
+reason_of reads (Clashes clash) = clash_words clash
+reason_of reads (Refused refusal) = message_of refusal
+
+-- the same of a module
+abbrev pub reason : AuditedModule → Text
+reason m = reason_of (texts_in m.reads) m.standing

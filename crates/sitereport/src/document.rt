@@ -34,15 +34,15 @@ fn write_two_uses(
     writer.end_array()
 }
 
-/// Writes the other module of a clash as a member.
-fn write_other(writer: &mut Writer, clash: &Clash) -> Result<(), AllocError>
+/// Writes another module, by its name and the path of its file, as a member.
+fn write_other(writer: &mut Writer, name: &String, path: &String) -> Result<(), AllocError>
     ensures { OnOk result (AddsTokens writer.old writer.new
-        (field_tokens (codes "other", spec.place_value clash.now.other_name clash.now.other_path))) }
+        (field_tokens (codes "other", spec.place_value name.now path.now))) }
 {
     writer.key("other")?;
     writer.begin_object()?;
-    write_text(writer, "name", clash.other_name.as_str())?;
-    write_text(writer, "path", clash.other_path.as_str())?;
+    write_text(writer, "name", name.as_str())?;
+    write_text(writer, "path", path.as_str())?;
     writer.end_object()
 }
 
@@ -56,12 +56,27 @@ fn write_alike(writer: &mut Writer, clash: &Clash) -> Result<(), AllocError>
     writer.u64(alike)
 }
 
-/// Writes why a module stands so, as members.
-fn write_standing(alloc: Global, writer: &mut Writer, standing: &Standing) -> Result<(), AllocError>
-    ensures { OnOk result (AddsTokens writer.old writer.new (fields_tokens (spec.standing_fields standing.now))) }
+/// Writes the variables that a certified module reads as a member; nothing where it reads none.
+fn write_reads(writer: &mut Writer, reads: &[String]) -> Result<(), AllocError>
+    ensures { OnOk result (AddsTokens writer.old writer.new (fields_tokens (spec.reads_fields reads.now))) }
 {
-    match standing {
-        Standing::Certified => Ok(()),
+    match reads {
+        [] => Ok(()),
+        [_, ..] => write_text_array(writer, "reads", reads),
+    }
+}
+
+/// Writes why a module stands so, as members.
+fn write_standing(
+    alloc: Global,
+    writer: &mut Writer,
+    module: &AuditedModule,
+) -> Result<(), AllocError>
+    ensures { OnOk result (AddsTokens writer.old writer.new
+        (fields_tokens (spec.standing_fields «module».now.reads.items «module».now.standing))) }
+{
+    match &module.standing {
+        Standing::Certified => write_reads(writer, module.reads.as_slice()),
         Standing::Asks(first) => {
             let words = question_words(alloc, first)?;
             write_text(writer, "question", words.as_str())
@@ -70,6 +85,10 @@ fn write_standing(alloc: Global, writer: &mut Writer, standing: &Standing) -> Re
             let words = record_words(alloc, first)?;
             write_text(writer, "record", words.as_str())
         }
+        Standing::ReadsUsed(used) => {
+            write_text(writer, "variable", used.variable.as_str())?;
+            write_other(writer, &used.user_name, &used.user_path)
+        }
         Standing::OutOfStep {
             variable,
             one,
@@ -77,7 +96,7 @@ fn write_standing(alloc: Global, writer: &mut Writer, standing: &Standing) -> Re
         } => write_two_uses(alloc, writer, variable, one, other),
         Standing::Clashes(clash) => {
             write_two_uses(alloc, writer, &clash.variable, &clash.own, &clash.theirs)?;
-            write_other(writer, clash)?;
+            write_other(writer, &clash.other_name, &clash.other_path)?;
             write_alike(writer, clash)
         }
         Standing::Refused(refusal) => {
@@ -99,7 +118,7 @@ fn write_module(
     write_text(writer, "name", module.name.as_str())?;
     write_text(writer, "path", module.path.as_str())?;
     write_text(writer, "standing", standing_word(&module.standing))?;
-    write_standing(alloc, writer, &module.standing)?;
+    write_standing(alloc, writer, module)?;
     writer.end_object()
 }
 

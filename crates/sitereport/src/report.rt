@@ -16,7 +16,7 @@ use std::alloc::{AllocError, Global};
 fn push_line(alloc: Global, report: &mut Vec<u8>, module: &AuditedModule) -> Result<(), AllocError>
     ensures { OnOk result (report.new.items ≡ report.old.items ++ spec.module_line module.now) }
 {
-    let why = reason(alloc, &module.standing)?;
+    let why = reason(alloc, module)?;
     push_field(report, module.name.as_str())?;
     push_text(report, "\t")?;
     push_text(report, standing_word(&module.standing))?;
@@ -110,6 +110,7 @@ fn push_sums(
 {
     push_sum(alloc, report, "asks", modules)?;
     push_sum(alloc, report, "one-way", modules)?;
+    push_sum(alloc, report, "reads-used", modules)?;
     push_sum(alloc, report, "out-of-step", modules)?;
     push_sum(alloc, report, "clashes", modules)?;
     push_sum(alloc, report, "refused", modules)

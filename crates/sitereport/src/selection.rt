@@ -35,6 +35,7 @@ fn is_certified(standing: &Standing) -> bool
         Standing::Certified => true,
         Standing::Asks(_)
         | Standing::OneWay(_)
+        | Standing::ReadsUsed(_)
         | Standing::OutOfStep { .. }
         | Standing::Clashes(_)
         | Standing::Refused(_) => false,

@@ -1,5 +1,5 @@
 //! What is said of a module: how it stands in one word, and why.
-ghost use Rattle.std.specs.Prelude.{◌≡◌, IfOk, string_bytes};
+ghost use Rattle.std.specs.Prelude.{◌≡◌, ◌++◌, codes, flat_map, map, IfOk, string_bytes};
 ghost use Rattle.modulerun.specs.Questions.{question_view};
 ghost use Rattle.sitereport.specs.Words as spec;
 
@@ -7,8 +7,9 @@ use envvars::fields::{join, slices};
 use modulefile::Record;
 use modulerun::Question;
 use requests::show_report;
-use siteaudit::Standing;
+use siteaudit::{AuditedModule, Standing};
 use sitecertificate::{Clash, VariableUse};
+use sitereads::UsedRead;
 use std::alloc::{AllocError, Global};
 use std::slice;
 
@@ -20,6 +21,7 @@ pub(crate) fn standing_word(standing: &Standing) -> &'static str
         Standing::Certified => "certified",
         Standing::Asks(_) => "asks",
         Standing::OneWay(_) => "one-way",
+        Standing::ReadsUsed(_) => "reads-used",
         Standing::OutOfStep { .. } => "out-of-step",
         Standing::Clashes(_) => "clashes",
         Standing::Refused(_) => "refused",
@@ -90,14 +92,50 @@ pub(crate) fn question_words(alloc: Global, question: &Question) -> Result<Strin
     }
 }
 
-/// Why a module stands so. For a certified one it is empty.
-pub(crate) fn reason(alloc: Global, standing: &Standing) -> Result<String, AllocError>
-    ensures { IfOk result (λ words. string_bytes words ≡ spec.reason standing.now) }
+/// The variable that a module reads, and the module that uses it.
+fn used_read_words(alloc: Global, used: &UsedRead) -> Result<String, AllocError>
+    ensures { IfOk result (λ words. string_bytes words ≡ spec.used_read_words used.now) }
 {
-    match standing {
-        Standing::Certified => Ok(String::new(alloc)),
+    let variable = &used.variable;
+    let name = &used.user_name;
+    let path = &used.user_path;
+    format!(in alloc; "{variable}: read here, used in {name} ({path})")
+}
+
+/// The names, each behind a comma and a space.
+fn further_names(alloc: Global, names: &[String]) -> Result<String, AllocError>
+    ensures { IfOk result (λ words. string_bytes words ≡ flat_map (λ n. codes ", " ++ string_bytes n) names.now) }
+{
+    let mut words = String::new(alloc);
+    for name in names {
+        words.push_str(", ")?;
+        words.push_str(name.as_str())?;
+    }
+    Ok(words)
+}
+
+/// The variables that a certified module reads; nothing where it reads none.
+fn reads_words(alloc: Global, reads: &[String]) -> Result<String, AllocError>
+    ensures { IfOk result (λ words. string_bytes words ≡ spec.reads_words (map string_bytes reads.now)) }
+{
+    match reads {
+        [] => Ok(String::new(alloc)),
+        [first, others @ ..] => {
+            let others = further_names(alloc, others)?;
+            format!(in alloc; "reads {first}{others}")
+        }
+    }
+}
+
+/// Why a module stands so. For a certified one it is what it reads.
+pub(crate) fn reason(alloc: Global, module: &AuditedModule) -> Result<String, AllocError>
+    ensures { IfOk result (λ words. string_bytes words ≡ spec.reason «module».now) }
+{
+    match &module.standing {
+        Standing::Certified => reads_words(alloc, module.reads.as_slice()),
         Standing::Asks(first) => question_words(alloc, first),
         Standing::OneWay(recorded) => record_words(alloc, recorded),
+        Standing::ReadsUsed(used) => used_read_words(alloc, used),
         Standing::OutOfStep {
             variable,
             one,

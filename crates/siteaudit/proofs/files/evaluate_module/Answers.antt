@@ -28,7 +28,7 @@ returns-clause-evaluated g c = λ files listings k.
     (module_below dir name)) c.in_ok-outcome.outcome comes c.in_ok-outcome.ensures.kept files listings k in (
       h.0,
       h.1,
-      record { name = sym c.in_ok-full_name.ensures.ok; path = sym c.in_ok-path.ensures; outcome = h.2 },
+      record { name = sym c.in_ok-full_name.ensures.ok; path = sym c.in_ok-path.ensures; outcome = h.2; reads = c.in_ok-reads.ensures },
     )
 
 pub returns-in_err-outcome-clause-failed : goal.returns-in_err-outcome-clause-failed
@@ -45,3 +45,12 @@ returns-clause-failed g c =
     let Here : List ℕ → Type 0 = λ at. at ≡ c.as_str.result.now in
     kept_unfailed c.in_ok-outcome.outcome before now Here c.in_ok-outcome.ensures.kept
     (subst (λ (o : Result FileRun Refusal). FailsAt is_failure before now o Here) (sym c.in_ok-outcome.ensures.same) c.evaluate_file.ensures.failed)
+
+pub returns-in_err-reads-clause-failed : goal.returns-in_err-reads-clause-failed
+returns-in_err-reads-clause-failed g c =
+    let p = err_from_is_err_and c.from_residual-in_err-reads.result c.from_residual-in_err-reads.ensures.1 in
+    let before = g.T.Tree.failed c.args.tree.now in
+    let now = g.T.Tree.failed c.evaluate_file.new.tree in
+    let Here : List ℕ → Type 0 = λ at. at ≡ c.as_str.result.now in
+    rw (p.1, p.2) (kept_unfailed c.in_ok-outcome.outcome before now Here c.in_ok-outcome.ensures.kept
+    (subst (λ (o : Result FileRun Refusal). FailsAt is_failure before now o Here) (sym c.in_ok-outcome.ensures.same) c.evaluate_file.ensures.failed))

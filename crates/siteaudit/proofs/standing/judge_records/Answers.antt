@@ -1,5 +1,6 @@
 use Rattle.std.proofs.Common.{◌≡◌, Some, None, inl, inr, not, refl, sym, subst, ◌∙◌, List}
 use Rattle.std.specs.Prelude.{position}
+use Rattle.std.proofs.lemmas.Result.{IfOk-weaker}
 use Rattle.modulefile.specs.RecordViews.{record_view}
 use Rattle.modulefile.specs.declared.records.Record.{Record}
 use Rattle.reversal.specs.VariableUses.{is_reversible}
@@ -11,7 +12,8 @@ pub returns-in-None : goal.returns-in-None
 returns-in-None c =
     let none : position (λ r. not (is_reversible (record_view r))) c.args.records.items ≡ None =
     subst (λ (rs : List Record). position (λ r. not (is_reversible (record_view r))) rs ≡ None) c.as_slice.ensures.value (sym c.in-None.ensures) in
-    inl (sym (all_seen is_reversible record_view c.args.records.items) ∙ none_fails (λ r. is_reversible (record_view r)) c.args.records.items none, c.in_ok-judge_settled.ensures)
+    let undone = sym (all_seen is_reversible record_view c.args.records.items) ∙ none_fails (λ r. is_reversible (record_view r)) c.args.records.items none in
+    IfOk-weaker c.judge_settled.result _ _ (λ finding shown. inl (undone, shown)) c.judge_settled.ensures
 
 pub returns-in-Some : goal.returns-in-Some
 returns-in-Some c =
