@@ -1,28 +1,31 @@
 -- Commands of certified modules one after another, with changes by hand between them, by the law of one command.
-use Rattle.std.proofs.Common.{◌≡◌, List, [], ◌∷◌, ◌++◌, map, Result, Ok, Err, refl, sym, subst}
+use Rattle.std.proofs.Common.{◌≡◌, inl, inr, Bool, true, false, cond, List, [], ◌∷◌, ◌++◌, map, Result, Ok, Err, refl}
+use Rattle.std.proofs.Common.{sym, subst}
+use Rattle.std.specs.Prelude.{bytes_eq}
 use Rattle.envvars.specs.Texts.{Text}
 use Rattle.envvars.specs.Environment.{Environment}
 use Rattle.filetree.specs.Agreement.{Files, Listings}
 use Rattle.modulefile.specs.Moves.{Module, Move, Loads, Unloads}
 use Rattle.shelltext.specs.Reading.{OneEffect, DifferenceMakes}
-use Rattle.reversal.specs.Runs.{live_after}
+use Rattle.reversal.specs.Runs.{without_live, live_after}
 use Rattle.reversal.specs.Laws.{Holds}
 use Rattle.requests.specs.Reasons.{RequestReason}
 use Rattle.requests.specs.Requests.{Request}
 use Rattle.requests.specs.Returning.{AreNew}
 use Rattle.requests.specs.Steps.{Done, RequestStep, request_context_in}
-use Rattle.sitecertificate.specs.RecordUses.{uses_by}
+use Rattle.sitecertificate.specs.RecordUses.{IsAmong, uses_by}
 use Rattle.sitecertificate.specs.Certificates.{certified}
-use Rattle.sitecertificate.specs.Laws.{AreLayered, NoneIsLayered}
-use Rattle.sitelaws.specs.Sites.{site_of, ArePlainModules}
-use Rattle.sitelaws.specs.Laws.{LoadsAreOf, SiteCommandsReturn}
+use Rattle.sitecertificate.specs.Laws.{AreCertifiedTogether, AreLayered, NoneIsLayered}
+use Rattle.sitelaws.specs.Sites.{Site, Reads, file_of, IsCandidate, AreCandidates}
+use Rattle.sitelaws.specs.Laws.{LoadsAreOf, AreReadAlike, SiteCommandsReturn, ChangesLeaveReads}
 use Rattle.modulecmd.specs.Command.{CommandResult, CommandHasResult, standard, with_shell}
-use Rattle.handchanges.specs.HandChanges.{start_after}
-use Rattle.handchanges.specs.Events.{act, moves_of}
+use Rattle.handchanges.specs.HandChanges.{HandChange, changed, IsHandChange, start_after}
+use Rattle.handchanges.specs.Events.{Event, act, by_hand, moves_of, EventsReachWhile}
 use Rattle.handchanges.specs.Laws.{OneChangeHolds}
-use Rattle.handchanges.proofs.EventLemmas.{new_parts, new_kept, Keep, all_kept}
+use Rattle.handchanges.proofs.EventLemmas.{live_together, new_parts, new_kept}
 use Rattle.modulecmd.specs.Runs.{PrintedCommand, moves_in, command_moves, CommandMakes}
-use Rattle.modulecmd.specs.Sites.{CommandLoads, SiteShellsReturn, SiteShellsAndHandsReturn, SiteCommandsAreEvents}
+use Rattle.modulecmd.specs.Sites.{judged_site, CommandLoads, IsUnread, HandsLeaveReads}
+use Rattle.modulecmd.specs.Sites.{SiteShellsReturn, SiteShellsAndHandsReturn, SiteCommandsAreEvents, ReadlessAreLeft}
 use Rattle.modulecmd.proofs.RunLemmas.{AllAllowed, alone, same_moves}
 
 -- ---- one command
@@ -42,64 +45,141 @@ step_of arguments e files listings f (Ok r, is, (step, h, same)) = (r, step_at e
 
 -- ---- all of them, with changes by hand between them
 
-abbrev Stands : List Module → List Module → Environment → Environment → Type 0
-Stands ms live start e = AreLayered ms start live e × (live ≡ [] → e ≡ start)
-
-abbrev Coming : List Module → Environment → List Move → Type 0
-Coming live start moves = AreNew start moves
+abbrev Stands : Site → List Module → List Module → Environment → Environment → Type 0
+Stands site ms live start e = AreLayered ms start live e × AreReadAlike site start live × (live ≡ [] → e ≡ start)
 
 command_stands : SiteCommandsReturn → OneEffect → DifferenceMakes → (judged_in : Environment) (files : Files) (listings : Listings) (ms : List Module)
-    → ArePlainModules (site_of standard judged_in files listings) ms → (live : List Module) (start e next : Environment) (c : PrintedCommand) → AreLayered ms start live e
-    → AreNew start (command_moves c) → CommandLoads (certified ms) start c → CommandMakes files listings c e next → Stands ms (live_after live (command_moves c)) start next
-command_stands returns one makes judged_in files listings ms plain live start e next c layered news loads (does, says, made) =
+    → AreCandidates (judged_site judged_in files listings) ms → (live : List Module) (start e next : Environment) (c : PrintedCommand)
+    → Stands (judged_site judged_in files listings) ms live start e → AreNew start (command_moves c)
+    → CommandLoads (judged_site judged_in files listings) (certified ms) start c → CommandMakes files listings c e next
+    → Stands (judged_site judged_in files listings) ms (live_after live (command_moves c)) start next
+command_stands returns one makes judged_in files listings ms all live start e next c stands news loads (does, says, made) =
     let r = step_of c.arguments e files listings c.effect does in
-    let h = returns (site_of standard judged_in files listings) ms r.0.0 start e live r.0.1 c.effect.1 plain layered r.1 news loads in
+    let h = returns (judged_site judged_in files listings) ms r.0.0 start e live r.0.1 c.effect.1 all stands.0 stands.1 r.1 news loads in
     let same : c.effect.1.env ≡ next = one c.effect.0 c.text e c.effect.1.env next (makes c.effect.0 c.text e c.effect.1.env says) made in
-    subst (Stands ms (live_after live (command_moves c)) start) same h
+    subst (Stands (judged_site judged_in files listings) ms (live_after live (command_moves c)) start) same h
 
-keep : SiteCommandsReturn → OneEffect → DifferenceMakes → OneChangeHolds → (judged_in : Environment) (files : Files) (listings : Listings) (ms : List Module)
-    → ArePlainModules (site_of standard judged_in files listings) ms
-    → Keep command_moves (CommandMakes files listings) uses_by (CommandLoads (certified ms)) (Stands ms) Coming
-keep returns one makes change judged_in files listings ms plain = record {
-  by_act = λ live start e next c more stands coming loads made.
-      let n = new_parts start (command_moves c) more coming in
-      (command_stands returns one makes judged_in files listings ms plain live start e next c stands.0 n.0 loads made, n.1);
-  by_change = λ live start e c more stands coming may.
-      let s = stands.0 in
-      let p = change (uses_by live) start e live c s.begins s.order s.start_with_live may in (
-        (record { together = s.together; begins = p.begins; order = p.holds.order; start_with_live = p.holds.start_with_live }, p.holds.returned),
-        new_kept start (start_after (uses_by live) live start e c) more p.loaded coming,
-      );
-}
+live_candidate : (site : Site) (ms live : List Module) (m : Module) → AreCandidates site ms → AreCertifiedTogether ms live → IsAmong m live → IsCandidate site m
+live_candidate site ms [] m all t a = absurd a
+live_candidate site ms (l ∷ live) m all t (inl e) = subst (IsCandidate site) (sym e) ((all l).0 t.0.listed)
+live_candidate site ms (l ∷ live) m all t (inr a) = live_candidate site ms live m all t.2 a
 
-pub site_shells_and_hands_return : NoneIsLayered → SiteCommandsReturn → OneEffect → DifferenceMakes → OneChangeHolds → SiteShellsAndHandsReturn
-site_shells_and_hands_return begins returns one makes change judged_in files listings ms start last_start last events plain order reach news =
-    all_kept command_moves (CommandMakes files listings) uses_by (CommandLoads (certified ms)) (Stands ms) Coming
-    (keep returns one makes change judged_in files listings ms plain) events [] start start last_start last (begins ms start order, (λ n. refl)) news reach
+change_stands : OneChangeHolds → ChangesLeaveReads → (site : Site) (ms : List Module) → AreCandidates site ms
+    → (live : List Module) (start e : Environment) (c : HandChange) (more : List Move) → Stands site ms live start e → AreNew start more
+    → IsHandChange (uses_by live) live e c → IsUnread site live c.variable
+    → Stands site ms live (start_after (uses_by live) live start e c) (changed c e) × AreNew (start_after (uses_by live) live start e c) more
+change_stands change leave site ms all live start e c more stands news may unread =
+    let s = stands.0 in
+    let p = change (uses_by live) start e live c s.begins s.order s.start_with_live may in
+    let alike : AreReadAlike site (start_after (uses_by live) live start e c) live = (λ m a.
+    leave site ms live start e m c (live_candidate site ms live m all s.together a).settled.records (stands.1 m a) s may (unread m a)) in (
+      (record { together = s.together; begins = p.begins; order = p.holds.order; start_with_live = p.holds.start_with_live }, alike, p.holds.returned),
+      new_kept start (start_after (uses_by live) live start e c) more p.loaded news,
+    )
+
+events_stand : SiteCommandsReturn → OneEffect → DifferenceMakes → OneChangeHolds → ChangesLeaveReads
+    → (judged_in : Environment) (files : Files) (listings : Listings) (ms : List Module) → AreCandidates (judged_site judged_in files listings) ms
+    → (events : List (Event PrintedCommand)) (live : List Module) (start e last_start last : Environment)
+    → Stands (judged_site judged_in files listings) ms live start e → AreNew start (moves_of command_moves events)
+    → HandsLeaveReads (judged_site judged_in files listings) live events
+    → EventsReachWhile command_moves (CommandMakes files listings) uses_by (CommandLoads (judged_site judged_in files listings) (certified ms)) live start e events last_start last
+    → Stands (judged_site judged_in files listings) ms (live_after live (moves_of command_moves events)) last_start last
+events_stand returns one makes change leave judged_in files listings ms all [] live start e last_start last stands news unread h =
+    subst (λ (b : Environment). Stands (judged_site judged_in files listings) ms live b last) (sym h.0)
+    (subst (Stands (judged_site judged_in files listings) ms live start) (sym h.1) stands)
+events_stand returns one makes change leave judged_in files listings ms all (act c ∷ events) live start e last_start last stands news unread (loads, (next, made, after)) =
+    let n = new_parts start (command_moves c) (moves_of command_moves events) news in
+    let p = command_stands returns one makes judged_in files listings ms all live start e next c stands n.0 loads made in
+    subst (λ (l : List Module). Stands (judged_site judged_in files listings) ms l last_start last)
+    (sym (live_together live (command_moves c) (moves_of command_moves events)))
+    (events_stand returns one makes change leave judged_in files listings ms all events (live_after live (command_moves c)) start next last_start last p n.1 unread after)
+events_stand returns one makes change leave judged_in files listings ms all (by_hand c ∷ events) live start e last_start last stands news unread (may, after) =
+    let p = change_stands change leave (judged_site judged_in files listings) ms all live start e c (moves_of command_moves events) stands news may unread.0 in
+    events_stand returns one makes change leave judged_in files listings ms all events live (start_after (uses_by live) live start e c) (changed c e)
+    last_start last p.0 p.1 unread.1 after
+
+pub site_shells_and_hands_return : NoneIsLayered → SiteCommandsReturn → OneEffect → DifferenceMakes → OneChangeHolds → ChangesLeaveReads → SiteShellsAndHandsReturn
+site_shells_and_hands_return begins returns one makes change leave judged_in files listings ms start last_start last events all order reach news unread =
+    let p = events_stand returns one makes change leave judged_in files listings ms all events [] start start last_start last
+    (begins ms start order, (λ m a. absurd a), (λ n. refl)) news unread reach in
+    (p.0, p.2)
 
 -- ---- commands alone
 
-loads_parts : (ms : List Module) (start : Environment) (moves more : List Move) → LoadsAreOf ms start (moves ++ more) → LoadsAreOf ms start moves × LoadsAreOf ms start more
-loads_parts ms start [] more h = (tt, h)
-loads_parts ms start (Loads m ∷ moves) more h = let p = loads_parts ms start moves more h.1 in ((h.0, p.0), p.1)
-loads_parts ms start (Unloads m ∷ moves) more h = loads_parts ms start moves more h
+loads_parts : (site : Site) (ms : List Module) (start : Environment) (moves more : List Move) → LoadsAreOf site ms start (moves ++ more)
+    → LoadsAreOf site ms start moves × LoadsAreOf site ms start more
+loads_parts site ms start [] more h = (tt, h)
+loads_parts site ms start (Loads m ∷ moves) more h = let p = loads_parts site ms start moves more h.1 in ((h.0, p.0), p.1)
+loads_parts site ms start (Unloads m ∷ moves) more h = loads_parts site ms start moves more h
 
-all_load : (ms : List Module) (start : Environment) (cs : List PrintedCommand) → LoadsAreOf ms start (moves_in cs) → AllAllowed (CommandLoads ms) start cs
-all_load ms start [] h = tt
-all_load ms start (c ∷ cs) h = let p = loads_parts ms start (command_moves c) (moves_in cs) h in (p.0, all_load ms start cs p.1)
+all_load : (site : Site) (ms : List Module) (start : Environment) (cs : List PrintedCommand) → LoadsAreOf site ms start (moves_in cs) → AllAllowed (CommandLoads site ms) start cs
+all_load site ms start [] h = tt
+all_load site ms start (c ∷ cs) h = let p = loads_parts site ms start (command_moves c) (moves_in cs) h in (p.0, all_load site ms start cs p.1)
+
+commands_leave : (site : Site) (live : List Module) (cs : List PrintedCommand) → HandsLeaveReads site live (map act cs)
+commands_leave site live [] = tt
+commands_leave site live (c ∷ cs) = commands_leave site (live_after live (command_moves c)) cs
 
 pub site_commands_are_events : SiteCommandsAreEvents
-site_commands_are_events files listings certain start last cs h loads =
-    alone uses_by (CommandLoads certain) files listings start cs [] start last (all_load certain start cs loads) h
+site_commands_are_events site files listings certain start last cs h loads = (
+  alone uses_by (CommandLoads site certain) files listings start cs [] start last (all_load site certain start cs loads) h,
+  commands_leave site [] cs,
+)
 
-pub site_shells_return : NoneIsLayered → SiteCommandsReturn → OneEffect → DifferenceMakes → OneChangeHolds → SiteShellsReturn
-site_shells_return begins returns one makes change judged_in files listings ms start last cs plain order holds news loads =
+pub site_shells_return : NoneIsLayered → SiteCommandsReturn → OneEffect → DifferenceMakes → OneChangeHolds → ChangesLeaveReads → SiteShellsReturn
+site_shells_return begins returns one makes change leave judged_in files listings ms start last cs all order holds news loads =
     let q : moves_of command_moves (map act cs) ≡ moves_in cs = same_moves cs in
+    let events = site_commands_are_events (judged_site judged_in files listings) files listings (certified ms) start last cs holds loads in
+    let s = site_shells_and_hands_return begins returns one makes change leave judged_in files listings ms start start last (map act cs) all order
+    events.0 (subst (AreNew start) (sym q) news) events.1 in
     subst (λ (moves : List Move). Holds (uses_by (live_after [] moves)) start (live_after [] moves) last) q
-    (held (live_after [] (moves_of command_moves (map act cs)))
-    (site_shells_and_hands_return begins returns one makes change judged_in files listings ms start start last (map act cs) plain order
-    (site_commands_are_events files listings (certified ms) start last cs holds loads)
-    (subst (AreNew start) (sym q) news)))
-  where
-    held : (live : List Module) → Stands ms live start last → Holds (uses_by live) start live last
-    held live s = record { order = s.0.order; start_with_live = s.0.start_with_live; returned = s.1 }
+    (record { order = s.0.order; start_with_live = s.0.start_with_live; returned = s.1 })
+
+-- ---- modules that read nothing
+
+abbrev ReadNothing : Site → List Module → Type 0
+ReadNothing site live = (m : Module) (v : Text) → IsAmong m live → Reads site (file_of m) v → ⊥
+
+abbrev LoadNothingThatReads : Site → List Move → Type 0
+LoadNothingThatReads site moves = (m : Module) (v : Text) → IsAmong (Loads m) moves → Reads site (file_of m) v → ⊥
+
+among_front : (x : Move) (moves more : List Move) → IsAmong x moves → IsAmong x (moves ++ more)
+among_front x [] more a = absurd a
+among_front x (y ∷ moves) more (inl e) = inl e
+among_front x (y ∷ moves) more (inr a) = inr (among_front x moves more a)
+
+among_back : (x : Move) (moves more : List Move) → IsAmong x more → IsAmong x (moves ++ more)
+among_back x [] more a = a
+among_back x (y ∷ moves) more a = inr (among_back x moves more a)
+
+left_at : (m l : Module) (live rest : List Module) (b : Bool) → IsAmong l (cond b live (m ∷ rest)) → (IsAmong l rest → IsAmong l live) → IsAmong l (m ∷ live)
+left_at m l live rest true a more = inr a
+left_at m l live rest false (inl e) more = inl e
+left_at m l live rest false (inr a) more = inr (more a)
+
+left_among : (name : Text) (l : Module) (live : List Module) → IsAmong l (without_live name live) → IsAmong l live
+left_among name l [] a = absurd a
+left_among name l (m ∷ live) a = left_at m l live (without_live name live) (bytes_eq name m.name) a (left_among name l live)
+
+loaded_readless : (site : Site) (m : Module) (live : List Module) → ((v : Text) → Reads site (file_of m) v → ⊥) → ReadNothing site live → ReadNothing site (m ∷ live)
+loaded_readless site m live none others l v (inl e) r = none v (subst (λ (x : Module). Reads site (file_of x) v) e r)
+loaded_readless site m live none others l v (inr a) r = others l v a r
+
+readless_after : (site : Site) (live : List Module) (moves : List Move) → ReadNothing site live → LoadNothingThatReads site moves → ReadNothing site (live_after live moves)
+readless_after site live [] others none = others
+readless_after site live (Loads m ∷ moves) others none =
+    readless_after site (m ∷ live) moves (loaded_readless site m live (λ v r. none m v (inl refl) r) others) (λ l v a r. none l v (inr a) r)
+readless_after site live (Unloads m ∷ moves) others none =
+    readless_after site (without_live m.name live) moves (λ l v a r. others l v (left_among m.name l live a) r) (λ l v a r. none l v (inr a) r)
+
+readless_left : (site : Site) (events : List (Event PrintedCommand)) (live : List Module) → ReadNothing site live
+    → LoadNothingThatReads site (moves_of command_moves events) → HandsLeaveReads site live events
+readless_left site [] live others none = tt
+readless_left site (act c ∷ events) live others none =
+    readless_left site events (live_after live (command_moves c))
+    (readless_after site live (command_moves c) others (λ m v a r. none m v (among_front (Loads m) (command_moves c) (moves_of command_moves events) a) r))
+    (λ m v a r. none m v (among_back (Loads m) (command_moves c) (moves_of command_moves events) a) r)
+readless_left site (by_hand c ∷ events) live others none = ((λ m a r. others m c.variable a r), readless_left site events live others none)
+
+pub readless_are_left : ReadlessAreLeft
+readless_are_left site events none = readless_left site events [] (λ m v a r. a) none
