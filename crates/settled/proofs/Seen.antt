@@ -1,7 +1,7 @@
 -- Tests over lists and over what their elements stand for.
 use Rattle.std.proofs.Common.{◌≡◌, ℕ, ◌+◌, ◌<◌, ◌≤◌, Bool, true, false, not, ◌&&◌, ◌||◌, List, [], ◌∷◌, ◌++◌, map, take, length, get_or}
-use Rattle.std.proofs.Common.{Option, Some, None, Result, refl, ap, sym, ◌∙◌, arith, suc, zero}
-use Rattle.std.specs.Prelude.{filter_map, IfOk, position}
+use Rattle.std.proofs.Common.{Option, Some, None, refl, ap, sym, ◌∙◌, arith, suc, zero}
+use Rattle.std.specs.Prelude.{filter_map, position}
 use Rattle.std.specs.List.{list_any, list_all, cons_option, position_from}
 use Rattle.std.proofs.lemmas.Bool.{and_parts, and_from}
 use Rattle.std.proofs.lemmas.Iterator.Adapters.{position_from-zero}

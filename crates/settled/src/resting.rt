@@ -21,7 +21,8 @@ fn is_of_shells(variable: &str) -> bool
 {
     matches!(
         variable,
-        "PWD" | "OLDPWD"
+        "PWD"
+            | "OLDPWD"
             | "SHLVL"
             | "_"
             | "RANDOM"

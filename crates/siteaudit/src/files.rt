@@ -101,10 +101,7 @@ fn evaluate_file<T: Tree>(
 
 /// The variables that the evaluation of a file reads, each once, in the order in which it first reads them; none where it
 /// is refused.
-fn reads_of(
-    alloc: Global,
-    outcome: &Result<FileRun, Refusal>,
-) -> Result<Vec<String>, AllocError>
+fn reads_of(alloc: Global, outcome: &Result<FileRun, Refusal>) -> Result<Vec<String>, AllocError>
     ensures { IfOk result (λ reads. texts_in reads ≡ without_repeats (outcome_reads outcome.now)) }
 {
     match outcome {

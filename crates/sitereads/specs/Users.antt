@@ -1,6 +1,6 @@
 -- The table of the first users of variables: for this crate's own contracts alone.
-use Rattle.std.specs.Prelude.{List, map, find, bytes_eq, if◌then◌else◌, Option, Some, None}
-use Rattle.std.specs.Option.{option_map, option_or}
+use Rattle.std.specs.Prelude.{bytes_eq, if◌then◌else◌, Option, Some, None}
+use Rattle.std.specs.Option.{option_map}
 use Rattle.envvars.specs.Texts.{Text}
 use Rattle.indexmap.specs.IndexMap.{get_by}
 use Rattle.sitereads.specs.Reads.{uses_variable}

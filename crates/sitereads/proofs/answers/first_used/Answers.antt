@@ -1,4 +1,4 @@
-use Rattle.std.proofs.Common.{◌≡◌, ap, sym, ◌∙◌, Option, Some}
+use Rattle.std.proofs.Common.{ap, sym, ◌∙◌, Option, Some}
 use Rattle.std.specs.Prelude.{is_some}
 use Rattle.envvars.specs.Texts.{Text, slice_texts}
 use Rattle.sitereads.specs.Users.{user_in}

@@ -1,5 +1,5 @@
 use Rattle.std.proofs.Common.{rules}
-use Rattle.sitereads.proofs.UserLemmas.{user_entered, kept_there, none_there}
+use Rattle.sitereads.proofs.UserLemmas.{user_entered, none_there}
 use Rattle.sitereads.proofs.users.Users.enter.Goals as goal
 
 pub returns-in_ok-insert : goal.returns-in_ok-insert
