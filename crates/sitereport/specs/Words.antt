@@ -128,8 +128,8 @@ abbrev pub question_words : Question → Text
 question_words (OfCommand words answer) = join_with_byte 32 words
 question_words (OfVariable name value) = codes "$env(" ++ (name ++ codes ")")
 
--- Why a module that reads these variables stands so: of a certified one what it reads, of one that asks the question, of
--- one that is one way the record, of a refused one the refusal.
+-- Why a module that reads these variables stands so: of a certified one what it reads, of one that asks the question,
+-- of one that is one way the record, of a refused one the refusal.
 abbrev pub reason_of : List (String Global) → Standing → Text
 reason_of reads Certified = reads_words reads
 reason_of reads (Asks first) = question_words (question_view first)
