@@ -6,7 +6,7 @@ use Rattle.requests.proofs.ListLemmas.{all_seen}
 use Rattle.reversal.specs.VariableUses.{is_reversible}
 use Rattle.settled.specs.Resting.{keeps_answer}
 use Rattle.siteaudit.proofs.StandingLemmas.{none_fails, place_fails}
-use Rattle.siteaudit.proofs.settled.is_settled.Goals as goal
+use Rattle.siteaudit.proofs.settled_runs.is_settled.Goals as goal
 
 pub returns-in-Some : goal.returns-in-Some
 returns-in-Some c =
