@@ -79,7 +79,7 @@ pub refused_if : (agrees : Files → Listings → Type 0) (limits : Limits) (she
 refused_if agrees limits shell e action o is h = subst (λ (o : Option Advice). IfNone o (IsRefused agrees limits shell e action)) is h
 
 module _ (agrees : Files → Listings → Type 0) (limits : Limits) (shell : Shell) (e : Environment) where
-  abbrev Answers : Type 0 → RequestedAction → Result RequestChanges Refusal → Type 0
+  abbrev pub Answers : Type 0 → RequestedAction → Result RequestChanges Refusal → Type 0
   Answers failed action result = StepAnswersOverTree agrees failed (changed_view e) result (λ files listings.
       RequestStep (request_context_in limits shell files listings) e action)
 

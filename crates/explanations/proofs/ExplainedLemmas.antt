@@ -16,6 +16,7 @@ use Rattle.modulerun.specs.declared.run_fault.RunFault.{RunFault}
 use Rattle.modules.specs.Answers.{by_reason, by_search, cause_of}
 use Rattle.modules.specs.declared.refusal.Refusal.{Refusal}
 use Rattle.modules.specs.declared.refusal.Refusal.TheVariants as refusals
+use Rattle.modules.specs.declared.reply.RequestChanges.{RequestChanges}
 use Rattle.requests.specs.Reasons as reasons
 use Rattle.requests.specs.Reasons.{RequestReason, file_refused, missed, refused_edit, bad_arguments}
 use Rattle.requests.specs.Requests.{RequestedAction, request_of}
@@ -24,6 +25,7 @@ use Rattle.search.specs.Reasons.{FindReason}
 use Rattle.failedcommands.proofs.TrialLemmas.{reason_in}
 use Rattle.failedcommands.specs.Failing.{words_of}
 use Rattle.failedcommands.specs.declared.location.FileExplanation.{FileExplanation}
+use Rattle.explanations.proofs.AdviceLemmas.{Answers}
 use Rattle.explanations.proofs.LocationLemmas.{locates_later, none_located_later}
 use Rattle.explanations.specs.Advised.{ComesTo, IsAdvised}
 use Rattle.explanations.specs.Explained.{IsExplained, IsFile, IsOfOutcome, IsOfUsage, IsSound, IsWhy}
@@ -165,6 +167,17 @@ pub applies_later : (before now : Files → Listings → Type 0) (limits : Limit
 applies_later before now limits shell e action narrows memory failed h = tt
 applies_later before now limits shell e action narrows device failed h = h
 applies_later before now limits shell e action narrows (because r) failed h = λ files listings a. h files listings (narrows files listings a)
+
+-- what is said of a request that is refused, by what the call for it answers
+pub outcomes_of : (before now : Files → Listings → Type 0) (limits : Limits) (shell : Shell) (e : Environment) (action : RequestedAction) → Narrows before now
+    → (refusal : Refusal) (failed : Type 0) (answer : Result RequestChanges Refusal) (r : Result Explanation Refusal) → answer ≡ Err refusal → is_given_up (cause_of refusal) ≡ false
+    → Answers before limits shell e failed action answer → IfOk r (λ x. IsFileOf now limits shell e action refusal x.file)
+    → IfOk r (λ x. IfBecause (cause_of refusal) (λ reason. IsAdvised now limits shell e action reason x.advice)) → IfOk r (IsOfOutcome now limits shell e action)
+outcomes_of before now limits shell e action narrows refusal failed answer r is reason over_tree file advised =
+    outcomes now limits shell e action refusal failed r reason
+    (applies_later before now limits shell e action narrows (cause_of refusal) failed
+    (subst (λ (r : Result RequestChanges Refusal). Answers before limits shell e failed action r) is over_tree))
+    file advised
 
 -- ---- the words
 

@@ -6,4 +6,5 @@ pub mod AdviceLemmas
 pub mod AutomaticLemmas
 pub mod UnknownLemmas
 pub mod EvaluatedLemmas
+pub mod PartLemmas
 pub mod ExplainedLemmas

@@ -9,6 +9,8 @@ use Rattle.shelltext.specs.declared.shell.Shell.{Shell}
 use Rattle.modulefile.specs.Answers.{FileContext}
 use Rattle.modulefile.specs.Files.{FileReason}
 use Rattle.modulefile.specs.RecordViews.{mode_view}
+use Rattle.modules.specs.declared.refusal.Refusal.{Refusal}
+use Rattle.modules.specs.declared.refusal.Refusal.TheVariants as refusals
 use Rattle.requests.specs.Reasons.{file_refused}
 use Rattle.requests.specs.Steps.{RequestContext, RequestStep}
 use Rattle.explanations.specs.Evaluated as spec
@@ -41,6 +43,11 @@ file_context shell file =
 
 abbrev pub files_view : Shell → Vec EvaluatedFile Global → List FileContext
 files_view shell files = map (file_context shell) files.items
+
+-- the refusal is by a modulefile
+abbrev pub is_of_file : Refusal → Bool
+is_of_file (refusals.Run fault) = true
+is_of_file refusal = false
 
 -- A part is done: its file joins the others, and the environment is that which it makes; or it is refused for its file.
 abbrev pub Outcome : RequestContext → Environment → Environment → spec.NamePart → Bool → Type 0

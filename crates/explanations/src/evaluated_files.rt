@@ -13,6 +13,7 @@ ghost use Rattle.requests.specs.Steps as steps;
 ghost use Rattle.requests.specs.Steps.{request_context_in};
 ghost use Rattle.explanations.specs.Evaluated as spec;
 ghost use Rattle.explanations.specs.Evaluated.{AreEvaluated, AreEvaluatedFor, FileOf, FoundOrMissed};
+ghost use Rattle.explanations.specs.EvaluatedViews as views;
 ghost use Rattle.explanations.specs.EvaluatedViews.{IsPassed, file_context, files_view, module_view, part_view};
 
 use crate::refused::{RefusedRequest, searched_path};
@@ -20,12 +21,12 @@ use envloaded::{Loaded, loaded, names_of};
 use envvars::Env;
 use envvars::fields::owned;
 use filetree::Tree;
-use givenup::unless_given_up;
+use givenup::{is_search_given_up, unless_given_up};
 use lookup::EvaluatedDefaultFiles;
 use modulefile::Mode;
 use modules::{Action, Refusal, Request, make_changes};
 use requests::last_meant;
-use search::{FindFault, locate};
+use search::locate;
 use std::alloc::{AllocError, Global};
 
 /// The file of a module, with what it is evaluated under.
@@ -125,14 +126,13 @@ fn found<T: Tree>(
             name: module.name,
             path: module.path,
         })),
-        Err(FindFault::OutOfMemory) => Err(Refusal::OutOfMemory),
-        Err(FindFault::Device) => Err(Refusal::Find(FindFault::Device)),
-        Err(
-            FindFault::NotFound(_)
-            | FindFault::BadName(_)
-            | FindFault::BadDefaultFile(_)
-            | FindFault::NotUtf8(_),
-        ) => Ok(None),
+        Err(fault) => {
+            if is_search_given_up(&fault) {
+                Err(Refusal::Find(fault))
+            } else {
+                Ok(None)
+            }
+        }
     }
 }
 
@@ -209,6 +209,13 @@ fn push_file(files: &mut Vec<EvaluatedFile>, file: Option<EvaluatedFile>) -> Res
     Ok(())
 }
 
+/// Whether a refusal is by a modulefile.
+fn is_of_file(refusal: &Refusal) -> bool
+    ensures { result ≡ views.is_of_file refusal.now }
+{
+    matches!(refusal, Refusal::Run(_))
+}
+
 /// Does a part of a request in an environment, after its file is added to the others. It says whether the part is
 /// refused for its file.
 fn pass<T: Tree>(
@@ -234,7 +241,7 @@ fn pass<T: Tree>(
     match unless_given_up(outcome)? {
         Ok(_) => Ok(false),
         // Half of a switch is also refused where only the whole keeps what others need.
-        Err(refusal) => Ok(matches!(refusal, Refusal::Run(_))),
+        Err(refusal) => Ok(is_of_file(&refusal)),
     }
 }
 

@@ -1,4 +1,5 @@
 //! Where the device failed.
+ghost use Rattle.std.specs.Prelude.{◌≡◌, true, IfSome, string_bytes};
 
 use envvars::Env;
 use filetree::{SeenPath, Tree, TreeFault};
@@ -8,36 +9,47 @@ use tclrules::Limits;
 
 /// A tree over another, which keeps the path at which the device failed last.
 #[derive(Drop)]
-struct WatchedTree<'a, T> {
+struct WatchedTree<'a, T: Tree> {
     tree: &'a mut T,
     alloc: Global,
-    failed: Option<String>,
+    last: Option<String>,
+    ghost noted: { IfSome last (λ path. T.failed tree.now (string_bytes path) ≡ true) },
 }
 
 /// A copy of the path, where there is memory for it.
-fn kept(alloc: Global, path: &str) -> Option<String> {
+fn kept(alloc: Global, path: &str) -> Option<String>
+    ensures { IfSome result (λ copy. string_bytes copy ≡ path.now) }
+{
     String::from_str(alloc, path).ok()
 }
 
 impl<T: Tree> Tree for WatchedTree<'_, T> {
     ghost failures = { λ t. T.failures t.tree.now };
 
+    ghost failed = { λ t. T.failed t.tree.now };
+
     ghost agrees = { λ t files listings. T.agrees t.tree.now files listings };
 
     fn read(&mut self, path: &str) -> Result<Option<Vec<u8>>, TreeFault> {
-        let answer = self.tree.read(path);
-        if let Err(TreeFault::Device) = &answer {
-            self.failed = kept(self.alloc, path);
+        match self.tree.read(path) {
+            Ok(answer) => Ok(answer),
+            Err(TreeFault::OutOfMemory) => Err(TreeFault::OutOfMemory),
+            Err(TreeFault::Device) => {
+                self.last = kept(self.alloc, path);
+                Err(TreeFault::Device)
+            }
         }
-        answer
     }
 
     fn begins_with(&mut self, path: &str, prefix: &[u8]) -> Result<bool, TreeFault> {
-        let answer = self.tree.begins_with(path, prefix);
-        if let Err(TreeFault::Device) = &answer {
-            self.failed = kept(self.alloc, path);
+        match self.tree.begins_with(path, prefix) {
+            Ok(answer) => Ok(answer),
+            Err(TreeFault::OutOfMemory) => Err(TreeFault::OutOfMemory),
+            Err(TreeFault::Device) => {
+                self.last = kept(self.alloc, path);
+                Err(TreeFault::Device)
+            }
         }
-        answer
     }
 
     fn may_list(&self, path: &str) -> bool {
@@ -45,37 +57,45 @@ impl<T: Tree> Tree for WatchedTree<'_, T> {
     }
 
     fn see(&mut self, path: &str, prefix: &[u8]) -> Result<SeenPath, TreeFault> {
-        let answer = self.tree.see(path, prefix);
-        if let Err(TreeFault::Device) = &answer {
-            self.failed = kept(self.alloc, path);
+        match self.tree.see(path, prefix) {
+            Ok(answer) => Ok(answer),
+            Err(TreeFault::OutOfMemory) => Err(TreeFault::OutOfMemory),
+            Err(TreeFault::Device) => {
+                self.last = kept(self.alloc, path);
+                Err(TreeFault::Device)
+            }
         }
-        answer
     }
 
     fn entries(&mut self, dir: &str) -> Result<Option<Vec<String>>, TreeFault> {
-        let answer = self.tree.entries(dir);
-        if let Err(TreeFault::Device) = &answer {
-            self.failed = kept(self.alloc, dir);
+        match self.tree.entries(dir) {
+            Ok(answer) => Ok(answer),
+            Err(TreeFault::OutOfMemory) => Err(TreeFault::OutOfMemory),
+            Err(TreeFault::Device) => {
+                self.last = kept(self.alloc, dir);
+                Err(TreeFault::Device)
+            }
         }
-        answer
     }
 
     ghost satisfiable = { λ t. T.satisfiable t.tree.now };
 }
 
-/// The path at which the device fails in a request, if it does.
+/// A path at which the device fails in a request, the last one; nothing where it doesn't fail, or memory runs out.
 pub fn failed_path<T: Tree>(
     alloc: Global,
     request: &Request,
     env: &Env,
     tree: &mut T,
     limits: Limits,
-) -> Option<String> {
+) -> Option<String>
+    ensures { IfSome result (λ path. T.failed tree.new (string_bytes path) ≡ true) }
+{
     let mut watched = WatchedTree {
         tree,
         alloc,
-        failed: None,
+        last: None,
     };
     let _ = run_changes(alloc, request, env, &mut watched, limits);
-    watched.failed
+    watched.last
 }

@@ -11,7 +11,7 @@ use modules::Refusal;
 use search::FindFault;
 
 /// Whether a search was given up: memory ran out, or the device failed.
-fn is_find_given_up(fault: &FindFault) -> bool
+pub fn is_search_given_up(fault: &FindFault) -> bool
     ensures { result ≡ is_given_up (by_search (finds.cause_of fault.now)) }
 {
     match fault {
@@ -30,7 +30,7 @@ pub fn is_given_up(refusal: &Refusal) -> bool
     match refusal {
         Refusal::OutOfMemory => true,
         Refusal::Run(fault) => wants_memory(fault),
-        Refusal::Find(fault) => is_find_given_up(fault),
+        Refusal::Find(fault) => is_search_given_up(fault),
         Refusal::Env(fault) => matches!(fault, EnvFault::OutOfMemory),
         Refusal::BadArguments
         | Refusal::UnknownSubcommand(_)

@@ -4,4 +4,4 @@
 
 mod given_up;
 
-pub use given_up::{is_given_up, unless_given_up};
+pub use given_up::{is_given_up, is_search_given_up, unless_given_up};

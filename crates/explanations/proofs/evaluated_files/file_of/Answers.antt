@@ -1,0 +1,29 @@
+use Rattle.std.proofs.Common.{◌≡◌, map, List, Option, Some, refl, ap, subst, sym, ◌∙◌}
+use Rattle.std.specs.Option.{option_map}
+use Rattle.envloaded.specs.Loaded.{Entry}
+use Rattle.envloaded.specs.LoadedEntries.{entry_view}
+use Rattle.envloaded.specs.declared.entry.Loaded.{Loaded}
+use Rattle.modulefile.specs.RecordViews.{mode_view}
+use Rattle.requests.specs.Steps.{request_context_in}
+use Rattle.explanations.specs.Evaluated.{IsMeant}
+use Rattle.explanations.specs.EvaluatedViews.{module_view}
+use Rattle.explanations.specs.declared.evaluated_files.ModulePath as code_module
+use Rattle.explanations.proofs.evaluated_files.file_of.Goals as goal
+
+pub returns-in-Some-clause-file : goal.returns-in-Some-clause-file
+returns-in-Some-clause-file g c =
+    λ files listings a.
+    let s = request_context_in c.args.refused.limits c.args.refused.request.now.shell files listings in
+    let Meant : List Loaded → Option code_module.ModulePath → Type 0 =
+    λ l o. IsMeant s c.args.env.now (map entry_view l) (mode_view c.args.part.mode) c.args.part.name.now (option_map module_view o) in
+    record {
+      entries = map entry_view c.in_ok-entries.entries.items;
+      loaded = c.in_ok-entries.ensures;
+      target = Some (module_view c.in-Some.target);
+      meant = subst (λ (o : Option code_module.ModulePath). Meant c.in_ok-entries.entries.items o) c.in-Some.is
+          (subst (λ (l : List Loaded). Meant l c.in_ok-meant.field-0) c.as_slice.ensures.value (c.in_ok-meant.ensures.meant files listings a));
+      context = ?;
+    }
+
+pub returns-in-None-clause-file : goal.returns-in-None-clause-file
+returns-in-None-clause-file g c = ?
