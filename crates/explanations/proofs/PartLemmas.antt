@@ -26,9 +26,11 @@ use Rattle.modules.specs.Views.{done_view}
 use Rattle.modules.specs.declared.refusal.Refusal.{Refusal}
 use Rattle.modules.specs.declared.refusal.Refusal.TheVariants as refusals
 use Rattle.modules.specs.declared.done.RequestResults.{RequestResults}
-use Rattle.requests.specs.Reasons.{RequestReason, file_refused}
+use Rattle.requests.specs.Reasons.{RequestReason, file_refused, missed}
 use Rattle.requests.specs.Requests.{RequestedAction}
-use Rattle.requests.specs.Steps.{RequestContext, RequestStep, last_meant, request_context_in}
+use Rattle.requests.specs.Steps.{RequestContext, RequestStep, last_meant, modulepath, request_context_in}
+use Rattle.lookup.specs.DefaultFileResults.{HasResult}
+use Rattle.search.specs.Found.{Found, FoundModule}
 use Rattle.search.specs.Reasons.{FindReason}
 use Rattle.explanations.specs.Evaluated as spec
 use Rattle.explanations.specs.Evaluated.{FoundOrMissed, IsMeant, Makes}
@@ -65,6 +67,14 @@ recorded_none entries name o h is =
     let none : None ≡ last_meant name entries =
     subst (λ (o : Option (Bor Loaded)). option_map (λ (x : Bor Loaded). entry_view x.now) o ≡ last_meant name entries) is h in
     ap (λ (o : Option Entry). option_map spec.entry_path o) none
+
+module _ (s : RequestContext) (e : Environment) (name path : Text) (same : path ≡ modulepath e) where
+  -- by the search
+  pub found_one : (m : FoundModule) → Found (HasResult s.limits) s.files s.listings path name (Ok m) → FoundOrMissed s e name (Some (spec.found_path m))
+  found_one m h = let P : Text → Type 0 = λ p. Found (HasResult s.limits) s.files s.listings p name (Ok m) in (m, (Ok m, subst P same h, refl), refl)
+
+  pub none_found : (reason : FindReason) → Found (HasResult s.limits) s.files s.listings path name (Err reason) → FoundOrMissed s e name None
+  none_found reason h = let P : Text → Type 0 = λ p. Found (HasResult s.limits) s.files s.listings p name (Err reason) in (missed reason, (Err reason, subst P same h, refl))
 
 -- a search that isn't given up has a reason
 pub search_reason : (c : Cause FindReason) (failed : Type 0) (P : FindReason → Type 0) → is_given_up (by_search c) ≡ false → Applies c failed P → (r : FindReason) × P r
