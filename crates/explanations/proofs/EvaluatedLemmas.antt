@@ -34,16 +34,16 @@ module _ (s : RequestContext) (e : Environment) (parts : List NamePart) (i : ℕ
   -- one part more is done
   pub passes_more : Passes s e (map part_view (take i parts)) files now → (b : Bool) → b ≡ false → IsPassed s now after (part_view part) files files' b
       → Passes s e (map part_view (take (i + 1) parts)) files' after
-  passes_more before true no h = absurd (cc)
-  passes_more before false no h =
+  passes_more before true isnt h = absurd (cc)
+  passes_more before false isnt h =
       rw (views_more part_view parts i part below is, h.joined)
       (part_more (map part_view (take i parts)) files now (part_view part) h.file after before h.here h.outcome)
 
   -- or it is refused
   pub stops_here : Passes s e (map part_view (take i parts)) files now → (b : Bool) → b ≡ true → IsPassed s now after (part_view part) files files' b
       → AreEvaluatedFor s e (map part_view parts) files'
-  stops_here before false yes h = absurd (cc)
-  stops_here before true yes h = inr (record {
+  stops_here before false is_so h = absurd (cc)
+  stops_here before true is_so h = inr (record {
     front = map part_view (take i parts);
     part = part_view part;
     rest = map part_view (drop (i + 1) parts);

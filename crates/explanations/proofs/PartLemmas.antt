@@ -27,7 +27,7 @@ use Rattle.modules.specs.declared.refusal.Refusal.{Refusal}
 use Rattle.modules.specs.declared.refusal.Refusal.TheVariants as refusals
 use Rattle.modules.specs.declared.done.RequestResults.{RequestResults}
 use Rattle.requests.specs.Reasons.{RequestReason, file_refused, missed}
-use Rattle.requests.specs.Requests.{RequestedAction}
+use Rattle.requests.specs.Requests.{RequestedAction, switch}
 use Rattle.requests.specs.Steps.{RequestContext, RequestStep, last_meant, modulepath, request_context_in}
 use Rattle.lookup.specs.DefaultFileResults.{HasResult}
 use Rattle.search.specs.Found.{Found, FoundModule}
@@ -169,10 +169,10 @@ module _ (agrees : Files → Listings → Type 0) (limits : Limits) (shell : She
 
 -- ---- the parts of a request
 
--- the parts for names, of an action that asks for these
-pub parts_asked : (mode : Mode) (names : List Text) (action : RequestedAction) (r : Result (Vec code_part.NamePart Global) AllocError) (unloaded : List Text)
-    → ((entries : List Entry) → unloaded ≡ reverse (names_of entries) → spec.parts_for (mode_view mode) names ≡ spec.parts_of entries action)
-    → IfOk r (λ parts. map part_view parts.items ≡ spec.parts_for (mode_view mode) names)
+-- those of a switch
+pub parts_switched : (action : RequestedAction) (old : Option Text) (new shown : Text) (r : Result (Vec code_part.NamePart Global) AllocError) (unloaded : List Text)
+    → action ≡ switch old new → shown ≡ new → IfOk r (λ parts. (entries : List Entry) → map part_view parts.items ≡ spec.parts_of entries (switch old shown))
     → IfOk r (λ parts. (entries : List Entry) → unloaded ≡ reverse (names_of entries) → map part_view parts.items ≡ spec.parts_of entries action)
-parts_asked mode names action (Ok parts) unloaded asked h = λ entries is. h ∙ asked entries is
-parts_asked mode names action (Err e) unloaded asked h = tt
+parts_switched action old new shown (Ok parts) unloaded asked same h = λ entries is.
+    h entries ∙ (ap (λ (t : Text). spec.parts_of entries (switch old t)) same ∙ ap (λ (a : RequestedAction). spec.parts_of entries a) (sym asked))
+parts_switched action old new shown (Err e) unloaded asked same h = tt

@@ -1,12 +1,12 @@
-use Rattle.std.proofs.Common.{◌≡◌, map, List, Option, Some, refl, ap, subst, sym, ◌∙◌}
+use Rattle.std.proofs.Common.{map, List, Option, Some, None, refl, ap, subst, ◌∙◌}
 use Rattle.std.specs.Option.{option_map}
-use Rattle.envloaded.specs.Loaded.{Entry}
 use Rattle.envloaded.specs.LoadedEntries.{entry_view}
 use Rattle.envloaded.specs.declared.entry.Loaded.{Loaded}
+use Rattle.modulefile.specs.Answers.{FileContext}
 use Rattle.modulefile.specs.RecordViews.{mode_view}
 use Rattle.requests.specs.Steps.{request_context_in}
-use Rattle.explanations.specs.Evaluated.{IsMeant}
-use Rattle.explanations.specs.EvaluatedViews.{module_view}
+use Rattle.explanations.specs.Evaluated.{IsMeant, part_context}
+use Rattle.explanations.specs.EvaluatedViews.{module_view, part_view}
 use Rattle.explanations.specs.declared.evaluated_files.ModulePath as code_module
 use Rattle.explanations.proofs.evaluated_files.file_of.Goals as goal
 
@@ -22,8 +22,21 @@ returns-in-Some-clause-file g c =
       target = Some (module_view c.in-Some.target);
       meant = subst (λ (o : Option code_module.ModulePath). Meant c.in_ok-entries.entries.items o) c.in-Some.is
           (subst (λ (l : List Loaded). Meant l c.in_ok-meant.field-0) c.as_slice.ensures.value (c.in_ok-meant.ensures.meant files listings a));
-      context = ?;
+      context = ap (λ (x : FileContext). Some x) (c.in_ok-file.ensures s
+          ∙ ap (λ (l : List Loaded). part_context s c.args.env.now (map entry_view l) (part_view c.args.part) (module_view c.in-Some.target)) c.as_slice-2.ensures.value);
     }
 
 pub returns-in-None-clause-file : goal.returns-in-None-clause-file
-returns-in-None-clause-file g c = ?
+returns-in-None-clause-file g c =
+    λ files listings a.
+    let s = request_context_in c.args.refused.limits c.args.refused.request.now.shell files listings in
+    let Meant : List Loaded → Option code_module.ModulePath → Type 0 =
+    λ l o. IsMeant s c.args.env.now (map entry_view l) (mode_view c.args.part.mode) c.args.part.name.now (option_map module_view o) in
+    record {
+      entries = map entry_view c.in_ok-entries.entries.items;
+      loaded = c.in_ok-entries.ensures;
+      target = None;
+      meant = subst (λ (o : Option code_module.ModulePath). Meant c.in_ok-entries.entries.items o) c.in-None.is
+          (subst (λ (l : List Loaded). Meant l c.in_ok-meant.field-0) c.as_slice.ensures.value (c.in_ok-meant.ensures.meant files listings a));
+      context = refl;
+    }

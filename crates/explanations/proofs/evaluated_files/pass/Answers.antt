@@ -8,7 +8,7 @@ use Rattle.modules.specs.declared.done.RequestResults.{RequestResults}
 use Rattle.requests.specs.RequestViews.{action_view}
 use Rattle.explanations.specs.EvaluatedViews.{file_context, part_view}
 use Rattle.explanations.proofs.EvaluatedLemmas.{file_joined}
-use Rattle.explanations.proofs.PartLemmas.{part_made, part_refused_so}
+use Rattle.explanations.proofs.PartLemmas.{part_made, part_refused}
 use Rattle.explanations.proofs.evaluated_files.pass.Goals as goal
 
 pub returns-in-Ok-clause-passed : goal.returns-in-Ok-clause-passed
