@@ -1,17 +1,21 @@
 -- The files that are evaluated for parts of a request, one after another.
-use Rattle.std.proofs.Common.{◌≡◌, ℕ, ◌+◌, ◌<◌, ◌≤◌, Bool, true, false, List, [], ◌∷◌, ◌++◌, length, map, take, drop, get_or, Option, Some, None, Result, Ok, Err, inl, inr, refl, sym, ap, subst, ◌∙◌}
+use Rattle.std.proofs.Common.{◌≡◌, ℕ, ◌+◌, ◌<◌, ◌≤◌, Bool, true, false, List, [], ◌∷◌, ◌++◌, length, map, take, drop, get_or, Option, Some, None, Result, Ok, Err, IfOk, inl, inr, refl, sym, ap, subst, ◌∙◌}
 use Rattle.std.proofs.lemmas.List.{take-append-drop, take_all, take_more, drop_more, map-append}
 use Rattle.std.specs.Option.{option_map, option_to_list}
 use Rattle.std.specs.declared.alloc.Global.{Global}
 use Rattle.std.specs.declared.vec.Vec.{Vec}
+use Rattle.envloaded.specs.Loaded.{Entry, loaded_in}
 use Rattle.envvars.specs.Environment.{Environment}
 use Rattle.filetree.specs.Agreement.{Files, Listings, InEachPair}
 use Rattle.givenup.specs.Causes.{is_given_up}
 use Rattle.shelltext.specs.declared.shell.Shell.{Shell}
 use Rattle.modulefile.specs.Answers.{FileContext}
-use Rattle.requests.specs.Steps.{RequestContext}
+use Rattle.modules.specs.declared.refusal.Refusal.{Refusal}
+use Rattle.requests.specs.Requests.{RequestedAction}
+use Rattle.requests.specs.Steps.{RequestContext, request_context_in}
+use Rattle.tclrules.specs.declared.limits.Limits.{Limits}
 use Rattle.explanations.specs.Evaluated as spec
-use Rattle.explanations.specs.Evaluated.{AreEvaluatedFor, FileOf, Makes, Passes, nothing, part_more, Stops, action_of}
+use Rattle.explanations.specs.Evaluated.{AreEvaluated, AreEvaluatedFor, FileOf, Makes, Passes, nothing, part_more, Stops, action_of}
 use Rattle.explanations.specs.EvaluatedViews.{IsPassed, file_context, files_view, part_view}
 use Rattle.explanations.specs.declared.evaluated_files.EvaluatedFile.{EvaluatedFile}
 use Rattle.explanations.specs.declared.evaluated_files.NamePart.{NamePart}
@@ -69,3 +73,12 @@ pub file_joined : (shell : Shell) (old new : List EvaluatedFile) (file : Option 
     → map (file_context shell) new ≡ map (file_context shell) old ++ option_to_list (option_map (file_context shell) file)
 file_joined shell old new None h = ap (λ (l : List EvaluatedFile). map (file_context shell) l) h ∙ map-append (file_context shell) old []
 file_joined shell old new (Some file) h = ap (λ (l : List EvaluatedFile). map (file_context shell) l) h ∙ map-append (file_context shell) old (file ∷ [])
+
+-- the files of the parts are those of the request
+pub evaluated_by : (agrees : Files → Listings → Type 0) (limits : Limits) (shell : Shell) (e : Environment) (action : RequestedAction) (entries : List Entry) → loaded_in e ≡ Some entries
+    → (parts : List spec.NamePart) → parts ≡ spec.parts_of entries action → (r : Result (Vec EvaluatedFile Global) Refusal)
+    → IfOk r (λ files. InEachPair agrees (λ maps listings. AreEvaluatedFor (request_context_in limits shell maps listings) e parts (files_view shell files)))
+    → IfOk r (λ files. InEachPair agrees (λ maps listings. AreEvaluated (request_context_in limits shell maps listings) e action (files_view shell files)))
+evaluated_by agrees limits shell e action entries loaded parts is (Ok files) h = λ maps listings a.
+    (entries, loaded, subst (λ (l : List spec.NamePart). AreEvaluatedFor (request_context_in limits shell maps listings) e l (files_view shell files)) is (h maps listings a))
+evaluated_by agrees limits shell e action entries loaded parts is (Err refusal) h = tt

@@ -1,4 +1,4 @@
-use Rattle.std.proofs.Common.{◌≡◌, List, String, string_bytes, map, reverse, ap, subst, ◌∙◌}
+use Rattle.std.proofs.Common.{◌≡◌, List, String, string_bytes, map, reverse, ap, ◌∙◌}
 use Rattle.std.specs.declared.alloc.Global.{Global}
 use Rattle.envloaded.specs.Loaded.{Entry, names_of}
 use Rattle.envloaded.specs.LoadedEntries.{entry_view}
@@ -6,11 +6,10 @@ use Rattle.envloaded.specs.declared.entry.Loaded.{Loaded}
 use Rattle.envvars.specs.Texts.{Text}
 use Rattle.requests.proofs.ListLemmas.{names_reverse}
 use Rattle.requests.specs.RequestViews.{action_view}
-use Rattle.requests.specs.Steps.{request_context_in}
-use Rattle.explanations.specs.Evaluated as spec
-use Rattle.explanations.specs.Evaluated.{AreEvaluatedFor, parts_of}
-use Rattle.explanations.specs.EvaluatedViews.{files_view, part_view}
+use Rattle.explanations.specs.Evaluated.{parts_of}
+use Rattle.explanations.specs.EvaluatedViews.{part_view}
 use Rattle.explanations.specs.declared.evaluated_files.NamePart as code_part
+use Rattle.explanations.proofs.EvaluatedLemmas.{evaluated_by}
 use Rattle.explanations.proofs.evaluated_files.evaluated_files.Goals as goal
 
 pub returns-clause-evaluated : goal.returns-clause-evaluated
@@ -24,7 +23,5 @@ returns-clause-evaluated g c =
     ∙ (names_reverse c.in_ok-unloaded.unloaded.items ∙ ap (λ (l : List Text). reverse l) names) in
     let parts : map part_view c.as_slice-3.result.now ≡ parts_of entries action =
     ap (λ (l : List code_part.NamePart). map part_view l) c.as_slice-3.ensures.value ∙ c.in_ok-parts.ensures entries unloaded in
-    λ maps listings a.
-    (entries, c.in_ok-entries.ensures,
-    subst (λ (l : List spec.NamePart). AreEvaluatedFor (request_context_in c.args.refused.limits c.args.refused.request.now.shell maps listings) c.args.refused.env.now l
-    (files_view c.args.refused.request.now.shell c.in_ok-files_of.field-0)) parts (c.in_ok-files_of.ensures.evaluated maps listings a))
+    evaluated_by (g.T.Tree.agrees c.files_of.new.tree) c.args.refused.limits c.args.refused.request.now.shell c.args.refused.env.now action entries c.in_ok-entries.ensures
+    (map part_view c.as_slice-3.result.now) parts c.files_of.result c.files_of.ensures.evaluated

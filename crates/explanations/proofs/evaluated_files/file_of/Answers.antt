@@ -21,13 +21,13 @@ returns-in-Some-clause-file g c =
       loaded = c.in_ok-entries.ensures;
       target = Some (module_view c.in-Some.target);
       meant = subst (λ (o : Option code_module.ModulePath). Meant c.in_ok-entries.entries.items o) c.in-Some.is
-          (subst (λ (l : List Loaded). Meant l c.in_ok-meant.field-0) c.as_slice.ensures.value (c.in_ok-meant.ensures.meant files listings a));
-      context = ap (λ (x : FileContext). Some x) (c.in_ok-file.ensures s
-          ∙ ap (λ (l : List Loaded). part_context s c.args.env.now (map entry_view l) (part_view c.args.part) (module_view c.in-Some.target)) c.as_slice-2.ensures.value);
+          (subst (λ (l : List Loaded). Meant l c.in_ok-target.field-0) c.as_slice.ensures.value (c.in_ok-target.ensures.meant files listings a));
+      context = ap (λ (x : FileContext). Some x) (c.in_ok-file-in-Some.ensures s
+          ∙ ap (λ (l : List Loaded). part_context s c.args.env.now (map entry_view l) (part_view c.args.part) (module_view c.in-Some.target)) c.as_slice-in-Some.ensures.value);
     }
 
-pub returns-in-None-clause-file : goal.returns-in-None-clause-file
-returns-in-None-clause-file g c =
+pub returns-clause-file : goal.returns-clause-file
+returns-clause-file g c =
     λ files listings a.
     let s = request_context_in c.args.refused.limits c.args.refused.request.now.shell files listings in
     let Meant : List Loaded → Option code_module.ModulePath → Type 0 =
@@ -37,6 +37,6 @@ returns-in-None-clause-file g c =
       loaded = c.in_ok-entries.ensures;
       target = None;
       meant = subst (λ (o : Option code_module.ModulePath). Meant c.in_ok-entries.entries.items o) c.in-None.is
-          (subst (λ (l : List Loaded). Meant l c.in_ok-meant.field-0) c.as_slice.ensures.value (c.in_ok-meant.ensures.meant files listings a));
+          (subst (λ (l : List Loaded). Meant l c.in_ok-target.field-0) c.as_slice.ensures.value (c.in_ok-target.ensures.meant files listings a));
       context = refl;
     }
