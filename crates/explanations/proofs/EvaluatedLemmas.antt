@@ -21,37 +21,33 @@ use Rattle.explanations.specs.declared.evaluated_files.EvaluatedFile.{EvaluatedF
 use Rattle.explanations.specs.declared.evaluated_files.NamePart.{NamePart}
 
 -- a list that is seen by a view, up to one of its elements, with it, and whole
-module _ {A B : Type 0} (view : A → B) (xs : List A) (i : ℕ) (x : A) (below : i < length xs) (is : x ≡ get_or xs i x) where
-  pub views_more : map view (take (i + 1) xs) ≡ map view (take i xs) ++ view x ∷ []
-  views_more =
-      ap (λ (l : List A). map view l) (take_more xs i x below) ∙ (map-append view (take i xs) (get_or xs i x ∷ [])
-      ∙ ap (λ (y : A). map view (take i xs) ++ view y ∷ []) (sym is))
+module _ {A B : Type 0} (view : A → B) (xs : List A) (i : ℕ) (d : A) (below : i < length xs) where
+  views_more : map view (take (i + 1) xs) ≡ map view (take i xs) ++ view (get_or xs i d) ∷ []
+  views_more = ap (λ (l : List A). map view l) (take_more xs i d below) ∙ map-append view (take i xs) (get_or xs i d ∷ [])
 
-  pub views_parted : map view xs ≡ map view (take i xs) ++ view x ∷ map view (drop (i + 1) xs)
+  views_parted : map view xs ≡ map view (take i xs) ++ view (get_or xs i d) ∷ map view (drop (i + 1) xs)
   views_parted =
-      ap (λ (l : List A). map view l) (sym (take-append-drop i xs) ∙ ap (λ (l : List A). take i xs ++ l) (drop_more xs i x below))
-      ∙ (map-append view (take i xs) (get_or xs i x ∷ drop (i + 1) xs)
-      ∙ ap (λ (y : A). map view (take i xs) ++ view y ∷ map view (drop (i + 1) xs)) (sym is))
+      ap (λ (l : List A). map view l) (sym (take-append-drop i xs) ∙ ap (λ (l : List A). take i xs ++ l) (drop_more xs i d below))
+      ∙ map-append view (take i xs) (get_or xs i d ∷ drop (i + 1) xs)
 
-module _ (s : RequestContext) (e : Environment) (parts : List NamePart) (i : ℕ) (part : NamePart) (below : i < length parts) (is : part ≡ get_or parts i part)
-    (files files' : List FileContext) (now after : Environment) where
+module _ (s : RequestContext) (e : Environment) (parts : List NamePart) (i : ℕ) (d : NamePart) (below : i < length parts) (files files' : List FileContext) (now after : Environment) where
   -- one part more is done
-  pub passes_more : Passes s e (map part_view (take i parts)) files now → (b : Bool) → b ≡ false → IsPassed s now after (part_view part) files files' b
+  pub passes_more : Passes s e (map part_view (take i parts)) files now → (b : Bool) → b ≡ false → IsPassed s now after (part_view (get_or parts i d)) files files' b
       → Passes s e (map part_view (take (i + 1) parts)) files' after
   passes_more before true isnt h = absurd (cc)
   passes_more before false isnt h =
-      rw (views_more part_view parts i part below is, h.joined)
-      (part_more (map part_view (take i parts)) files now (part_view part) h.file after before h.here h.outcome)
+      rw (views_more part_view parts i d below, h.joined)
+      (part_more (map part_view (take i parts)) files now (part_view (get_or parts i d)) h.file after before h.here h.outcome)
 
   -- or it is refused
-  pub stops_here : Passes s e (map part_view (take i parts)) files now → (b : Bool) → b ≡ true → IsPassed s now after (part_view part) files files' b
+  pub stops_here : Passes s e (map part_view (take i parts)) files now → (b : Bool) → b ≡ true → IsPassed s now after (part_view (get_or parts i d)) files files' b
       → AreEvaluatedFor s e (map part_view parts) files'
   stops_here before false is_so h = absurd (cc)
   stops_here before true is_so h = inr (record {
     front = map part_view (take i parts);
-    part = part_view part;
+    part = part_view (get_or parts i d);
     rest = map part_view (drop (i + 1) parts);
-    parted = views_parted part_view parts i part below is;
+    parted = views_parted part_view parts i d below;
     before = files;
     now = now;
     passed = before;

@@ -65,8 +65,8 @@ pub(crate) struct NamePart<'a> {
 
 impl NamePart<'_> {
     /// What is asked for.
-    fn action(self, alloc: Global) -> Result<Action, AllocError>
-        ensures { IfOk result (λ action. action_view action ≡ spec.action_of (part_view self.entry)) }
+    fn action(&self, alloc: Global) -> Result<Action, AllocError>
+        ensures { IfOk result (λ action. action_view action ≡ spec.action_of (part_view self.now)) }
     {
         let names = vec![in alloc; String::from_str(alloc, self.name)?]?;
         Ok(match self.mode {
@@ -139,7 +139,7 @@ fn found<T: Tree>(
 /// The module of a part of a request, where these modules are loaded.
 fn meant<T: Tree>(
     refused: RefusedRequest<'_>,
-    part: NamePart<'_>,
+    part: &NamePart<'_>,
     entries: &[Loaded],
     env: &Env,
     tree: &mut T,
@@ -147,7 +147,7 @@ fn meant<T: Tree>(
     ensures narrows { Narrows (T.agrees tree.old) (T.agrees tree.new) }
     ensures meant { IfOk result (λ o. InEachPair (T.agrees tree.new) (λ files listings.
         spec.IsMeant (request_context_in refused.entry.limits refused.entry.request.now.shell files listings) env.now
-        (map entry_view entries.now) (mode_view part.entry.mode) part.entry.name.now (option_map module_view o))) }
+        (map entry_view entries.now) (mode_view part.now.mode) part.now.name.now (option_map module_view o))) }
 {
     match part.mode {
         Mode::Unload => Ok(recorded(refused.alloc, part.name, entries)?),
@@ -158,13 +158,13 @@ fn meant<T: Tree>(
 /// The file of a module, as a part of a request evaluates it.
 fn file_for(
     alloc: Global,
-    part: NamePart<'_>,
+    part: &NamePart<'_>,
     target: ModulePath,
     entries: &[Loaded],
     env: &Env,
 ) -> Result<EvaluatedFile, Refusal>
     ensures { IfOk result (λ file. (s : steps.RequestContext) → file_context s.shell file
-        ≡ spec.part_context s env.now (map entry_view entries.now) (part_view part.entry) (module_view target)) }
+        ≡ spec.part_context s env.now (map entry_view entries.now) (part_view part.now) (module_view target)) }
 {
     Ok(EvaluatedFile {
         module: target.name,
@@ -180,14 +180,14 @@ fn file_for(
 /// The file that a part of a request evaluates in this environment, if there is one.
 fn file_of<T: Tree>(
     refused: RefusedRequest<'_>,
-    part: NamePart<'_>,
+    part: &NamePart<'_>,
     env: &Env,
     tree: &mut T,
 ) -> Result<Option<EvaluatedFile>, Refusal>
     ensures narrows { Narrows (T.agrees tree.old) (T.agrees tree.new) }
     ensures file { IfOk result (λ o. InEachPair (T.agrees tree.new) (λ files listings.
         FileOf (request_context_in refused.entry.limits refused.entry.request.now.shell files listings) env.now
-        (part_view part.entry) (option_map (file_context refused.entry.request.now.shell) o))) }
+        (part_view part.now) (option_map (file_context refused.entry.request.now.shell) o))) }
 {
     let entries = loaded(refused.alloc, env)?;
     match meant(refused, part, entries.as_slice(), env, tree)? {
@@ -220,7 +220,7 @@ fn is_of_file(refusal: &Refusal) -> bool
 /// refused for its file.
 fn pass<T: Tree>(
     refused: RefusedRequest<'_>,
-    part: NamePart<'_>,
+    part: &NamePart<'_>,
     files: &mut Vec<EvaluatedFile>,
     env: &mut Env,
     tree: &mut T,
@@ -228,7 +228,7 @@ fn pass<T: Tree>(
     ensures narrows { Narrows (T.agrees tree.old) (T.agrees tree.new) }
     ensures passed { IfOk result (λ is. InEachPair (T.agrees tree.new) (λ maps listings.
         IsPassed (request_context_in refused.entry.limits refused.entry.request.now.shell maps listings) env.old env.new
-        (part_view part.entry) (files_view refused.entry.request.now.shell files.old)
+        (part_view part.now) (files_view refused.entry.request.now.shell files.old)
         (files_view refused.entry.request.now.shell files.new) is)) }
 {
     let file = file_of(refused, part, env, tree)?;
@@ -260,7 +260,7 @@ fn files_of<T: Tree>(
     let mut files = Vec::new(refused.alloc);
     let mut env = refused.env.copy()?;
     for part in parts {
-        if pass(refused, *part, &mut files, &mut env, tree)? {
+        if pass(refused, part, &mut files, &mut env, tree)? {
             return Ok(files);
         }
     }

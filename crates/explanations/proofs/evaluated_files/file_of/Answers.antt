@@ -15,7 +15,7 @@ returns-in-Some-clause-file g c =
     λ files listings a.
     let s = request_context_in c.args.refused.limits c.args.refused.request.now.shell files listings in
     let Meant : List Loaded → Option code_module.ModulePath → Type 0 =
-    λ l o. IsMeant s c.args.env.now (map entry_view l) (mode_view c.args.part.mode) c.args.part.name.now (option_map module_view o) in
+    λ l o. IsMeant s c.args.env.now (map entry_view l) (mode_view c.args.part.now.mode) c.args.part.now.name.now (option_map module_view o) in
     record {
       entries = map entry_view c.in_ok-entries.entries.items;
       loaded = c.in_ok-entries.ensures;
@@ -23,7 +23,7 @@ returns-in-Some-clause-file g c =
       meant = subst (λ (o : Option code_module.ModulePath). Meant c.in_ok-entries.entries.items o) c.in-Some.is
           (subst (λ (l : List Loaded). Meant l c.in_ok-target.field-0) c.as_slice.ensures.value (c.in_ok-target.ensures.meant files listings a));
       context = ap (λ (x : FileContext). Some x) (c.in_ok-file-in-Some.ensures s
-          ∙ ap (λ (l : List Loaded). part_context s c.args.env.now (map entry_view l) (part_view c.args.part) (module_view c.in-Some.target)) c.as_slice-in-Some.ensures.value);
+          ∙ ap (λ (l : List Loaded). part_context s c.args.env.now (map entry_view l) (part_view c.args.part.now) (module_view c.in-Some.target)) c.as_slice-in-Some.ensures.value);
     }
 
 pub returns-clause-file : goal.returns-clause-file
@@ -31,7 +31,7 @@ returns-clause-file g c =
     λ files listings a.
     let s = request_context_in c.args.refused.limits c.args.refused.request.now.shell files listings in
     let Meant : List Loaded → Option code_module.ModulePath → Type 0 =
-    λ l o. IsMeant s c.args.env.now (map entry_view l) (mode_view c.args.part.mode) c.args.part.name.now (option_map module_view o) in
+    λ l o. IsMeant s c.args.env.now (map entry_view l) (mode_view c.args.part.now.mode) c.args.part.now.name.now (option_map module_view o) in
     record {
       entries = map entry_view c.in_ok-entries.entries.items;
       loaded = c.in_ok-entries.ensures;

@@ -23,7 +23,7 @@ loop-part-preserved g c = record {
   narrows = λ files listings a. c.loop-part.invariant.narrows files listings (c.pass.ensures.narrows files listings a);
   passed = λ maps listings a.
       passes_more (request_context_in c.args.refused.limits c.args.refused.request.now.shell maps listings) c.args.refused.env.now c.args.parts.now c.loop-part.part-index _
-      c.loop-part-test.true refl (files_view c.args.refused.request.now.shell c.loop-part.files) (files_view c.args.refused.request.now.shell c.pass.new.files) c.loop-part.env c.pass.new.env
+      c.loop-part-test.true (files_view c.args.refused.request.now.shell c.loop-part.files) (files_view c.args.refused.request.now.shell c.pass.new.files) c.loop-part.env c.pass.new.env
       (c.loop-part.invariant.passed maps listings (c.pass.ensures.narrows maps listings a)) c.in_ok-pass.field-0 c.if-branch.false (c.in_ok-pass.ensures.passed maps listings a);
 }
 
@@ -31,7 +31,7 @@ pub returns-then-branch-clause-evaluated : goal.returns-then-branch-clause-evalu
 returns-then-branch-clause-evaluated g c =
     λ maps listings a.
     stops_here (request_context_in c.args.refused.limits c.args.refused.request.now.shell maps listings) c.args.refused.env.now c.args.parts.now c.loop-part.part-index _
-    c.loop-part-test.true refl (files_view c.args.refused.request.now.shell c.loop-part.files) (files_view c.args.refused.request.now.shell c.pass.new.files) c.loop-part.env c.pass.new.env
+    c.loop-part-test.true (files_view c.args.refused.request.now.shell c.loop-part.files) (files_view c.args.refused.request.now.shell c.pass.new.files) c.loop-part.env c.pass.new.env
     (c.loop-part.invariant.passed maps listings (c.pass.ensures.narrows maps listings a)) c.in_ok-pass.field-0 c.if-branch.true (c.in_ok-pass.ensures.passed maps listings a)
 
 pub returns-clause-evaluated : goal.returns-clause-evaluated

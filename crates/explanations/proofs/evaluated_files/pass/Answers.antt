@@ -18,7 +18,7 @@ returns-in-Ok-clause-passed g c =
       here = c.in_ok-file.ensures.file maps listings (c.make_changes-outcome.ensures.reads.narrows maps listings a);
       joined = file_joined c.args.refused.request.now.shell c.args.files.now.items c.push_file.new.files.items c.in_ok-file.file c.in_ok-push_file.ensures;
       outcome =
-          part_made (g.T.Tree.agrees c.make_changes-outcome.new.tree) c.args.refused.limits c.args.refused.request.now.shell c.args.env.now c.make_changes-outcome.new.env (part_view c.args.part)
+          part_made (g.T.Tree.agrees c.make_changes-outcome.new.tree) c.args.refused.limits c.args.refused.request.now.shell c.args.env.now c.make_changes-outcome.new.env (part_view c.args.part.now)
           (action_view c.in_ok-action.field-0) c.in_ok-action.ensures _ c.make_changes-outcome.result c.in-Ok.field-0 (sym c.in_ok-unless_given_up.ensures.same ∙ c.in-Ok.is)
           c.make_changes-outcome.ensures.over_tree maps listings a;
     }
@@ -30,7 +30,7 @@ returns-clause-passed g c =
       here = c.in_ok-file.ensures.file maps listings (c.make_changes-outcome.ensures.reads.narrows maps listings a);
       joined = file_joined c.args.refused.request.now.shell c.args.files.now.items c.push_file.new.files.items c.in_ok-file.file c.in_ok-push_file.ensures;
       outcome =
-          part_refused (g.T.Tree.agrees c.make_changes-outcome.new.tree) c.args.refused.limits c.args.refused.request.now.shell c.args.env.now c.make_changes-outcome.new.env (part_view c.args.part)
+          part_refused (g.T.Tree.agrees c.make_changes-outcome.new.tree) c.args.refused.limits c.args.refused.request.now.shell c.args.env.now c.make_changes-outcome.new.env (part_view c.args.part.now)
           (action_view c.in_ok-action.field-0) c.in_ok-action.ensures _ c.make_changes-outcome.result c.in-Err.refusal c.is_of_file.result (sym c.in_ok-unless_given_up.ensures.same ∙ c.in-Err.is)
           (subst (λ (r : Result RequestResults Refusal). IfErr r (λ refusal. is_given_up (cause_of refusal) ≡ false)) c.in-Err.is c.in_ok-unless_given_up.ensures.kept)
           c.make_changes-outcome.ensures.unchanged c.is_of_file.ensures c.make_changes-outcome.ensures.over_tree maps listings a;
