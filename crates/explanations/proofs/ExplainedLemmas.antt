@@ -92,7 +92,7 @@ module _ (agrees : Files → Listings → Type 0) (limits : Limits) (shell : She
   no_file (reasons.still_needed_by name) not o h = h
   no_file (refused_edit reason) not o h = h
 
-  Said : Option FileExplanation → Cause RequestReason → Type 0
+  abbrev pub Said : Option FileExplanation → Cause RequestReason → Type 0
   Said o c = IfBecause c (λ r. ComesTo agrees limits shell e action (Err r) → IsFile agrees limits shell e action r o)
 
   by_find : (c : Cause FindReason) (o : Option FileExplanation) → o ≡ None → Said o (by_search c)

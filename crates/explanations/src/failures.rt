@@ -1,5 +1,6 @@
 //! Where the device failed.
 ghost use Rattle.std.specs.Prelude.{◌≡◌, true, IfSome, string_bytes};
+ghost use Rattle.explanations.specs.Failures.{has_failed};
 
 use envvars::Env;
 use filetree::{SeenPath, Tree, TreeFault};
@@ -13,7 +14,8 @@ struct WatchedTree<'a, T: Tree> {
     tree: &'a mut T,
     alloc: Global,
     last: Option<String>,
-    ghost noted: { IfSome last (λ path. T.failed tree.now (string_bytes path) ≡ true) },
+    /// The device has failed at the path.
+    ghost noted: { has_failed (T.failed tree.now) last ≡ true },
 }
 
 /// A copy of the path, where there is memory for it.
@@ -89,7 +91,7 @@ pub fn failed_path<T: Tree>(
     tree: &mut T,
     limits: Limits,
 ) -> Option<String>
-    ensures { IfSome result (λ path. T.failed tree.new (string_bytes path) ≡ true) }
+    ensures { has_failed (T.failed tree.new) result ≡ true }
 {
     let mut watched = WatchedTree {
         tree,

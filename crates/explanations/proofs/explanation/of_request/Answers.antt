@@ -14,8 +14,8 @@ returns-in-Ok-clause-said g c =
     inl (accepted_by (g.T.Tree.agrees c.run_changes-outcome.new.tree) c.args.refused.limits c.args.refused.request.now.shell c.args.refused.env.now _ (action_view c.args.refused.request.now.action)
     c.run_changes-outcome.result c.in-Ok.field-0 (sym c.in_ok-unless_given_up.ensures.same ∙ c.in-Ok.is) c.run_changes-outcome.ensures.over_tree, refl, refl)
 
-pub returns-in-Err-clause-said : goal.returns-in-Err-clause-said
-returns-in-Err-clause-said g c =
+pub returns-clause-said : goal.returns-clause-said
+returns-clause-said g c =
     let before = g.T.Tree.agrees c.run_changes-outcome.new.tree in
     let now = g.T.Tree.agrees c.of_refusal.new.tree in
     let limits = c.args.refused.limits in
@@ -27,8 +27,8 @@ returns-in-Err-clause-said g c =
     (subst (λ (r : Result RequestChanges Refusal). IfErr r (λ refusal. is_given_up (cause_of refusal) ≡ false)) c.in-Err.is c.in_ok-unless_given_up.ensures.kept)
     c.run_changes-outcome.ensures.over_tree c.of_refusal.ensures.file c.of_refusal.ensures.fits
 
-pub returns-in-Err-clause-why : goal.returns-in-Err-clause-why
-returns-in-Err-clause-why g c =
+pub returns-clause-why : goal.returns-clause-why
+returns-clause-why g c =
     let before = g.T.Tree.agrees c.run_changes-outcome.new.tree in
     let now = g.T.Tree.agrees c.of_refusal.new.tree in
     let limits = c.args.refused.limits in
