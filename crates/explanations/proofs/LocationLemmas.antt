@@ -93,9 +93,11 @@ module _ (before now : Files → Listings → Type 0) (limits : Limits) (narrows
 
   pub none_located_later : (shell : Shell) (e : Environment) (action : RequestedAction) (words : Words)
       → NoneIsLocated before limits shell e action words → NoneIsLocated now limits shell e action words
-  none_located_later shell e action words (files, evaluated, none) =
-      (files, (λ maps listings a. evaluated maps listings (narrows maps listings a)),
-      All-weaker (λ (c : FileContext). IsNotLocated before limits words c) (λ (c : FileContext). IsNotLocated now limits words c) (not_located_later words) files none)
+  none_located_later shell e action words (files, evaluated, none) = (
+    files,
+    (λ maps listings a. evaluated maps listings (narrows maps listings a)),
+    All-weaker (λ (c : FileContext). IsNotLocated before limits words c) (λ (c : FileContext). IsNotLocated now limits words c) (not_located_later words) files none,
+  )
 
 -- ---- the files of a request
 
@@ -113,11 +115,13 @@ pub none_located : (before now : Files → Listings → Type 0) (limits : Limits
     → IfOk r (λ o. IfNone o (All (λ (file : EvaluatedFile). IsNotLocated now limits said (file_context shell file)) taken))
     → IfOk r (λ o. IfNone o (NoneIsLocated now limits shell e action words))
 none_located before now limits shell e action words said files taken narrows same is evaluated (Ok (Some x)) h = tt
-none_located before now limits shell e action words said files taken narrows same is evaluated (Ok None) h =
-    (map (file_context shell) files, (λ maps listings a. evaluated maps listings (narrows maps listings a)),
-    All-map (λ (c : FileContext). IsNotLocated now limits words c) (file_context shell) files
-    (subst (λ (l : List EvaluatedFile). All (λ (file : EvaluatedFile). IsNotLocated now limits words (file_context shell file)) l) same
-    (subst (λ (w : Words). All (λ (file : EvaluatedFile). IsNotLocated now limits w (file_context shell file)) taken) is h)))
+none_located before now limits shell e action words said files taken narrows same is evaluated (Ok None) h = (
+  map (file_context shell) files,
+  (λ maps listings a. evaluated maps listings (narrows maps listings a)),
+  All-map (λ (c : FileContext). IsNotLocated now limits words c) (file_context shell) files
+      (subst (λ (l : List EvaluatedFile). All (λ (file : EvaluatedFile). IsNotLocated now limits words (file_context shell file)) l) same
+      (subst (λ (w : Words). All (λ (file : EvaluatedFile). IsNotLocated now limits w (file_context shell file)) taken) is h)),
+)
 none_located before now limits shell e action words said files taken narrows same is evaluated (Err e') h = tt
 
 -- the same of what is located

@@ -6,7 +6,6 @@ pub mod Evaluated
 pub mod Locations
 pub mod Explained
 -- what is said of it
-pub mod Failures
 pub mod FileLines
 pub mod AdviceLines
 -- for this crate's own contracts alone

@@ -4,11 +4,7 @@ ghost use Rattle.std.specs.Option.{option_map};
 ghost use Rattle.explanations.specs.Replacements as spec;
 
 /// A sentence for a command that loads other modules, or changes what isn't a variable.
-#[tactic(auto, unfolding(
-    crate::specs::Replacements::loading,
-    crate::specs::Replacements::of_shells,
-    crate::specs::Replacements::of_searches
-))]
+#[tactic(auto, unfolding(crate::specs::Replacements::loading, crate::specs::Replacements::of_shells, crate::specs::Replacements::of_searches))]
 fn instead_of_change(name: &str) -> Option<&'static str>
     ensures { option_map (λ t. t.now) result ≡ spec.instead_of_change name.now }
 {

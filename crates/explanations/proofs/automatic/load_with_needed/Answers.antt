@@ -35,10 +35,12 @@ returns-then-is_some-clause-fits g c =
     let asked : List Text = map (λ (s : String Global). string_bytes s) c.args.asked.now in
     let found = one_among now limits shell e (texts_in c.args.missing.now.names) c.in_ok-found.found c.is_some.result c.is_some.ensures c.if-is_some.true
     (λ files listings a. subst (λ (l : List (String Global)). FoundAmong (request_context_in limits shell files listings) e (map (λ (s : String Global). string_bytes s) l) (option_map string_bytes c.in_ok-found.found))
-    c.as_slice-alternatives.ensures.value (c.in_ok-found.ensures.found files listings a shell)) in
-    (undone before now _ shell e (LoadComes now limits shell e asked) c.load_automatically-answer.result c.first_found.ensures.reads.narrows
-    (undone_of c.load_automatically-answer.result c.in_ok-names.field-0 c.in_ok-names.ensures.undone c.in_default.not-Some) c.load_automatically-answer.ensures.refused,
-    found.0, found.1)
+    c.as_slice-alternatives.ensures.value (c.in_ok-found.ensures.found files listings a shell)) in (
+      undone before now _ shell e (LoadComes now limits shell e asked) c.load_automatically-answer.result c.first_found.ensures.reads.narrows
+          (undone_of c.load_automatically-answer.result c.in_ok-names.field-0 c.in_ok-names.ensures.undone c.in_default.not-Some) c.load_automatically-answer.ensures.refused,
+      found.0,
+      found.1,
+    )
 
 pub returns-clause-fits : goal.returns-clause-fits
 returns-clause-fits g c =

@@ -11,8 +11,12 @@ use Rattle.explanations.proofs.explanation.of_request.Goals as goal
 
 pub returns-in-Ok-clause-said : goal.returns-in-Ok-clause-said
 returns-in-Ok-clause-said g c =
-    inl (accepted_by (g.T.Tree.agrees c.run_changes-outcome.new.tree) c.args.refused.limits c.args.refused.request.now.shell c.args.refused.env.now _ (action_view c.args.refused.request.now.action)
-    c.run_changes-outcome.result c.in-Ok.field-0 (sym c.in_ok-unless_given_up.ensures.same ∙ c.in-Ok.is) c.run_changes-outcome.ensures.over_tree, refl, refl)
+    inl (
+      accepted_by (g.T.Tree.agrees c.run_changes-outcome.new.tree) c.args.refused.limits c.args.refused.request.now.shell c.args.refused.env.now _ (action_view c.args.refused.request.now.action)
+          c.run_changes-outcome.result c.in-Ok.field-0 (sym c.in_ok-unless_given_up.ensures.same ∙ c.in-Ok.is) c.run_changes-outcome.ensures.over_tree,
+      refl,
+      refl,
+    )
 
 pub returns-clause-said : goal.returns-clause-said
 returns-clause-said g c =
