@@ -552,3 +552,28 @@ def test_family_beside_environment_modules(folder, tool, names):
         words = [tool, "sh", "load", *names]
         done = subprocess.run(words, env=env, capture_output=True, timeout=SECONDS, check=False)
         same(b"ERROR" in done.stderr, names == ("gcc/12", "intel/2023"), f"whether {names} is refused in {place!r}")
+
+
+SYMBOLS = {
+    ".modulerc": "module-version gcc/12.3 new\n",
+    "Java/.modulerc": "module-version Java/11.0.20 11\nmodule-version /17.0.6 17 default\nmodule-version ./8 old\n"
+    "module-version Java/11 lts\n",
+    **{f"Java/{version}": "setenv J 1\n" for version in ("8", "11.0.20", "17.0.6")},
+    "gcc/.modulerc": "module-version gcc/13.1 new\nmodule-version gcc/13.1 12.9\n",
+    "gcc/.version": "module-version gcc/11.4 12.9 last\n",
+    **{f"gcc/{version}": "setenv G 1\n" for version in ("11.4", "12.3", "13.1")},
+}
+
+
+@pytest.mark.parametrize(
+    "name", ["Java/11", "Java/17", "Java/default", "Java/old", "Java/lts", "gcc/new", "gcc/12.9", "gcc/last"]
+)
+def test_symbols_beside_environment_modules(folder, tool, name):
+    """The version that is written for a symbol is the one that Environment Modules loads for it."""
+    files = {**SYMBOLS, "app/1": f"prereq {name}\n"}
+    old, new = tree(folder, {path: COOKIE + lines for path, lines in files.items()})
+    folder.run(old, new)
+    env = {b"MODULEPATH": old, b"PATH": b"/usr/bin:/bin"}
+    words = [tool, "sh", "load", name]
+    done = subprocess.run(words, env=env, capture_output=True, timeout=SECONDS, check=True)
+    same(NEED.findall(contents(new)["app/1"]), [evaluated(done.stdout, env)[b"LOADEDMODULES"]], f"what {name} means")

@@ -4,7 +4,6 @@
 #![tactic(auto)]
 
 mod arguments;
-mod family_walk;
 mod fault;
 mod host;
 mod laws;
@@ -13,6 +12,7 @@ mod porting;
 mod report_lines;
 mod reporting;
 mod saying;
+mod site_walk;
 mod status;
 mod texts;
 mod walk;

@@ -1,10 +1,10 @@
 //! The files below a directory, translated below another.
 
 use crate::arguments::Walked;
-use crate::family_walk::{module_of, site_of};
 use crate::fault::PortFault;
 use crate::porting::{Manner, port_file};
 use crate::reporting::{fault_line, left_out_line};
+use crate::site_walk::{module_of, site_of};
 use crate::status::Status;
 use crate::texts::{joined, kind_of, modulefile, read, write_new};
 use families::{Home, Site};
@@ -37,7 +37,7 @@ pub(crate) struct Walk<'r> {
     manner: Manner<'r>,
     /// Whether each modulefile is to be in conflict with its own name.
     one_version: bool,
-    /// The families of the site, with their modules.
+    /// What the files of the site say of its modules.
     site: Site,
     /// How far what was read so far is within the profile.
     status: Status,
