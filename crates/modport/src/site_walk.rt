@@ -1,9 +1,9 @@
-//! The families that the modulefiles below a directory name, with their modules.
+//! What the files below a directory say of its modules: families, and version symbols.
 
 use crate::fault::PortFault;
 use crate::texts::{joined, kind_of, modulefile, read};
 use crate::walk::{MOST_DIRECTORIES, name_below, names_in};
-use families::{Site, families_said};
+use families::{Site, families_said, symbols_said};
 use std::alloc::Global;
 use std::str;
 use tclchars::TextFault;
@@ -39,13 +39,47 @@ fn add_families(alloc: Global, site: &mut Site, text: &str, module: &str) -> Res
     }
 }
 
-/// Adds the families that the file at a path names, as those of a module.
-fn add_file(rt: &HostRuntime, site: &mut Site, path: &str, module: &str) -> Result<(), PortFault> {
+/// Adds the version symbols that the text of a default file says, in a directory with modules of that name.
+fn add_symbols(alloc: Global, site: &mut Site, text: &str, folder: &str) -> Result<(), PortFault> {
+    match symbols_said(alloc, text, folder.as_bytes()) {
+        Ok(symbols) => {
+            for symbol in symbols {
+                site.add_symbol(symbol)?;
+            }
+            Ok(())
+        }
+        Err(TextFault::OutOfMemory) => Err(PortFault::OutOfMemory),
+        Err(_) => Ok(()),
+    }
+}
+
+/// Adds what the text of a file of this name says, in a directory with modules of that name.
+fn add_text(
+    alloc: Global,
+    site: &mut Site,
+    text: &str,
+    folder: &str,
+    name: &str,
+) -> Result<(), PortFault> {
+    match name {
+        ".modulerc" | ".version" => add_symbols(alloc, site, text, folder),
+        _ => add_families(alloc, site, text, module_of(folder, name)),
+    }
+}
+
+/// Adds what the file at a path says, which has this name in a directory with modules of that name.
+fn add_file(
+    rt: &HostRuntime,
+    site: &mut Site,
+    path: &str,
+    folder: &str,
+    name: &str,
+) -> Result<(), PortFault> {
     let Some(file) = modulefile(rt.alloc(), read(rt, path)?.as_slice())? else {
         return Ok(());
     };
     match str::from_utf8(file.text.as_slice()) {
-        Ok(text) => add_families(rt.alloc(), site, text, module),
+        Ok(text) => add_text(rt.alloc(), site, text, folder, name),
         Err(_) => Ok(()),
     }
 }
@@ -66,12 +100,7 @@ fn add_name(
         below.push(Folder { path, name })?;
         Ok(())
     } else if found.is_file() {
-        add_file(
-            rt,
-            site,
-            path.as_str(),
-            module_of(folder.name.as_str(), name),
-        )
+        add_file(rt, site, path.as_str(), folder.name.as_str(), name)
     } else {
         Ok(())
     }
@@ -108,10 +137,10 @@ pub(crate) fn module_of<'n>(folder: &'n str, name: &'n str) -> &'n str {
     if folder.is_empty() { name } else { folder }
 }
 
-/// The families that the modulefiles below a directory name, with their modules: those of a directory by their names,
-/// before those of the directories in it.
+/// What the modulefiles below a directory say of families, and its default files of version symbols: those of a
+/// directory by their names, before those of the directories in it.
 ///
-/// The error: want of memory. What can't be read names none.
+/// The error: want of memory. What can't be read says nothing.
 pub(crate) fn site_of(rt: &HostRuntime, from: &str) -> Result<Site, PortFault> {
     let alloc = rt.alloc();
     let mut site = Site::new(alloc);
