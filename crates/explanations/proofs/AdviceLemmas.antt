@@ -7,7 +7,7 @@ use Rattle.std.specs.declared.alloc.Global.{Global}
 use Rattle.failedcommands.proofs.CommandLemmas.{views_more, views_parted}
 use Rattle.envvars.specs.Environment.{Environment}
 use Rattle.envvars.specs.Texts.{Text}
-use Rattle.filetree.specs.Agreement.{Files, Listings, InEachPair, Narrows}
+use Rattle.filetree.specs.Agreement.{Files, Listings, Narrows}
 use Rattle.filetree.specs.Causes.{Applies, Cause, memory, device, because}
 use Rattle.givenup.specs.Causes.{is_given_up}
 use Rattle.shelltext.specs.declared.shell.Shell.{Shell}
@@ -16,7 +16,6 @@ use Rattle.modules.specs.Answers.{StepAnswersOverTree, cause_of}
 use Rattle.modules.specs.Replies.{changed_view}
 use Rattle.modules.specs.declared.refusal.Refusal.{Refusal}
 use Rattle.modules.specs.declared.reply.RequestChanges.{RequestChanges}
-use Rattle.requests.specs.Reasons.{RequestReason}
 use Rattle.requests.specs.RequestViews.{action_view}
 use Rattle.requests.specs.Requests.{RequestedAction, switch, unload}
 use Rattle.requests.specs.Steps.{RequestStep, request_context_in}

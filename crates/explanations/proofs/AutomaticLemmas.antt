@@ -1,5 +1,5 @@
 -- What is advised with the option --auto, by what automated loads and unloads answer.
-use Rattle.std.proofs.Common.{◌≡◌, Bool, true, false, List, [], Option, Some, None, Result, Ok, Err, String, string_bytes, map, refl, sym, ap, subst, ◌∙◌}
+use Rattle.std.proofs.Common.{◌≡◌, Bool, true, false, List, [], Option, Some, None, Result, Ok, Err, String, string_bytes, refl, sym, ap, subst}
 use Rattle.std.specs.Option.{option_map}
 use Rattle.std.specs.Prelude.{IfErr, IfNone, IfOk, IfSome, is_some, unwrap_or}
 use Rattle.std.specs.declared.alloc.Global.{Global}

@@ -1,5 +1,5 @@
 -- The files that are evaluated for parts of a request, one after another.
-use Rattle.std.proofs.Common.{◌≡◌, ℕ, ◌+◌, ◌<◌, ◌≤◌, Bool, true, false, List, [], ◌∷◌, ◌++◌, length, map, take, drop, get_or, Option, Some, None, Result, Ok, Err, IfOk, inl, inr, refl, sym, ap, subst, ◌∙◌}
+use Rattle.std.proofs.Common.{◌≡◌, ℕ, ◌+◌, ◌<◌, ◌≤◌, Bool, true, false, List, [], ◌∷◌, ◌++◌, length, map, take, drop, get_or, Option, Some, None, Result, Ok, Err, IfOk, inl, inr, sym, ap, subst, ◌∙◌}
 use Rattle.std.proofs.lemmas.List.{take-append-drop, take_all, take_more, drop_more, map-append}
 use Rattle.std.specs.Option.{option_map, option_to_list}
 use Rattle.std.specs.declared.alloc.Global.{Global}
@@ -7,7 +7,6 @@ use Rattle.std.specs.declared.vec.Vec.{Vec}
 use Rattle.envloaded.specs.Loaded.{Entry, loaded_in}
 use Rattle.envvars.specs.Environment.{Environment}
 use Rattle.filetree.specs.Agreement.{Files, Listings, InEachPair}
-use Rattle.givenup.specs.Causes.{is_given_up}
 use Rattle.shelltext.specs.declared.shell.Shell.{Shell}
 use Rattle.modulefile.specs.Answers.{FileContext}
 use Rattle.modules.specs.declared.refusal.Refusal.{Refusal}

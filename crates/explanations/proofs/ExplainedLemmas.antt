@@ -1,10 +1,10 @@
 -- Why a request is refused, by what was said of its refusal.
-use Rattle.std.proofs.Common.{◌≡◌, Bool, true, false, List, Option, Some, None, Result, Ok, Err, IfOk, inl, inr, refl, sym, ap, subst}
-use Rattle.std.specs.Prelude.{is_none, IfSome}
+use Rattle.std.proofs.Common.{◌≡◌, true, false, List, Option, Some, None, Result, Ok, Err, IfOk, inl, inr, refl, sym, subst}
+use Rattle.std.specs.Prelude.{IfSome}
 use Rattle.envvars.specs.Environment.{Environment}
 use Rattle.envvars.specs.Reasons as edits
 use Rattle.envvars.specs.Texts.{Text}
-use Rattle.filetree.specs.Agreement.{Files, Listings, InEachPair, Narrows}
+use Rattle.filetree.specs.Agreement.{Files, Listings, Narrows}
 use Rattle.filetree.specs.Causes.{Applies, Cause, memory, device, because}
 use Rattle.givenup.specs.Causes.{is_given_up}
 use Rattle.shelltext.specs.declared.shell.Shell.{Shell}
@@ -29,7 +29,6 @@ use Rattle.explanations.proofs.AdviceLemmas.{Answers}
 use Rattle.explanations.proofs.LocationLemmas.{locates_later, none_located_later}
 use Rattle.explanations.specs.Advised.{ComesTo, IsAdvised}
 use Rattle.explanations.specs.Explained.{IsExplained, IsFile, IsOfOutcome, IsOfUsage, IsSound, IsWhy}
-use Rattle.explanations.specs.Locations.{Locates, NoneIsLocated}
 use Rattle.explanations.specs.Views.{IfBecause, IsFileOf, is_known}
 use Rattle.explanations.specs.declared.advice.Advice.{Advice}
 use Rattle.explanations.specs.declared.advice.Advice.TheVariants as advices
@@ -198,8 +197,3 @@ module _ (agrees : Files → Listings → Type 0) (limits : Limits) (asked shell
   pub explained : (r : Result Explanation Refusal) → IfOk r (IsOfOutcome agrees limits asked e action) → IfOk r (IsExplained agrees limits shell e words)
   explained (Ok x) h = inr (action, sym made, subst (λ (s : Shell). IsOfOutcome agrees limits s e action x) same h)
   explained (Err refusal) h = tt
-
--- where the words make no request
-pub of_words : (agrees : Files → Listings → Type 0) (limits : Limits) (shell : Shell) (e : Environment) (words : List Text) (x : Explanation) → Err bad_arguments ≡ request_of words
-    → IsOfUsage words x → IsExplained agrees limits shell e words x
-of_words agrees limits shell e words x made h = inl (sym made, h)

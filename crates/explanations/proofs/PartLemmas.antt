@@ -1,5 +1,5 @@
 -- The file that a part of a request evaluates, and what the part makes of the environment.
-use Rattle.std.proofs.Common.{◌≡◌, Bool, true, false, List, [], ◌∷◌, map, reverse, string_bytes, String, Bor, Option, Some, None, Result, Ok, Err, IfOk, inl, inr, refl, sym, ap, subst, ◌∙◌}
+use Rattle.std.proofs.Common.{◌≡◌, Bool, true, false, List, map, reverse, string_bytes, String, Bor, Option, Some, None, Result, Ok, Err, IfOk, inl, inr, refl, sym, ap, subst, ◌∙◌}
 use Rattle.std.specs.Option.{option_map}
 use Rattle.std.specs.Prelude.{OnErr}
 use Rattle.std.specs.declared.alloc.AllocError.{AllocError}
@@ -20,7 +20,6 @@ use Rattle.modulefile.specs.RecordViews.{mode_view}
 use Rattle.modulefile.specs.declared.records.Mode.{Mode}
 use Rattle.modulefile.specs.declared.records.Mode.TheVariants as modes
 use Rattle.modulerun.specs.Running.{file_reason_of}
-use Rattle.modulerun.specs.declared.run_fault.RunFault.{RunFault}
 use Rattle.modules.specs.Answers.{StepAnswersOverTree, by_reason, by_search, cause_of}
 use Rattle.modules.specs.Views.{done_view}
 use Rattle.modules.specs.declared.refusal.Refusal.{Refusal}
@@ -49,25 +48,6 @@ owned_names (Err e) xs ys names same is h = tt
 
 -- ---- the module that is meant
 
--- of the loaded ones
-pub recorded_one : (entries : List Entry) (name : Text) (o : Option (Bor Loaded)) (entry : Bor Loaded) (target : code_module.ModulePath)
-    → option_map (λ (x : Bor Loaded). entry_view x.now) o ≡ last_meant name entries → o ≡ Some entry
-    → string_bytes target.name ≡ string_bytes entry.now.name → string_bytes target.path ≡ string_bytes entry.now.path
-    → Some (module_view target) ≡ option_map spec.entry_path (last_meant name entries)
-recorded_one entries name o entry target h is n p =
-    let one : Some (entry_view entry.now) ≡ last_meant name entries =
-    subst (λ (o : Option (Bor Loaded)). option_map (λ (x : Bor Loaded). entry_view x.now) o ≡ last_meant name entries) is h in
-    let same : module_view target ≡ spec.entry_path (entry_view entry.now) = rw (n, p) refl in
-    ap (λ (t : spec.ModulePath). Some t) same ∙ ap (λ (o : Option Entry). option_map spec.entry_path o) one
-
-pub recorded_none : (entries : List Entry) (name : Text) (o : Option (Bor Loaded))
-    → option_map (λ (x : Bor Loaded). entry_view x.now) o ≡ last_meant name entries → o ≡ None
-    → None ≡ option_map spec.entry_path (last_meant name entries)
-recorded_none entries name o h is =
-    let none : None ≡ last_meant name entries =
-    subst (λ (o : Option (Bor Loaded)). option_map (λ (x : Bor Loaded). entry_view x.now) o ≡ last_meant name entries) is h in
-    ap (λ (o : Option Entry). option_map spec.entry_path o) none
-
 module _ (s : RequestContext) (e : Environment) (name path : Text) (same : path ≡ modulepath e) where
   -- by the search
   pub found_one : (m : FoundModule) → Found (HasResult s.limits) s.files s.listings path name (Ok m) → FoundOrMissed s e name (Some (spec.found_path m))
@@ -81,30 +61,6 @@ pub search_reason : (c : Cause FindReason) (failed : Type 0) (P : FindReason →
 search_reason memory failed P is h = absurd (cc)
 search_reason device failed P is h = absurd (cc)
 search_reason (because r) failed P is h = (r, h)
-
-module _ (agrees : Files → Listings → Type 0) (limits : Limits) (shell : Shell) (e : Environment) (entries : List Entry) (name : Text) where
-  abbrev MeansIt : Mode → Option spec.ModulePath → Type 0
-  MeansIt mode target = InEachPair agrees (λ files listings. IsMeant (request_context_in limits shell files listings) e entries (mode_view mode) name target)
-
-  -- by the loaded modules, or by the search
-  pub meant_recorded : (mode : Mode) (r : Result (Option code_module.ModulePath) Refusal) → mode ≡ modes.Unload
-      → IfOk r (λ o. option_map module_view o ≡ option_map spec.entry_path (last_meant name entries)) → IfOk r (λ o. MeansIt mode (option_map module_view o))
-  meant_recorded mode (Ok o) is h =
-      subst (λ (m : Mode). MeansIt m (option_map module_view o)) (sym is) (λ files listings a. h)
-  meant_recorded mode (Err e) is h = tt
-
-  meant_by : (mode : Mode) (target : Option spec.ModulePath) → (mode ≡ modes.Unload → ⊥)
-      → InEachPair agrees (λ files listings. FoundOrMissed (request_context_in limits shell files listings) e name target) → MeansIt mode target
-  meant_by modes.Load target not h = h
-  meant_by modes.Unload target not h = absurd (not refl)
-  meant_by modes.Display target not h = h
-  meant_by modes.Whatis target not h = h
-
-  pub meant_found : (mode : Mode) (r : Result (Option code_module.ModulePath) Refusal) → (mode ≡ modes.Unload → ⊥)
-      → IfOk r (λ o. InEachPair agrees (λ files listings. FoundOrMissed (request_context_in limits shell files listings) e name (option_map module_view o)))
-      → IfOk r (λ o. MeansIt mode (option_map module_view o))
-  meant_found mode (Ok o) not h = meant_by mode (option_map module_view o) not h
-  meant_found mode (Err e) not h = tt
 
 -- ---- its file
 

@@ -1,5 +1,5 @@
 -- A text with a semicolon at its end, and without one.
-use Rattle.std.proofs.Common.{◌≡◌, ℕ, ◌+◌, ◌-◌, Option, Some, None, List, [], ◌∷◌, ◌++◌, length, take, Bor, refl, sym, ap, ◌∙◌, lit<, Bool, true, false, ◌==◌, arith}
+use Rattle.std.proofs.Common.{◌≡◌, ℕ, ◌+◌, ◌-◌, Option, Some, None, [], ◌∷◌, ◌++◌, length, take, Bor, refl, sym, ap, ◌∙◌, lit<, Bool, true, false, ◌==◌, arith}
 use Rattle.std.proofs.lemmas.Bool.Decides.{nat_tests}
 use Rattle.std.specs.Prelude.{MatchOption, unwrap_or, ◌≢◌, if◌then◌else◌}
 use Rattle.std.specs.Str.Pattern.{FindsCharSuffix}

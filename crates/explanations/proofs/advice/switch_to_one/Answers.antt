@@ -1,5 +1,4 @@
 use Rattle.std.proofs.Common.{Option, ap, subst, ◌∙◌, Some}
-use Rattle.std.proofs.Common.{take}
 use Rattle.std.specs.Prelude.{IfSome}
 use Rattle.envvars.specs.Texts.{Text}
 use Rattle.requests.specs.RequestViews.{action_view}

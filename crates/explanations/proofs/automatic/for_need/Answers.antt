@@ -1,6 +1,6 @@
 use Rattle.std.proofs.Common.{map, List, String, string_bytes, sym, subst, IfOk}
 use Rattle.std.specs.declared.alloc.Global.{Global}
-use Rattle.envvars.specs.Texts.{Text, texts_in}
+use Rattle.envvars.specs.Texts.{texts_in}
 use Rattle.requests.specs.RequestViews.{action_view}
 use Rattle.requests.specs.declared.action.Action.{Action}
 use Rattle.explanations.specs.Advised.{ForNames, ForNeed, names_to_load}

@@ -1,4 +1,4 @@
-use Rattle.std.proofs.Common.{List, [], map, refl, sym, subst}
+use Rattle.std.proofs.Common.{List, [], map, sym, subst}
 use Rattle.envvars.specs.Environment.{Environment}
 use Rattle.requests.specs.Steps.{request_context_in}
 use Rattle.explanations.specs.Evaluated.{Passes, nothing}

@@ -1,4 +1,4 @@
-use Rattle.std.proofs.Common.{◌≡◌, false, Err, sym, ◌∙◌}
+use Rattle.std.proofs.Common.{Err, sym, ◌∙◌}
 use Rattle.envvars.specs.Texts.{Text}
 use Rattle.filetree.specs.Agreement.{InEachPair}
 use Rattle.lookup.specs.DefaultFileResults.{HasResult}

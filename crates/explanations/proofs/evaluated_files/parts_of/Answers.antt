@@ -1,8 +1,7 @@
-use Rattle.std.proofs.Common.{map, string_bytes, String, Option, ap, subst, ◌∙◌}
+use Rattle.std.proofs.Common.{map, string_bytes, String, ap}
 use Rattle.std.specs.declared.alloc.Global.{Global}
 use Rattle.std.specs.Option.{option_map}
 use Rattle.requests.specs.RequestViews.{action_view}
-use Rattle.requests.specs.Requests as actions
 use Rattle.explanations.proofs.PartLemmas.{parts_switched}
 use Rattle.explanations.proofs.evaluated_files.parts_of.Goals as goal
 

@@ -1,7 +1,7 @@
 use Rattle.std.proofs.Common.{map, string_bytes, String}
 use Rattle.std.specs.declared.alloc.Global.{Global}
 use Rattle.requests.specs.RequestViews.{action_view}
-use Rattle.explanations.proofs.ExplainedLemmas.{explained, explained_advised, explained_whys, of_words}
+use Rattle.explanations.proofs.ExplainedLemmas.{explained, explained_advised, explained_whys}
 use Rattle.explanations.proofs.explanation.explain.Goals as goal
 
 pub returns-clause-why : goal.returns-clause-why

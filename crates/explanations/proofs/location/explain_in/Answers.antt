@@ -1,6 +1,5 @@
-use Rattle.std.proofs.Common.{◌≡◌, Ok, refl, sym, ◌∙◌}
-use Rattle.modulefile.specs.Answers.{FileContext}
-use Rattle.failedcommands.specs.Views.{context_in, words_view}
+use Rattle.std.proofs.Common.{Ok, refl, sym, ◌∙◌}
+use Rattle.failedcommands.specs.Views.{words_view}
 use Rattle.explanations.specs.EvaluatedViews.{file_context}
 use Rattle.explanations.proofs.LocationLemmas.{locates, not_there, script_there, unlocated}
 use Rattle.explanations.proofs.location.explain_in.Goals as goal

@@ -1,5 +1,3 @@
-use Rattle.std.proofs.Common.{Bor}
-use Rattle.envvars.specs.Texts.{Text}
 use Rattle.explanations.proofs.UnknownLemmas.{none_more, none_there, one_there}
 use Rattle.explanations.proofs.unknown.is_one_there.Goals as goal
 
