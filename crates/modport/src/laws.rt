@@ -9,8 +9,8 @@ ghost use Rattle.modport.specs.Lines.{Line};
 ghost use Rattle.modport.specs.Ported.{added_lines, edit_line, IsPorted, note_line, Porting, Steps};
 ghost use Rattle.modport.specs.declared.status.Status.{Status};
 
-/// Each step accounts for what it changes: its text is written as it is, but for stretches that a line of the report
-/// names. In the translation, a stretch is a command of the script with what stands between it and the next.
+/// Each step has some cut of its text into stretches by which it accounts for what it changes: each line is said of a
+/// stretch, and what nothing is said of stays. Which stretches these can be, the relation of the step says.
 pub fn accounted_for()
     ensures computed { (port : Porting) (how : Writing) (given computed translated written : Text) (es : List Edit)
         (notes : List Note) (added : Option Text) (lines : List Line) (status : Status)
