@@ -21,7 +21,7 @@ use Rattle.translation.specs.declared.notes.Outcome.{Outcome}
 use Rattle.translation.proofs.Kept.{joined}
 use Rattle.portforms.specs.Words.{commands_in}
 use Rattle.oneversion.specs.OneVersion.{has_conflict, inserted, is_plain, line_of, with_conflict}
-use Rattle.modport.specs.Accounts.{Accounts, Stretch, StayUnsaid}
+use Rattle.modport.specs.Accounts.{Accounts, AccountsForCommands, AreStretches, of_piece, Stretch, StayUnsaid}
 use Rattle.modport.specs.Lines.{Line}
 use Rattle.modport.specs.Ported.{added_lines, are_in_order, AreTaken, conflict_with, edit_line, IsAdded, IsComputed}
 use Rattle.modport.specs.Ported.{IsOneVersion, note_line, part_of}
@@ -128,13 +128,6 @@ computed host given written es (found, text, (s, within, h), t) =
 
 -- ---- what is translated
 
-abbrev of_piece : Option Home → List Text → Text → Piece → Stretch
-of_piece home names text p = record {
-  was = p.text;
-  becomes = written_for home p;
-  said = map note_line (notes_on home names text p);
-}
-
 unsaid_piece : (names : List Text) (line : ℕ) (text : Text) (outcome : Outcome) (change : Option Text) → map note_line (note_of names line text outcome change) ≡ []
     → or_kept text change ≡ text
 unsaid_piece names line text outcome None h = refl
@@ -153,23 +146,26 @@ pieces_stay home names text (p ∷ ps) =
     (unsaid_piece names (line_at text p.start) p.text (outcome_of home p) (change_of home p), pieces_stay home names text ps)
 
 of_pieces : (home : Option Home) (names : List Text) (text : Text) (cs : List Command)
-    → Accounts text (written_for_all home (pieces_of text cs)) (map note_line (notes_on_all home names text (pieces_of text cs)))
-of_pieces home names text cs = (
-  map (of_piece home names text) (pieces_of text cs),
-  record {
-    old_is = flat_map-map (λ (s : Stretch). s.was) (of_piece home names text) (pieces_of text cs) ∙ joined text cs;
-    new_is = flat_map-map (λ (s : Stretch). s.becomes) (of_piece home names text) (pieces_of text cs);
-    lines_are = flat_map-map (λ (s : Stretch). s.said) (of_piece home names text) (pieces_of text cs) ∙ pieces_said home names text (pieces_of text cs);
-    stay = pieces_stay home names text (pieces_of text cs);
-  },
-)
+    → AreStretches (map (of_piece home names text) (pieces_of text cs)) text (written_for_all home (pieces_of text cs))
+    (map note_line (notes_on_all home names text (pieces_of text cs)))
+of_pieces home names text cs = record {
+  old_is = flat_map-map (λ (s : Stretch). s.was) (of_piece home names text) (pieces_of text cs) ∙ joined text cs;
+  new_is = flat_map-map (λ (s : Stretch). s.becomes) (of_piece home names text) (pieces_of text cs);
+  lines_are = flat_map-map (λ (s : Stretch). s.said) (of_piece home names text) (pieces_of text cs) ∙ pieces_said home names text (pieces_of text cs);
+  stay = pieces_stay home names text (pieces_of text cs);
+}
 
 pub translated : (home : Option Home) (names : List Text) (text written : Text) (notes : List Note) → HasTranslation home names text written notes
-    → Accounts text written (map note_line notes)
+    → AccountsForCommands home names text written (map note_line notes)
 translated home names text written notes (s, within, h) =
-    subst (λ (t : Text). Accounts text t (map note_line notes)) (sym h.text_is)
-    (subst (λ (ns : List Note). Accounts text (written_for_all home (pieces_of text (commands_in s))) (map note_line ns)) (sym h.notes_are)
-    (of_pieces home names text (commands_in s)))
+    let ss : List Stretch = map (of_piece home names text) (pieces_of text (commands_in s)) in
+    (s, within, subst (λ (t : Text). AreStretches ss text t (map note_line notes)) (sym h.text_is)
+    (subst (λ (ns : List Note). AreStretches ss text (written_for_all home (pieces_of text (commands_in s))) (map note_line ns)) (sym h.notes_are)
+    (of_pieces home names text (commands_in s))))
+
+pub forgotten : (home : Option Home) (names : List Text) (text written : Text) (lines : List Line) → AccountsForCommands home names text written lines
+    → Accounts text written lines
+forgotten home names text written lines (s, within, h) = (map (of_piece home names text) (pieces_of text (commands_in s)), h)
 
 -- ---- what is added
 

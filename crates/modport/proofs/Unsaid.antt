@@ -59,7 +59,7 @@ same_steps port bytes given computed translated written es notes more status e h
     let second = nothing (map (edit_line given) es) (map note_line notes ++ added_lines more) (sym first.1) in
     let third = nothing (map note_line notes) (added_lines more) (sym second.1) in
     quiet translated written (added_lines more) third.1 (accounted.added port.name translated written more h.adds)
-    ∙ (quiet computed translated (map note_line notes) third.0 (accounted.translated port.home port.left_out computed translated notes h.translates)
+    ∙ (quiet computed translated (map note_line notes) third.0 (accounted.forgotten port.home port.left_out computed translated (map note_line notes) (accounted.translated port.home port.left_out computed translated notes h.translates))
     ∙ (quiet given computed (map (edit_line given) es) second.0 (accounted.computed port.host given computed es h.computes)
     ∙ (e ∙ unsaid_text bytes first.0)))
 

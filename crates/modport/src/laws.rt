@@ -4,13 +4,14 @@ ghost use Rattle.tclchars.specs.Runs.{Text};
 ghost use Rattle.filetext.specs.FileTexts.{text_of, Writing, writing_of};
 ghost use Rattle.computedwords.specs.Walks.{Edit};
 ghost use Rattle.translation.specs.Notes.{Note};
-ghost use Rattle.modport.specs.Accounts.{Accounts};
+ghost use Rattle.modport.specs.Accounts.{Accounts, AccountsForCommands};
 ghost use Rattle.modport.specs.Lines.{Line};
 ghost use Rattle.modport.specs.Ported.{added_lines, edit_line, IsPorted, note_line, Porting, Steps};
 ghost use Rattle.modport.specs.declared.status.Status.{Status};
 
-/// Each step accounts for what it changes: its text is written as it is, but for stretches that a line of the report
-/// names. In the translation, a stretch is a command of the script with what stands between it and the next.
+/// Each step accounts for what it changes: its text is cut into stretches, each line of the report is said of one, and
+/// what nothing is said of stays. What is translated is cut where commands of the script begin; of the other steps some
+/// cut is there, and the relation of the step says which.
 pub fn accounted_for()
     ensures computed { (port : Porting) (how : Writing) (given computed translated written : Text) (es : List Edit)
         (notes : List Note) (added : Option Text) (lines : List Line) (status : Status)
@@ -19,7 +20,7 @@ pub fn accounted_for()
     ensures translated { (port : Porting) (how : Writing) (given computed translated written : Text) (es : List Edit)
         (notes : List Note) (added : Option Text) (lines : List Line) (status : Status)
         → Steps port how given computed translated written es notes added lines status
-        → Accounts computed translated (map note_line notes) }
+        → AccountsForCommands port.home port.left_out computed translated (map note_line notes) }
     ensures added { (port : Porting) (how : Writing) (given computed translated written : Text) (es : List Edit)
         (notes : List Note) (added : Option Text) (lines : List Line) (status : Status)
         → Steps port how given computed translated written es notes added lines status
