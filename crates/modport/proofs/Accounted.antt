@@ -158,10 +158,13 @@ of_pieces home names text cs = record {
 pub translated : (home : Option Home) (names : List Text) (text written : Text) (notes : List Note) → HasTranslation home names text written notes
     → AccountsForCommands home names text written (map note_line notes)
 translated home names text written notes (s, within, h) =
-    let ss : List Stretch = map (of_piece home names text) (pieces_of text (commands_in s)) in
-    (s, within, subst (λ (t : Text). AreStretches ss text t (map note_line notes)) (sym h.text_is)
-    (subst (λ (ns : List Note). AreStretches ss text (written_for_all home (pieces_of text (commands_in s))) (map note_line ns)) (sym h.notes_are)
-    (of_pieces home names text (commands_in s))))
+    let ss : List Stretch = map (of_piece home names text) (pieces_of text (commands_in s)) in (
+      s,
+      within,
+      subst (λ (t : Text). AreStretches ss text t (map note_line notes)) (sym h.text_is)
+          (subst (λ (ns : List Note). AreStretches ss text (written_for_all home (pieces_of text (commands_in s))) (map note_line ns)) (sym h.notes_are)
+          (of_pieces home names text (commands_in s))),
+    )
 
 pub forgotten : (home : Option Home) (names : List Text) (text written : Text) (lines : List Line) → AccountsForCommands home names text written lines
     → Accounts text written lines
