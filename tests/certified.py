@@ -134,10 +134,11 @@ def sites(draw, shell, dirs):
     needs = model.needs(OTHERS, ("conflict", "conflict", "prereq"))
     read = st.sampled_from([*READ * 5, *OWN, MODULEPATH, *variables])
     values = [kind for name, way in ways for kind in added_value(name, way)]
-    reading = readers(read, st.one_of(*some, needs), values)
-    every = [*some, odd_lines(variables), sentence.QUIET, *[reading] * 3]
+    # (hypothesis takes a strategy that stands there twice for one)
+    reading = [readers(read, st.one_of(*some, needs), values) for _ in range(6)]
+    every = [*some, odd_lines(variables), sentence.QUIET, *reading]
     shared = [found[name, way] for name, way in ways if way[0] != "fixed"] * 4
-    shared += [*every, needs, *[reading] * 4]
+    shared += [*every, needs]
     kinds = {"": st.one_of(*shared)}
     for folder, way in exclusive.items():
         kinds[folder] = st.one_of(*every, *[conflicts(folder)] * 4 * (way == "some")) if way else kinds[""]
@@ -235,9 +236,9 @@ def sessions(draw, shell, top, product="", folders=("one", "two", "three", "four
     sure = sorted({module.name for module in site.certified})
     sure += [name.rpartition("/")[0] or name for name in sure]
     names = st.sampled_from(sure * 12 + site.tree.names() + sentence.ODD_NAMES)
-    commands = sentence.commands(names, not model.loaded_in(start))
+    commands = [sentence.commands(names, not model.loaded_in(start)) for _ in range(2)]
     changes = hands.hands(dict(site.uses), sentence.variables(shell))
-    words = draw(several(st.one_of(commands, commands, changes), 40))
+    words = draw(several(st.one_of(*commands, changes), 40))
     return Session(site, product, shell, site.tree, start, words, draw(sentence.ENDS))
 
 
