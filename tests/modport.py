@@ -2,7 +2,8 @@
 
 The rows of modport.txt are typed by hand from modulefile(5) and module(1) of Environment Modules and from the templates
 of EasyBuild and Spack. A row has the lines of a modulefile behind `<`, what is written behind `>`, and what is said of
-each line, which is counted from the cookie; the status is 1 where something is left out, and else 0.
+each line, which is counted from the cookie; the status is 1 where something is left out, and else 0. A row of a tree
+has this for each of its files, whose name stands behind `@`.
 
 What is written for the files of the two that are below generated is loaded in Environment Modules beside the files as
 they are, where that is there.
@@ -21,7 +22,9 @@ import pytest
 from tests.harness import HERE, NOBODY, SECONDS, evaluated, same, true
 
 COOKIE = "#%Module\n"
-ROWS = pathlib.Path(__file__).with_suffix(".txt").read_text().split("\n\n")
+ALL = pathlib.Path(__file__).with_suffix(".txt").read_text().split("\n\n")
+ROWS = [row for row in ALL if "\n@ " not in row]
+TREES = [row for row in ALL if "\n@ " in row]
 
 # Where Environment Modules is installed, or what the benchmarks unpacked of it.
 TOOLS = (
@@ -360,47 +363,43 @@ def test_one_version(folder):
     same((again.stdout, again.returncode), (b"", 0), "what is written has nothing more to add")
 
 
-def test_family(folder):
-    """A module of a tree is in conflict with the others of its family, and with none where there is no other."""
+def files_of(row):
+    """The files of a row of a tree by their names, each as the parts of a row are."""
+    first, *files = re.split(r"(?m)^@ ", row.strip("\n"))
+    return {name: parts(f"{first.rstrip()}\n{lines}")[1:] for name, _, lines in (it.partition("\n") for it in files)}
+
+
+@pytest.mark.parametrize("row", TREES, ids=lambda row: row.strip("\n").split("\n")[0][2:])
+def test_rows_of_trees(folder, row):
+    files = files_of(row)
+    old, new = tree(folder, {name: text(given) for name, (given, _, _) in files.items()})
+    done = folder.run(old, new)
+    at = old.decode()
+    said = [f"{at}/{name}:{line}" for name, (_, _, lines) in files.items() for line in lines]
+    same(sorted(done.stdout.decode().splitlines()), sorted(said), "what is said")
+    same(done.stderr, b"", "standard error")
+    same(done.returncode, int(any(": left out: " in line for line in said)), "status")
+    same(
+        contents(new),
+        {name: text(written).encode() for name, (_, written, _) in files.items()},
+        "what is written",
+    )
+
+
+def test_a_family_in_a_file_that_is_no_script(folder):
+    """Such a file is in no family."""
     old, new = tree(
-        folder,
-        {
-            "gcc/12": COOKIE + "family compiler\nsetenv G 1\n",
-            "gcc/13": COOKIE + "  family compiler ; # of GNU\n",
-            "gcc/.version": COOKIE + "set ModulesVersion 12\n",
-            "intel/2023": COOKIE + 'family "compiler"\n',
-            "lib/llvm/17": COOKIE + "family compiler\nfamily llvm\n",
-            "my tool/1": COOKIE + "family tools\n",
-            "openmpi/4": COOKIE + "family mpi\nif {1} {\n  family compiler\n}\n",
-            "other/1": COOKIE + "family tools\n",
-            "tool": COOKIE + "family tools\n",
-            "broken/1": COOKIE + "family compiler\nset x {\n",
-        },
+        folder, {"broken/1": COOKIE + "family compiler\nset x {\n", "gcc/12": COOKIE + "family compiler\n"}
     )
     at = old.decode()
-    said = (
-        "gcc/12:2: translated: family compiler", "gcc/13:2: translated: family compiler ",
-        'intel/2023:2: translated: family "compiler"', "lib/llvm/17:2: translated: family compiler",
-        "lib/llvm/17:3: dropped: family llvm", "my tool/1:2: translated: family tools",
-        "openmpi/4:2: dropped: family mpi", "openmpi/4:3: left out: family",
-        "other/1:2: left out: family", "tool:2: left out: family",
-    )  # fmt: skip
-    done = folder.run(old, new)
-    same(sorted(done.stdout.decode().splitlines()), sorted(f"{at}/{it}" for it in said), "what is said")
-    same(done.stderr.decode(), f"ERROR: {at}/broken/1: Missing close-brace at byte 31\n", "standard error")
-    same(done.returncode, 2, "status")
-    written = {
-        "gcc/12": "conflict intel lib/llvm\nsetenv G 1\n",
-        "gcc/13": "  conflict intel lib/llvm ; # of GNU\n",
-        "gcc/.version": "set ModulesVersion 12\n",
-        "intel/2023": "conflict gcc lib/llvm\n",
-        "lib/llvm/17": "conflict gcc intel\n\n",
-        "my tool/1": "conflict tool other\n",
-        "openmpi/4": "\nif {1} {\n  family compiler\n}\n",
-        "other/1": "family tools\n",
-        "tool": "family tools\n",
-    }
-    same(contents(new), {name: (COOKIE + it).encode() for name, it in written.items()}, "what is written")
+    ends(
+        folder,
+        [old, new],
+        f"{at}/gcc/12:2: dropped: family compiler\n",
+        f"ERROR: {at}/broken/1: Missing close-brace at byte 31\n",
+        2,
+    )
+    same(contents(new), {"gcc/12": b"#%Module\n\n"}, "what is written")
 
 
 def test_json(folder):
@@ -553,3 +552,28 @@ def test_family_beside_environment_modules(folder, tool, names):
         words = [tool, "sh", "load", *names]
         done = subprocess.run(words, env=env, capture_output=True, timeout=SECONDS, check=False)
         same(b"ERROR" in done.stderr, names == ("gcc/12", "intel/2023"), f"whether {names} is refused in {place!r}")
+
+
+SYMBOLS = {
+    ".modulerc": "module-version gcc/12.3 new\n",
+    "Java/.modulerc": "module-version Java/11.0.20 11\nmodule-version /17.0.6 17 default\nmodule-version ./8 old\n"
+    "module-version Java/11 lts\n",
+    **{f"Java/{version}": "setenv J 1\n" for version in ("8", "11.0.20", "17.0.6")},
+    "gcc/.modulerc": "module-version gcc/13.1 new\nmodule-version gcc/13.1 12.9\n",
+    "gcc/.version": "module-version gcc/11.4 12.9 last\n",
+    **{f"gcc/{version}": "setenv G 1\n" for version in ("11.4", "12.3", "13.1")},
+}
+
+
+@pytest.mark.parametrize(
+    "name", ["Java/11", "Java/17", "Java/default", "Java/old", "Java/lts", "gcc/new", "gcc/12.9", "gcc/last"]
+)
+def test_symbols_beside_environment_modules(folder, tool, name):
+    """The version that is written for a symbol is the one that Environment Modules loads for it."""
+    files = {**SYMBOLS, "app/1": f"prereq {name}\n"}
+    old, new = tree(folder, {path: COOKIE + lines for path, lines in files.items()})
+    folder.run(old, new)
+    env = {b"MODULEPATH": old, b"PATH": b"/usr/bin:/bin"}
+    words = [tool, "sh", "load", name]
+    done = subprocess.run(words, env=env, capture_output=True, timeout=SECONDS, check=True)
+    same(NEED.findall(contents(new)["app/1"]), [evaluated(done.stdout, env)[b"LOADEDMODULES"]], f"what {name} means")

@@ -18,8 +18,8 @@ use Rattle.requests.specs.Looked.{SearchLooksAt}
 use Rattle.requests.specs.Reasons.{RequestReason, missed}
 use Rattle.requests.specs.Steps.{RequestContext, modulepath}
 use Rattle.modules.specs.Answers.{by_search}
-use Rattle.autohandling.specs.Loads.{IsFirstFound, IsFound, IsMissed}
-use Rattle.autohandling.specs.Views.{AnyLooksAt, FoundAmong, is_reason}
+use Rattle.autohandling.specs.Loads.{AnyLooksAt, FoundAmong, IsFirstFound, IsFound, IsMissed}
+use Rattle.autohandling.specs.Views.{is_reason}
 
 module _ (s : RequestContext) (e : Environment) (name path : Text) (same : path ≡ modulepath e) where
   pub is_found : (m : FoundModule) → Found (HasResult s.limits) s.files s.listings path name (Ok m) → IsFound s e name

@@ -9,8 +9,8 @@ use Rattle.requests.specs.Looked.{RequestLooksAt}
 use Rattle.requests.specs.Reasons.{RequestReason, prereq_missing}
 use Rattle.requests.specs.Requests.{load}
 use Rattle.requests.specs.Steps.{RequestContext, Done, RequestStep}
-use Rattle.autohandling.specs.Loads.{AutomaticLoadLooksAt, Completes, as_asked, IsFinal, LoadsTo, RefusesLoad}
-use Rattle.autohandling.specs.Views.{AnyLooksAt, IsPlan, IsUnmet, IsWhole, Loads, PutsIn}
+use Rattle.autohandling.specs.Loads.{AnyLooksAt, AutomaticLoadLooksAt, Completes, IsFinal, LoadsTo, RefusesLoad, as_asked}
+use Rattle.autohandling.specs.Views.{IsPlan, IsUnmet, IsWhole, Loads, PutsIn}
 use Rattle.autohandling.specs.declared.plan.Plan.{Plan}
 use Rattle.autohandling.proofs.LoadLemmas as tries
 

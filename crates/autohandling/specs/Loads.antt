@@ -1,5 +1,6 @@
 -- What an automated load loads (module(1), load --auto), over the files and directories of a tree.
-use Rattle.std.specs.Prelude.{◌≡◌, ◌⊎◌, true, false, List, [], ◌∷◌, ◌++◌, All, Contains, Result, Ok, Err}
+use Rattle.std.specs.Prelude.{◌≡◌, ◌⊎◌, true, false, List, [], ◌∷◌, ◌++◌, All, Contains, Option}
+use Rattle.std.specs.Prelude.{Some, None, Result, Ok, Err}
 use Rattle.envvars.specs.Texts.{Text}
 use Rattle.envvars.specs.Environment.{Environment}
 use Rattle.search.specs.Found.{FoundModule}
@@ -29,6 +30,16 @@ pub record IsFirstFound (s : RequestContext) (e : Environment) (alternatives : L
   pub parted : alternatives ≡ before ++ name ∷ after
   pub missed : All (IsMissed s e) before
   pub found : IsFound s e name
+
+-- The search finds this one of the alternatives first, or none of them.
+abbrev pub FoundAmong : RequestContext → Environment → List Text → Option Text → Type 0
+FoundAmong s e alternatives None = All (IsMissed s e) alternatives
+FoundAmong s e alternatives (Some name) = IsFirstFound s e alternatives name
+
+-- the search for one of the alternatives looks at this path
+abbrev pub AnyLooksAt : RequestContext → Environment → List Text → Text → Type 0
+AnyLooksAt s e alternatives at =
+    (alternative : Text) × Contains alternatives alternative × SearchLooksAt s e alternative at
 
 -- Where those in front can be loaded, and the name behind them is refused, since none of the alternatives of a prereq
 -- is loaded.

@@ -1,11 +1,10 @@
 -- What the values of the code stand for, for the contracts of this crate's private functions (own).
 use Rattle.std.specs.Prelude.{◌≡◌, ◌⊎◌, ◌-◌, ◌+◌, ◌*◌, ℕ, Bool, true, false, List, [], ◌∷◌, ◌++◌, take, insert, vec_len}
-use Rattle.std.specs.Prelude.{All, Contains, Option, Some, None, Ok, string_bytes}
+use Rattle.std.specs.Prelude.{All, Ok, string_bytes}
 use Rattle.envvars.specs.Texts.{Text, texts_in}
 use Rattle.envvars.specs.Environment.{Environment}
 use Rattle.shelltext.specs.declared.print.PrintFault.TheVariants as prints
 use Rattle.shelltext.specs.declared.shell.Shell.{Shell}
-use Rattle.requests.specs.Looked.{SearchLooksAt}
 use Rattle.requests.specs.Reasons.{RequestReason, still_needed_by}
 use Rattle.requests.specs.Requests.{load}
 use Rattle.requests.specs.Steps.{RequestContext, Done, RequestStep}
@@ -43,16 +42,6 @@ is_reason (because reason) = true
 abbrev pub IsFoundOrMissed : RequestContext → Environment → Text → Bool → Type 0
 IsFoundOrMissed s e name true = IsFound s e name
 IsFoundOrMissed s e name false = IsMissed s e name
-
--- the first of the alternatives that is found, or none
-abbrev pub FoundAmong : RequestContext → Environment → List Text → Option Text → Type 0
-FoundAmong s e alternatives None = All (IsMissed s e) alternatives
-FoundAmong s e alternatives (Some name) = IsFirstFound s e alternatives name
-
--- the search for one of the alternatives looks at this path
-abbrev pub AnyLooksAt : RequestContext → Environment → List Text → Text → Type 0
-AnyLooksAt s e alternatives at =
-    (alternative : Text) × Contains alternatives alternative × SearchLooksAt s e alternative at
 
 -- none of the alternatives is found, or the first that is isn't put in any more
 abbrev pub IsUnmet : RequestContext → Environment → List Text → List Text → Type 0

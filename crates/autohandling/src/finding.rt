@@ -9,7 +9,8 @@ ghost use Rattle.shelltext.specs.declared.shell.Shell.{Shell};
 ghost use Rattle.requests.specs.Looked.{SearchLooksAt};
 ghost use Rattle.requests.specs.Steps as steps;
 ghost use Rattle.requests.specs.Steps.{request_context_in};
-ghost use Rattle.autohandling.specs.Views.{AnyLooksAt, FoundAmong, IsFoundOrMissed, is_reason};
+ghost use Rattle.autohandling.specs.Loads.{AnyLooksAt, FoundAmong};
+ghost use Rattle.autohandling.specs.Views.{IsFoundOrMissed, is_reason};
 
 use envvars::Env;
 use envvars::fields::copy;
@@ -74,8 +75,10 @@ fn is_found<T: Tree>(
     }
 }
 
-/// The first of the alternatives that the search finds.
-pub(crate) fn first_found<T: Tree>(
+/// The first of the alternatives that the search finds in an environment; nothing where it finds none of them.
+///
+/// Errors: `OutOfMemory`, and `Device` where the device failed in this call.
+pub fn first_found<T: Tree>(
     alloc: Global,
     alternatives: &[String],
     env: &Env,

@@ -13,5 +13,6 @@ mod unloading;
 
 pub use answer::AutomaticAnswer;
 pub use fault::AutomaticFault;
+pub use finding::first_found;
 pub use loading::load_automatically;
 pub use unloading::unload_automatically;

@@ -7,8 +7,8 @@ ghost use Rattle.modules.specs.Answers.{cause_of, is_failure};
 ghost use Rattle.requests.specs.Reasons.{prereq_missing};
 ghost use Rattle.requests.specs.Steps.{request_context_in};
 ghost use Rattle.shelltext.specs.declared.shell.Shell.{Shell};
-ghost use Rattle.autohandling.specs.Loads.{AutomaticLoadLooksAt, RefusesLoad};
-ghost use Rattle.autohandling.specs.Views.{AnyLooksAt, IsPlan, IsUnmet, IsWhole, PutsIn, tries_left};
+ghost use Rattle.autohandling.specs.Loads.{AnyLooksAt, AutomaticLoadLooksAt, RefusesLoad};
+ghost use Rattle.autohandling.specs.Views.{IsPlan, IsUnmet, IsWhole, PutsIn, tries_left};
 
 use crate::finding::first_found;
 use crate::requesting::loaded;

@@ -1,4 +1,10 @@
-pub mod TrialLemmas
-pub mod FailedLemmas
 pub mod LocationLemmas
+pub mod SemicolonLemmas
+pub mod LineLemmas
+pub mod FolderLemmas
+pub mod AdviceLemmas
+pub mod AutomaticLemmas
+pub mod UnknownLemmas
+pub mod EvaluatedLemmas
+pub mod PartLemmas
 pub mod ExplainedLemmas

@@ -1,22 +1,26 @@
 -- What an explanation of a refused request promises (own): the file that it names is why, and what it advises would be
 -- accepted.
-use Rattle.std.specs.Prelude.{◌≡◌, Some, Ok, Err}
+use Rattle.std.specs.Prelude.{◌≡◌, ◌⊎◌, List, [], ◌∷◌, Option, Some, None, Ok, Err}
 use Rattle.envvars.specs.Environment.{Environment}
+use Rattle.envvars.specs.Texts.{Text}
 use Rattle.filetree.specs.Agreement.{Files, Listings, InEachPair}
 use Rattle.shelltext.specs.declared.shell.Shell.{Shell}
 use Rattle.tclrules.specs.declared.limits.Limits.{Limits}
 use Rattle.modulefile.specs.Files.{FileReason}
 use Rattle.modulerun.specs.Running.{file_reason_of}
 use Rattle.modulerun.specs.declared.run_fault.RunFault.{RunFault}
-use Rattle.requests.specs.Reasons.{file_refused}
+use Rattle.requests.specs.Reasons.{RequestReason, bad_arguments, file_refused}
 use Rattle.requests.specs.RequestViews.{action_view}
-use Rattle.requests.specs.Requests.{RequestedAction}
+use Rattle.requests.specs.Requests.{RequestedAction, request_of}
 use Rattle.requests.specs.Steps.{Done, RequestStep, request_context_in}
-use Rattle.explanations.specs.Failing.{words_of}
-use Rattle.explanations.specs.Locations.{Locates}
+use Rattle.failedcommands.specs.Failing.{words_of}
+use Rattle.explanations.specs.Advised.{ComesTo, IsAdvised, IsKnown}
+use Rattle.explanations.specs.Locations.{Locates, NoneIsLocated}
+use Rattle.explanations.specs.Replacements.{usage_of}
 use Rattle.explanations.specs.declared.advice.Advice.{Advice}
 use Rattle.explanations.specs.declared.advice.Advice.TheVariants as advices
-use Rattle.explanations.specs.declared.location.FileExplanation.{FileExplanation}
+use Rattle.explanations.specs.declared.explanation.Explanation.{Explanation}
+use Rattle.failedcommands.specs.declared.location.FileExplanation.{FileExplanation}
 
 -- In each pair of maps that agrees the request is refused because a modulefile is, and what is said locates a script
 -- that is refused in the same words.
@@ -41,3 +45,36 @@ IsSound agrees limits shell e (advices.Try action) = IsAccepted agrees limits sh
 IsSound agrees limits shell e (advices.TryAutomated asked action) =
     IsAccepted agrees limits shell e (action_view action)
 IsSound agrees limits shell e (advices.Known line) = Unit {0}
+
+-- The words don't fit the subcommand: how it is used.
+abbrev pub IsUsage : List Text → Option Advice → Type 0
+IsUsage [] o = o ≡ None
+IsUsage (word ∷ others) o = IsKnown (usage_of word) o
+
+abbrev pub IsOfUsage : List Text → Explanation → Type 0
+IsOfUsage words x = (x.file ≡ None) × IsUsage words x.advice
+
+-- The file that is said, where a request is refused because of one (`IsWhy` says of which); no other reason has one.
+-- Nothing is said only where none of the files that are evaluated in the request is located.
+abbrev pub IsFile : (Files → Listings → Type 0) → Limits → Shell → Environment → RequestedAction → RequestReason
+    → Option FileExplanation → Type 0
+IsFile agrees limits shell e action (file_refused reason) None =
+    (fault : RunFault) × (file_reason_of fault ≡ Some reason)
+    × NoneIsLocated agrees limits shell e action (words_of fault)
+IsFile agrees limits shell e action (file_refused reason) (Some x) = IsWhy agrees limits shell e action x
+IsFile agrees limits shell e action reason o = o ≡ None
+
+-- Of a request that is accepted nothing is said; of one that is refused, what the reason asks for.
+abbrev pub IsOfOutcome : (Files → Listings → Type 0) → Limits → Shell → Environment → RequestedAction → Explanation
+    → Type 0
+IsOfOutcome agrees limits shell e action x =
+    (IsAccepted agrees limits shell e action × (x.file ≡ None) × (x.advice ≡ None))
+    ⊎ ((reason : RequestReason) × ComesTo agrees limits shell e action (Err reason)
+    × IsFile agrees limits shell e action reason x.file
+    × IsAdvised agrees limits shell e action reason x.advice)
+
+-- What is said of the words of a request.
+abbrev pub IsExplained : (Files → Listings → Type 0) → Limits → Shell → Environment → List Text → Explanation → Type 0
+IsExplained agrees limits shell e words x =
+    ((request_of words ≡ Err bad_arguments) × IsOfUsage words x)
+    ⊎ ((action : RequestedAction) × (request_of words ≡ Ok action) × IsOfOutcome agrees limits shell e action x)

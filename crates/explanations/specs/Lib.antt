@@ -1,7 +1,13 @@
 -- Why a request was refused, and what to do.
-pub mod Cuts
-pub mod Failing
+pub mod Replacements
+pub mod Alike
+pub mod Advised
+pub mod Evaluated
 pub mod Locations
 pub mod Explained
+-- what is said of it
+pub mod FileLines
+pub mod AdviceLines
 -- for this crate's own contracts alone
 pub mod Views
+pub mod EvaluatedViews

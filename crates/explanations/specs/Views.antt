@@ -1,63 +1,67 @@
 -- What the values of the code stand for, for the contracts of this crate's private functions (own).
-use Rattle.std.specs.Prelude.{◌≡◌, Bool, true, false, is_none, List, ◌∷◌, string_bytes, vec_items, IfSome, Result, Ok, Err}
+use Rattle.std.specs.Prelude.{◌≡◌, Bool, true, false, is_none, List, Option, Some, None, String}
+use Rattle.std.specs.declared.alloc.Global.{Global}
+use Rattle.std.specs.declared.vec.Vec.{Vec}
 use Rattle.envvars.specs.Environment.{Environment}
-use Rattle.envvars.specs.Texts.{Text}
+use Rattle.envvars.specs.Texts.{Text, texts_in}
 use Rattle.filetree.specs.Agreement.{Files, Listings}
+use Rattle.filetree.specs.Causes.{Cause, memory, device, because}
+use Rattle.givenup.specs.Causes.{is_given_up}
+use Rattle.shelltext.specs.declared.print.PrintFault.TheVariants as prints
+use Rattle.shelltext.specs.declared.shell.Shell.{Shell}
 use Rattle.tclrules.specs.declared.limits.Limits.{Limits}
-use Rattle.modulefile.specs.Answers.{FileContext}
-use Rattle.modulefile.specs.Files.{FileReason, RunsFile}
-use Rattle.modulerun.specs.Running.{file_reason_of, ran_view, context_view}
-use Rattle.modulerun.specs.declared.run.FileRun.{FileRun}
-use Rattle.modulerun.specs.declared.run_fault.RunFault.{RunFault}
+use Rattle.modulerun.specs.Running.{file_reason_of}
+use Rattle.modules.specs.Answers.{cause_of}
 use Rattle.modules.specs.declared.refusal.Refusal.{Refusal}
 use Rattle.modules.specs.declared.refusal.Refusal.TheVariants as refusals
-use Rattle.explanations.specs.Failing.{HasFailed, HaveFailed, Place, Words, cut_behind, narrowed, words_of}
-use Rattle.explanations.specs.Locations.{Locates}
+use Rattle.failedcommands.specs.Failing.{words_of}
+use Rattle.failedcommands.specs.declared.location.FileExplanation.{FileExplanation}
+use Rattle.requests.specs.RequestViews.{action_view}
+use Rattle.requests.specs.Requests.{RequestedAction}
+use Rattle.requests.specs.declared.action.Action.{Action}
+use Rattle.autohandling.specs.declared.fault.AutomaticFault.{AutomaticFault}
+use Rattle.autohandling.specs.declared.fault.AutomaticFault.TheVariants as automatic
+use Rattle.explanations.specs.Advised.{IsFirstSwitch, NoSwitch}
+use Rattle.explanations.specs.Locations.{Locates, NoneIsLocated}
 use Rattle.explanations.specs.declared.advice.Advice.{Advice}
 use Rattle.explanations.specs.declared.advice.Advice.TheVariants as advices
-use Rattle.explanations.specs.declared.commands.CommandPlace.{CommandPlace}
-use Rattle.explanations.specs.declared.refusal_words.RefusalWords.{RefusalWords}
-use Rattle.explanations.specs.declared.failed_command.FailedCommand.{FailedCommand}
-use Rattle.explanations.specs.declared.location.FileExplanation.{FileExplanation}
-use Rattle.explanations.specs.declared.trials.RefusedFile.{RefusedFile}
 
--- the words
-abbrev pub words_view : RefusalWords → Words
-words_view words = (words.number, string_bytes words.text)
+-- where a cause is a reason, the fact holds of it
+abbrev pub IfBecause : {R : Type 0} → Cause R → (R → Type 0) → Type 0
+IfBecause memory P = Unit {0}
+IfBecause device P = Unit {0}
+IfBecause (because reason) P = P reason
 
--- the place of a command
-abbrev pub place_view : CommandPlace → Place
-place_view place = record { begin = place.begin; end = place.end; script_end = place.script_end }
+-- this action is to be tried
+abbrev pub IsTried : Action → Advice → Type 0
+IsTried action advice = advice ≡ advices.Try action
 
--- the context in which a file is evaluated
-abbrev pub context_in : RefusedFile → FileContext
-context_in refused = context_view refused.context.now refused.env.now
+-- a switch to the first of the names for which it is accepted is to be tried; or none is accepted
+module _ (agrees : Files → Listings → Type 0) (limits : Limits) (shell : Shell) (e : Environment) where
+  abbrev pub IsSwitchOrNone : Text → List Text → Option Advice → Type 0
+  IsSwitchOrNone other names None = NoSwitch agrees limits shell e other names
+  IsSwitchOrNone other names (Some advice) =
+      (action : Action) × IsTried action advice × IsFirstSwitch agrees limits shell e other names (action_view action)
 
--- what a call answers is the outcome of the text in the context, whatever environment it leaves; or memory ran out
-abbrev pub RunsText : Limits → FileContext → Text → Result FileRun RunFault → Type 0
-RunsText limits c text (Ok ran) = (new : Environment) × RunsFile limits c text (Ok (ran_view ran new))
-RunsText limits c text (Err fault) = IfSome (file_reason_of fault) (λ reason. RunsFile limits c text (Err reason))
+-- what was asked for is to be tried with the option --auto, and does this
+abbrev pub IsAutomated : List Text → Action → Advice → Type 0
+IsAutomated asked action advice =
+    (typed : Vec (String Global) Global) × (advice ≡ advices.TryAutomated typed action) × (texts_in typed ≡ asked)
 
--- the command failed, in its text, if the other one did in its own: in what that is, cut behind it
-pub record IsInwards (refused : RefusedFile) (outer inner : FailedCommand) : Type 0 where
-  pub cut : vec_items inner.text ≡ cut_behind (vec_items outer.text) (place_view outer.place)
-  pub failed : HasFailed refused.limits (context_in refused) (words_view refused.words.now) (vec_items inner.text)
-      (place_view inner.place)
+-- the fault is neither want of memory nor a failed device
+abbrev pub HasReason : AutomaticFault → Type 0
+HasReason (automatic.Refused refusal) = is_given_up (cause_of refusal) ≡ false
+HasReason (automatic.Unprinted prints.OutOfMemory) = ⊥
+HasReason (automatic.Unprinted (prints.NotSayable name)) = Unit {0}
 
--- the command failed in a file: it, and those around it
-pub record HasFailedWithin (refused : RefusedFile) (file : Text) (failed : FailedCommand) : Type 0 where
-  pub outer : List Place
-  pub cut : vec_items failed.text ≡ narrowed file outer
-  pub failing : HaveFailed refused.limits (context_in refused) (words_view refused.words.now) file
-      (place_view failed.place ∷ outer)
-
--- the refusal is by a fault of a modulefile, and what is said locates a script that is refused in its words
-pub record IsWhyOf (agrees : Files → Listings → Type 0) (limits : Limits) (refusal : Refusal) (x : FileExplanation)
-    : Type 0 where
-  pub fault : RunFault
-  pub caused : is_none (file_reason_of fault) ≡ false
-  pub by_file : refusal ≡ refusals.Run fault
-  pub located : Locates agrees limits (words_of fault) x
+-- What is said of the file of a refusal: of a fault of one, where it failed, or that none is located.
+abbrev pub IsFileOf : (Files → Listings → Type 0) → Limits → Shell → Environment → RequestedAction → Refusal
+    → Option FileExplanation → Type 0
+IsFileOf agrees limits shell e action (refusals.Run fault) None =
+    (is_none (file_reason_of fault) ≡ false) × NoneIsLocated agrees limits shell e action (words_of fault)
+IsFileOf agrees limits shell e action (refusals.Run fault) (Some x) =
+    (is_none (file_reason_of fault) ≡ false) × Locates agrees limits (words_of fault) x
+IsFileOf agrees limits shell e action refusal o = o ≡ None
 
 -- it is a line, and no request
 abbrev pub is_known : Advice → Bool

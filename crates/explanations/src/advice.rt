@@ -1,19 +1,25 @@
 //! What to do about a refusal: a request that would be accepted, or what is known.
-ghost use Rattle.std.specs.Prelude.{IfOk, IfSome};
+ghost use Rattle.std.specs.Prelude.{◌≡◌, ◌∷◌, [], Some, None, true, IfNone, IfOk, IfSome, map, string_bytes};
 ghost use Rattle.filetree.specs.Agreement.{Narrows};
+ghost use Rattle.search.specs.Answers.{cause_of as find_cause};
+ghost use Rattle.modulerun.specs.Running.{eval_reason, file_reason_of};
+ghost use Rattle.modules.specs.Answers.{cause_of};
+ghost use Rattle.requests.specs.RequestViews.{action_view};
+ghost use Rattle.requests.specs.Requests as actions;
+ghost use Rattle.explanations.specs.Advised as spec;
+ghost use Rattle.explanations.specs.Advised.{IsRefused};
 ghost use Rattle.explanations.specs.Explained.{IsSound};
+ghost use Rattle.explanations.specs.Views.{IfBecause, IsSwitchOrNone, IsTried, is_known};
 
-use crate::alike::names_like;
-use crate::left_out::instead_of;
+use crate::automatic::{for_need, for_needed};
+use crate::known::known;
 use crate::refused::RefusedRequest;
-use autohandling::{load_automatically, unload_automatically};
+use crate::replacements::instead_of;
+use crate::unknown::for_unknown;
 use envloaded::{is_loaded, loaded};
 use filetree::Tree;
-use lookup::locate;
-use message::texts::copies;
-use modules::{
-    Action, EvalFault, FindFault, MissingNames, Refusal, Request, RunFault, run_changes,
-};
+use givenup::unless_given_up;
+use modules::{Action, EvalFault, FindFault, Refusal, Request, RunFault, run_changes};
 use std::alloc::{AllocError, Global};
 
 /// What to do about a refusal.
@@ -33,7 +39,9 @@ pub enum Advice {
 }
 
 /// Advises this action where it would be accepted in the environment of the request.
-fn accepted<T: Tree>(
+///
+/// It fails where memory ran out, or the device failed.
+fn if_accepted<T: Tree>(
     refused: RefusedRequest<'_>,
     tree: &mut T,
     action: Action,
@@ -41,19 +49,37 @@ fn accepted<T: Tree>(
     ensures narrows { Narrows (T.agrees tree.old) (T.agrees tree.new) }
     ensures advised { IfOk result (λ o. IfSome o (IsSound (T.agrees tree.new) refused.entry.limits
         refused.entry.request.now.shell refused.entry.env.now)) }
+    ensures tried { IfOk result (λ o. IfSome o (IsTried action)) }
+    ensures none { IfOk result (λ o. IfNone o (IsRefused (T.agrees tree.new) refused.entry.limits
+        refused.entry.request.now.shell refused.entry.env.now (action_view action))) }
 {
     let request = Request {
         shell: refused.request.shell,
         action,
     };
-    match run_changes(refused.alloc, &request, refused.env, tree, refused.limits) {
+    let outcome = run_changes(refused.alloc, &request, refused.env, tree, refused.limits);
+    match unless_given_up(outcome)? {
         Ok(_) => Ok(Some(Advice::Try(request.action))),
-        Err(Refusal::OutOfMemory) => Err(Refusal::OutOfMemory),
         Err(_) => Ok(None),
     }
 }
 
-/// Advises a switch from the loaded module to one of these names, where one would be accepted.
+/// The switch from one module to another.
+fn switch_to(alloc: Global, old: &str, new: &str) -> Result<Action, AllocError>
+    ensures { IfOk result (λ action. action_view action ≡ actions.switch (Some old.now) new.now) }
+{
+    let old = String::from_str(alloc, old)?;
+    Ok(Action::Switch(Some(old), String::from_str(alloc, new)?))
+}
+
+/// The unload of one module.
+fn unload_of(alloc: Global, name: &str) -> Result<Action, AllocError>
+    ensures { IfOk result (λ action. action_view action ≡ actions.unload (name.now ∷ [])) }
+{
+    Ok(Action::Unload(vec![in alloc; String::from_str(alloc, name)?]?))
+}
+
+/// Advises a switch from the loaded module to the first of these names for which one would be accepted.
 fn switch_to_one<T: Tree>(
     refused: RefusedRequest<'_>,
     tree: &mut T,
@@ -63,15 +89,46 @@ fn switch_to_one<T: Tree>(
     ensures narrows { Narrows (T.agrees tree.old) (T.agrees tree.new) }
     ensures advised { IfOk result (λ o. IfSome o (IsSound (T.agrees tree.new) refused.entry.limits
         refused.entry.request.now.shell refused.entry.env.now)) }
+    ensures switches { IfOk result (IsSwitchOrNone (T.agrees tree.new) refused.entry.limits
+        refused.entry.request.now.shell refused.entry.env.now other.now (map string_bytes names.now)) }
 {
     for name in names {
-        let old = String::from_str(refused.alloc, other)?;
-        let switch = Action::Switch(Some(old), name.clone()?);
-        if let Some(advice) = accepted(refused, tree, switch)? {
+        let switch = switch_to(refused.alloc, other, name.as_str())?;
+        if let Some(advice) = if_accepted(refused, tree, switch)? {
             return Ok(Some(advice));
         }
     }
     Ok(None)
+}
+
+/// The names of a load; none of another action.
+fn names_to_load(action: &Action) -> &[String]
+    ensures { map string_bytes result.now ≡ spec.names_or_none (spec.names_to_load (action_view action.entry.now)) }
+{
+    match action {
+        Action::Load(names) => names.as_slice(),
+        _ => &[],
+    }
+}
+
+/// In the place of a load that the loaded module forbids: a switch from that one, or else its unload.
+fn instead<T: Tree>(
+    refused: RefusedRequest<'_>,
+    tree: &mut T,
+    other: &str,
+    names: &[String],
+) -> Result<Option<Advice>, Refusal>
+    ensures narrows { Narrows (T.agrees tree.old) (T.agrees tree.new) }
+    ensures advised { IfOk result (λ o. IfSome o (IsSound (T.agrees tree.new) refused.entry.limits
+        refused.entry.request.now.shell refused.entry.env.now)) }
+    ensures fits { IfOk result (spec.ForConflict (T.agrees tree.new) refused.entry.limits
+        refused.entry.request.now.shell refused.entry.env.now other.now (map string_bytes names.now)) }
+{
+    if let Some(advice) = switch_to_one(refused, tree, other, names)? {
+        return Ok(Some(advice));
+    }
+    let unload = unload_of(refused.alloc, other)?;
+    if_accepted(refused, tree, unload)
 }
 
 /// For a conflict with a loaded module: a switch from it to what was to be loaded, or else its unload.
@@ -83,149 +140,74 @@ fn for_conflict<T: Tree>(
     ensures narrows { Narrows (T.agrees tree.old) (T.agrees tree.new) }
     ensures advised { IfOk result (λ o. IfSome o (IsSound (T.agrees tree.new) refused.entry.limits
         refused.entry.request.now.shell refused.entry.env.now)) }
+    ensures fits { IfOk result (spec.ForConflict (T.agrees tree.new) refused.entry.limits
+        refused.entry.request.now.shell refused.entry.env.now other.now
+        (spec.names_or_none (spec.names_to_load (action_view refused.entry.request.now.action)))) }
 {
-    let alloc = refused.alloc;
-    if !is_loaded(loaded(alloc, refused.env)?.as_slice(), other) {
+    let entries = loaded(refused.alloc, refused.env)?;
+    if !is_loaded(entries.as_slice(), other) {
         return Ok(None);
     }
-    if let Action::Load(names) = &refused.request.action {
-        if let Some(advice) = switch_to_one(refused, tree, other, names)? {
-            return Ok(Some(advice));
-        }
-    }
-    let names = vec![in alloc; String::from_str(alloc, other)?]?;
-    accepted(refused, tree, Action::Unload(names))
+    let names = names_to_load(&refused.request.action);
+    instead(refused, tree, other, names)
 }
 
-/// Whether one of these names is found.
-fn is_one_found<T: Tree>(refused: RefusedRequest<'_>, tree: &mut T, names: &[String]) -> bool
-    ensures narrows { Narrows (T.agrees tree.old) (T.agrees tree.new) }
+/// For a text that is halted: what stands in the place of a command that is left out.
+fn for_halt(alloc: Global, fault: &EvalFault) -> Result<Option<Advice>, AllocError>
+    ensures known { IfOk result (λ o. IfSome o (λ advice. is_known advice ≡ true)) }
+    ensures fits { IfOk result (λ o. IfSome (eval_reason fault.now None) (λ reason. spec.ForFile reason o)) }
 {
-    for name in names {
-        if locate(
-            refused.alloc,
-            tree,
-            refused.modulepath(),
-            name.as_str(),
-            refused.limits,
-        )
-        .is_ok()
-        {
-            return true;
-        }
+    match fault {
+        EvalFault::LeftOut(name) => known(alloc, instead_of(name.as_str())),
+        EvalFault::OutOfMemory
+        | EvalFault::Text(_)
+        | EvalFault::TclError(_, _)
+        | EvalFault::TooManyCommands
+        | EvalFault::TooDeep
+        | EvalFault::ValueTooLong
+        | EvalFault::NumberTooLarge
+        | EvalFault::FractionOperand
+        | EvalFault::Stopped
+        | EvalFault::Host(_) => Ok(None),
     }
-    false
 }
 
-/// For a need: the load with what is needed first, or else that none of the alternatives is found.
-fn for_need<T: Tree>(
+/// For a modulefile that is refused.
+fn for_fault(alloc: Global, fault: &RunFault) -> Result<Option<Advice>, AllocError>
+    ensures known { IfOk result (λ o. IfSome o (λ advice. is_known advice ≡ true)) }
+    ensures fits { IfOk result (λ o. IfSome (file_reason_of fault.now) (λ reason. spec.ForFile reason o)) }
+{
+    match fault {
+        RunFault::Eval(fault) => for_halt(alloc, fault),
+        RunFault::OutOfMemory | RunFault::BadArguments | RunFault::BadRecord(_) => Ok(None),
+    }
+}
+
+/// For a search that fails: where no module is found, that nothing is searched, or names that are like it.
+fn for_missed<T: Tree>(
     refused: RefusedRequest<'_>,
     tree: &mut T,
-    missing: &MissingNames,
+    fault: &FindFault,
 ) -> Result<Option<Advice>, Refusal>
     ensures narrows { Narrows (T.agrees tree.old) (T.agrees tree.new) }
-    ensures advised { IfOk result (λ o. IfSome o (IsSound (T.agrees tree.new) refused.entry.limits
-        refused.entry.request.now.shell refused.entry.env.now)) }
+    ensures known { IfOk result (λ o. IfSome o (λ advice. is_known advice ≡ true)) }
+    ensures fits { IfOk result (λ o. IfBecause (find_cause fault.now) (λ reason.
+        spec.ForMissed (T.agrees tree.new) refused.entry.limits refused.entry.request.now.shell refused.entry.env.now
+        reason o)) }
 {
-    let alloc = refused.alloc;
-    let Action::Load(asked) = &refused.request.action else {
-        return Ok(None);
-    };
-    let shell = refused.request.shell;
-    if let Ok(answer) = load_automatically(alloc, shell, asked, refused.env, tree, refused.limits) {
-        return Ok(Some(Advice::TryAutomated {
-            asked: copies(alloc, asked.as_slice())?,
-            action: Action::Load(answer.names),
-        }));
-    }
-    if is_one_found(refused, tree, missing.names.as_slice()) {
-        return Ok(None);
-    }
-    let line = format!(in alloc; "Not found either: {}", missing.text())?;
-    Ok(Some(Advice::Known(line)))
-}
-
-/// For an unload of what others need: the unload with these.
-fn for_needed<T: Tree>(refused: RefusedRequest<'_>, tree: &mut T) -> Result<Option<Advice>, Refusal>
-    ensures narrows { Narrows (T.agrees tree.old) (T.agrees tree.new) }
-    ensures advised { IfOk result (λ o. IfSome o (IsSound (T.agrees tree.new) refused.entry.limits
-        refused.entry.request.now.shell refused.entry.env.now)) }
-{
-    let alloc = refused.alloc;
-    let Action::Unload(asked) = &refused.request.action else {
-        return Ok(None);
-    };
-    let shell = refused.request.shell;
-    match unload_automatically(alloc, shell, asked, refused.env, tree, refused.limits) {
-        Ok(answer) => Ok(Some(Advice::TryAutomated {
-            asked: copies(alloc, asked.as_slice())?,
-            action: Action::Unload(answer.names),
-        })),
-        Err(_) => Ok(None),
+    match fault {
+        FindFault::NotFound(name) => for_unknown(refused, tree, name.as_str()),
+        FindFault::OutOfMemory
+        | FindFault::Device
+        | FindFault::BadName(_)
+        | FindFault::BadDefaultFile(_)
+        | FindFault::NotUtf8(_) => Ok(None),
     }
 }
 
-/// Whether one of the directories of MODULEPATH may be there.
-fn is_one_there<T: Tree>(tree: &mut T, modulepath: &str) -> bool
-    ensures narrows { Narrows (T.agrees tree.old) (T.agrees tree.new) }
-{
-    for directory in modulepath.split(':') {
-        if directory.is_empty() {
-            continue;
-        }
-        match tree.entries(directory) {
-            Ok(None) => {}
-            Ok(Some(_)) | Err(_) => return true,
-        }
-    }
-    false
-}
-
-/// The names that may be meant, as a question.
-fn question(alloc: Global, names: &[String]) -> Result<Option<String>, AllocError> {
-    let [first, others @ ..] = names else {
-        return Ok(None);
-    };
-    let mut line = format!(in alloc; "Did you mean {first}")?;
-    for other in others {
-        line.push_str(", ")?;
-        line.push_str(other.as_str())?;
-    }
-    line.push('?')?;
-    Ok(Some(line))
-}
-
-/// For a name that isn't found: names that are like it, or that nothing is searched.
-fn for_unknown<T: Tree>(
-    refused: RefusedRequest<'_>,
-    tree: &mut T,
-    name: &str,
-) -> Result<Option<Advice>, Refusal>
-    ensures narrows { Narrows (T.agrees tree.old) (T.agrees tree.new) }
-    ensures advised { IfOk result (λ o. IfSome o (IsSound (T.agrees tree.new) refused.entry.limits
-        refused.entry.request.now.shell refused.entry.env.now)) }
-{
-    let alloc = refused.alloc;
-    let modulepath = refused.modulepath();
-    if modulepath.is_empty() {
-        let line =
-            "No MODULEPATH is set: \"module use DIRECTORY\" adds one, and a site has its own in etc/modulespath.";
-        return Ok(Some(Advice::Known(String::from_str(alloc, line)?)));
-    }
-    if !is_one_there(tree, modulepath) {
-        let line = format!(in alloc;
-            "None of the directories of MODULEPATH is there: {modulepath}"
-        )?;
-        return Ok(Some(Advice::Known(line)));
-    }
-    let names = names_like(alloc, name, modulepath, tree, refused.limits)?;
-    match question(alloc, names.as_slice())? {
-        Some(line) => Ok(Some(Advice::Known(line))),
-        None => Ok(None),
-    }
-}
-
-/// What to do about this refusal of a request, if something is known.
+/// What to do about this refusal of the request, if something is known.
+///
+/// It fails where memory ran out, or the device failed.
 pub(crate) fn advice_for<T: Tree>(
     refused: RefusedRequest<'_>,
     tree: &mut T,
@@ -234,16 +216,21 @@ pub(crate) fn advice_for<T: Tree>(
     ensures narrows { Narrows (T.agrees tree.old) (T.agrees tree.new) }
     ensures advised { IfOk result (λ o. IfSome o (IsSound (T.agrees tree.new) refused.entry.limits
         refused.entry.request.now.shell refused.entry.env.now)) }
+    ensures fits { IfOk result (λ o. IfBecause (cause_of refusal.now) (λ reason.
+        spec.IsAdvised (T.agrees tree.new) refused.entry.limits refused.entry.request.now.shell refused.entry.env.now
+        (action_view refused.entry.request.now.action) reason o)) }
 {
     match refusal {
         Refusal::ConflictWith(other) => for_conflict(refused, tree, other.as_str()),
         Refusal::PrereqMissing(missing) => for_need(refused, tree, missing),
         Refusal::StillNeededBy(_) => for_needed(refused, tree),
-        Refusal::Find(FindFault::NotFound(name)) => for_unknown(refused, tree, name.as_str()),
-        Refusal::Run(RunFault::Eval(EvalFault::LeftOut(name))) => match instead_of(name.as_str()) {
-            Some(line) => Ok(Some(Advice::Known(String::from_str(refused.alloc, line)?))),
-            None => Ok(None),
-        },
-        _ => Ok(None),
+        Refusal::Find(fault) => for_missed(refused, tree, fault),
+        Refusal::Run(fault) => Ok(for_fault(refused.alloc, fault)?),
+        Refusal::OutOfMemory
+        | Refusal::Env(_)
+        | Refusal::BadArguments
+        | Refusal::UnknownSubcommand(_)
+        | Refusal::FileGone(_)
+        | Refusal::NotAModulefile(_) => Ok(None),
     }
 }

@@ -1,15 +1,32 @@
 //! The files of which one is refused in a request, each with what it is evaluated under.
-ghost use Rattle.filetree.specs.Agreement.{Narrows};
+ghost use Rattle.std.specs.Prelude.{◌≡◌, ◌++◌, List, IfOk, OnOk, map, reverse, string_bytes};
+ghost use Rattle.std.specs.Option.{option_map, option_to_list};
+ghost use Rattle.envloaded.specs.Loaded.{Entry, names_of};
+ghost use Rattle.envloaded.specs.LoadedEntries.{entry_view};
+ghost use Rattle.envvars.specs.Texts.{texts_in};
+ghost use Rattle.filetree.specs.Agreement.{InEachPair, Narrows};
+ghost use Rattle.modulefile.specs.RecordViews.{mode_view};
+ghost use Rattle.modulename.specs.ModuleName.{parts};
+ghost use Rattle.requests.specs.RequestViews.{action_view};
+ghost use Rattle.requests.specs.Requests as actions;
+ghost use Rattle.requests.specs.Steps as steps;
+ghost use Rattle.requests.specs.Steps.{request_context_in};
+ghost use Rattle.explanations.specs.Evaluated as spec;
+ghost use Rattle.explanations.specs.Evaluated.{AreEvaluated, AreEvaluatedFor, FileOf, FoundOrMissed};
+ghost use Rattle.explanations.specs.EvaluatedViews as views;
+ghost use Rattle.explanations.specs.EvaluatedViews.{IsPassed, file_context, files_view, module_view, part_view};
 
-use crate::refused::RefusedRequest;
-use envloaded::{loaded, names_of};
+use crate::refused::{RefusedRequest, searched_path};
+use envloaded::{Loaded, loaded, names_of};
 use envvars::Env;
 use envvars::fields::owned;
 use filetree::Tree;
-use lookup::{FindFault, locate};
+use givenup::{is_search_given_up, unless_given_up};
+use lookup::EvaluatedDefaultFiles;
 use modulefile::Mode;
-use modulename::means;
-use modules::{Action, Outcome, Refusal, Request, respond};
+use modules::{Action, Refusal, Request, make_changes};
+use requests::last_meant;
+use search::locate;
 use std::alloc::{AllocError, Global};
 
 /// The file of a module, with what it is evaluated under.
@@ -31,17 +48,26 @@ pub(crate) struct EvaluatedFile {
     pub(crate) env: Env,
 }
 
+/// A module by its full name, and the path of its file.
+#[derive(Drop)]
+pub(crate) struct ModulePath {
+    pub(crate) name: String,
+    pub(crate) path: String,
+}
+
 /// A part of a request: what it asks for of one name.
 #[derive(Clone, Copy)]
-struct NamePart<'a> {
-    mode: Mode,
-    in_switch: bool,
-    name: &'a str,
+pub(crate) struct NamePart<'a> {
+    pub(crate) mode: Mode,
+    pub(crate) in_switch: bool,
+    pub(crate) name: &'a str,
 }
 
 impl NamePart<'_> {
     /// What is asked for.
-    fn action(self, alloc: Global) -> Result<Action, AllocError> {
+    fn action(&self, alloc: Global) -> Result<Action, AllocError>
+        ensures { IfOk result (λ action. action_view action ≡ spec.action_of (part_view self.now)) }
+    {
         let names = vec![in alloc; String::from_str(alloc, self.name)?]?;
         Ok(match self.mode {
             Mode::Load => Action::Load(names),
@@ -52,67 +78,171 @@ impl NamePart<'_> {
     }
 }
 
-/// The names of the loaded modules.
-fn loaded_names(alloc: Global, env: &Env) -> Result<Vec<String>, Refusal> {
-    let entries = loaded(alloc, env)?;
-    let names = names_of(alloc, entries.as_slice())?;
-    Ok(owned(alloc, names.as_slice())?)
+/// The names of these modules.
+fn names_in(alloc: Global, entries: &[Loaded]) -> Result<Vec<String>, AllocError>
+    ensures { IfOk result (λ names. texts_in names ≡ names_of (map entry_view entries.now)) }
+{
+    let names = names_of(alloc, entries)?;
+    owned(alloc, names.as_slice())
 }
 
-/// The full name and the path of the last loaded module that a name means, if there is one.
-fn recorded(alloc: Global, name: &str, env: &Env) -> Result<Option<(String, String)>, Refusal> {
-    let mut last = None;
-    for entry in loaded(alloc, env)? {
-        if means(name, entry.name.as_str()) {
-            last = Some((entry.name, entry.path));
-        }
+/// The last of these loaded modules that a name means, if there is one.
+fn recorded(alloc: Global, name: &str, entries: &[Loaded]) -> Result<Option<ModulePath>, AllocError>
+    ensures { IfOk result (λ o. option_map module_view o
+        ≡ option_map spec.entry_path (steps.last_meant name.now (map entry_view entries.now))) }
+{
+    match last_meant(entries, name) {
+        Some(entry) => Ok(Some(ModulePath {
+            name: String::from_str(alloc, entry.name.as_str())?,
+            path: String::from_str(alloc, entry.path.as_str())?,
+        })),
+        None => Ok(None),
     }
-    Ok(last)
 }
 
-/// The full name and the path of the module that a name means by the search, if it is found.
+/// The module that a name means by the search, if one is found.
 fn found<T: Tree>(
     refused: RefusedRequest<'_>,
     name: &str,
     env: &Env,
     tree: &mut T,
-) -> Result<Option<(String, String)>, Refusal>
+) -> Result<Option<ModulePath>, Refusal>
     ensures narrows { Narrows (T.agrees tree.old) (T.agrees tree.new) }
+    ensures found { IfOk result (λ o. InEachPair (T.agrees tree.new) (λ files listings.
+        FoundOrMissed (request_context_in refused.entry.limits refused.entry.request.now.shell files listings) env.now
+        name.now (option_map module_view o))) }
 {
-    let modulepath = env.get("MODULEPATH").unwrap_or("");
-    match locate(refused.alloc, tree, modulepath, name, refused.limits) {
-        Ok(module) => Ok(Some((module.name, module.path))),
-        Err(FindFault::OutOfMemory) => Err(Refusal::OutOfMemory),
-        Err(_) => Ok(None),
+    let default_files = EvaluatedDefaultFiles {
+        limits: refused.limits,
+    };
+    match locate(
+        refused.alloc,
+        tree,
+        &default_files,
+        searched_path(env),
+        name,
+    ) {
+        Ok(module) => Ok(Some(ModulePath {
+            name: module.name,
+            path: module.path,
+        })),
+        Err(fault) => {
+            if is_search_given_up(&fault) {
+                Err(Refusal::Find(fault))
+            } else {
+                Ok(None)
+            }
+        }
     }
+}
+
+/// The module of a part of a request, where these modules are loaded.
+fn meant<T: Tree>(
+    refused: RefusedRequest<'_>,
+    part: &NamePart<'_>,
+    entries: &[Loaded],
+    env: &Env,
+    tree: &mut T,
+) -> Result<Option<ModulePath>, Refusal>
+    ensures narrows { Narrows (T.agrees tree.old) (T.agrees tree.new) }
+    ensures meant { IfOk result (λ o. InEachPair (T.agrees tree.new) (λ files listings.
+        spec.IsMeant (request_context_in refused.entry.limits refused.entry.request.now.shell files listings) env.now
+        (map entry_view entries.now) (mode_view part.now.mode) part.now.name.now (option_map module_view o))) }
+{
+    match part.mode {
+        Mode::Unload => Ok(recorded(refused.alloc, part.name, entries)?),
+        Mode::Load | Mode::Display | Mode::Whatis => found(refused, part.name, env, tree),
+    }
+}
+
+/// The file of a module, as a part of a request evaluates it.
+fn file_for(
+    alloc: Global,
+    part: &NamePart<'_>,
+    target: ModulePath,
+    entries: &[Loaded],
+    env: &Env,
+) -> Result<EvaluatedFile, Refusal>
+    ensures { IfOk result (λ file. (s : steps.RequestContext) → file_context s.shell file
+        ≡ spec.part_context s env.now (map entry_view entries.now) (part_view part.now) (module_view target)) }
+{
+    Ok(EvaluatedFile {
+        module: target.name,
+        path: target.path,
+        mode: part.mode,
+        in_switch: part.in_switch,
+        typed: String::from_str(alloc, part.name)?,
+        loaded: names_in(alloc, entries)?,
+        env: env.copy()?,
+    })
 }
 
 /// The file that a part of a request evaluates in this environment, if there is one.
 fn file_of<T: Tree>(
     refused: RefusedRequest<'_>,
-    part: NamePart<'_>,
+    part: &NamePart<'_>,
     env: &Env,
     tree: &mut T,
 ) -> Result<Option<EvaluatedFile>, Refusal>
     ensures narrows { Narrows (T.agrees tree.old) (T.agrees tree.new) }
+    ensures file { IfOk result (λ o. InEachPair (T.agrees tree.new) (λ files listings.
+        FileOf (request_context_in refused.entry.limits refused.entry.request.now.shell files listings) env.now
+        (part_view part.now) (option_map (file_context refused.entry.request.now.shell) o))) }
 {
-    let alloc = refused.alloc;
-    let module = match part.mode {
-        Mode::Unload => recorded(alloc, part.name, env)?,
-        Mode::Load | Mode::Display | Mode::Whatis => found(refused, part.name, env, tree)?,
+    let entries = loaded(refused.alloc, env)?;
+    match meant(refused, part, entries.as_slice(), env, tree)? {
+        Some(target) => {
+            let file = file_for(refused.alloc, part, target, entries.as_slice(), env)?;
+            Ok(Some(file))
+        }
+        None => Ok(None),
+    }
+}
+
+/// Adds the file that a part of a request evaluates, if there is one.
+fn push_file(files: &mut Vec<EvaluatedFile>, file: Option<EvaluatedFile>) -> Result<(), AllocError>
+    ensures { OnOk result (files.new.items ≡ files.old.items ++ option_to_list file) }
+{
+    if let Some(file) = file {
+        files.push(file)?;
+    }
+    Ok(())
+}
+
+/// Whether a refusal is by a modulefile.
+fn is_of_file(refusal: &Refusal) -> bool
+    ensures { result ≡ views.is_of_file refusal.now }
+{
+    matches!(refusal, Refusal::Run(_))
+}
+
+/// Does a part of a request in an environment, after its file is added to the others. It says whether the part is
+/// refused for its file.
+fn pass<T: Tree>(
+    refused: RefusedRequest<'_>,
+    part: &NamePart<'_>,
+    files: &mut Vec<EvaluatedFile>,
+    env: &mut Env,
+    tree: &mut T,
+) -> Result<bool, Refusal>
+    ensures narrows { Narrows (T.agrees tree.old) (T.agrees tree.new) }
+    ensures passed { IfOk result (λ is. InEachPair (T.agrees tree.new) (λ maps listings.
+        IsPassed (request_context_in refused.entry.limits refused.entry.request.now.shell maps listings) env.old env.new
+        (part_view part.now) (files_view refused.entry.request.now.shell files.old)
+        (files_view refused.entry.request.now.shell files.new) is)) }
+{
+    let file = file_of(refused, part, env, tree)?;
+    push_file(files, file)?;
+    let request = Request {
+        shell: refused.request.shell,
+        action: part.action(refused.alloc)?,
     };
-    let Some((module, path)) = module else {
-        return Ok(None);
-    };
-    Ok(Some(EvaluatedFile {
-        module,
-        path,
-        mode: part.mode,
-        in_switch: part.in_switch,
-        typed: String::from_str(alloc, part.name)?,
-        loaded: loaded_names(alloc, env)?,
-        env: env.copy()?,
-    }))
+    let outcome = make_changes(refused.alloc, &request, env, tree, refused.limits);
+    match unless_given_up(outcome)? {
+        Ok(_) => Ok(false),
+        // Half of a switch is also refused where only the whole keeps what others need.
+        Err(refusal) => Ok(is_of_file(&refusal)),
+    }
 }
 
 /// The files that are evaluated for parts of a request, done one after another in a copy of the environment, up to the
@@ -123,21 +253,15 @@ fn files_of<T: Tree>(
     tree: &mut T,
 ) -> Result<Vec<EvaluatedFile>, Refusal>
     ensures narrows { Narrows (T.agrees tree.old) (T.agrees tree.new) }
+    ensures evaluated { IfOk result (λ files. InEachPair (T.agrees tree.new) (λ maps listings.
+        AreEvaluatedFor (request_context_in refused.entry.limits refused.entry.request.now.shell maps listings)
+        refused.entry.env.now (map part_view parts.now) (files_view refused.entry.request.now.shell files))) }
 {
     let mut files = Vec::new(refused.alloc);
     let mut env = refused.env.copy()?;
     for part in parts {
-        if let Some(file) = file_of(refused, *part, &env, tree)? {
-            files.push(file)?;
-        }
-        let request = Request {
-            shell: refused.request.shell,
-            action: part.action(refused.alloc)?,
-        };
-        let outcome = respond(refused.alloc, &request, &mut env, tree, refused.limits);
-        // Half of a switch is also refused where only the whole keeps what others need.
-        if let Outcome::Refused(Refusal::Run(_)) = outcome {
-            break;
+        if pass(refused, part, &mut files, &mut env, tree)? {
+            return Ok(files);
         }
     }
     Ok(files)
@@ -148,7 +272,10 @@ fn parts_for<'a>(
     alloc: Global,
     mode: Mode,
     names: &'a [String],
-) -> Result<Vec<NamePart<'a>>, AllocError> {
+) -> Result<Vec<NamePart<'a>>, AllocError>
+    ensures { IfOk result (λ parts. map part_view parts.items
+        ≡ spec.parts_for (mode_view mode) (map string_bytes names.entry.now)) }
+{
     let mut parts = Vec::with_capacity(alloc, names.len())?;
     for name in names {
         parts.push(NamePart {
@@ -160,21 +287,34 @@ fn parts_for<'a>(
     Ok(parts)
 }
 
+/// The first part of a name.
+fn first_part(name: &str) -> &str
+    ensures { result.now ≡ steps.first_part (parts name.now) }
+{
+    match name.split_once('/') {
+        Some((first, _)) => first,
+        None => name,
+    }
+}
+
 /// The parts of a switch. Without an old name it is the first part of the new one.
 fn parts_of_switch<'a>(
     alloc: Global,
-    old: Option<&'a str>,
+    old: &'a Option<String>,
     new: &'a str,
-) -> Result<Vec<NamePart<'a>>, AllocError> {
-    let first = match new.split_once('/') {
-        Some((first, _)) => first,
-        None => new,
+) -> Result<Vec<NamePart<'a>>, AllocError>
+    ensures { IfOk result (λ parts. (entries : List Entry) → map part_view parts.items
+        ≡ spec.parts_of entries (actions.switch (option_map string_bytes old.entry.now) new.entry.now)) }
+{
+    let old = match old {
+        Some(old) => old.as_str(),
+        None => first_part(new),
     };
     Ok(vec![in alloc;
         NamePart {
             mode: Mode::Unload,
             in_switch: true,
-            name: old.unwrap_or(first),
+            name: old,
         },
         NamePart {
             mode: Mode::Load,
@@ -184,24 +324,43 @@ fn parts_of_switch<'a>(
     ]?)
 }
 
+/// The parts of a request, where these modules are loaded, of which the last is the first.
+fn parts_of<'a>(
+    alloc: Global,
+    unloaded: &'a [String],
+    action: &'a Action,
+) -> Result<Vec<NamePart<'a>>, AllocError>
+    ensures { IfOk result (λ parts. (entries : List Entry)
+        → map string_bytes unloaded.entry.now ≡ reverse (names_of entries)
+        → map part_view parts.items ≡ spec.parts_of entries (action_view action.entry.now)) }
+{
+    match action {
+        Action::Load(names) => parts_for(alloc, Mode::Load, names),
+        Action::Unload(names) => parts_for(alloc, Mode::Unload, names),
+        Action::Purge => parts_for(alloc, Mode::Unload, unloaded),
+        Action::Show(names) => parts_for(alloc, Mode::Display, names),
+        Action::Whatis(names) => parts_for(alloc, Mode::Whatis, names),
+        Action::Switch(old, new) => parts_of_switch(alloc, old, new.as_str()),
+        Action::List | Action::Avail(_) => Ok(Vec::new(alloc)),
+    }
+}
+
 /// The files that are evaluated in a request, up to the first that is refused.
+///
+/// It fails where the loaded lists don't fit together, memory ran out, or the device failed.
 pub(crate) fn evaluated_files<T: Tree>(
     refused: RefusedRequest<'_>,
     tree: &mut T,
 ) -> Result<Vec<EvaluatedFile>, Refusal>
     ensures narrows { Narrows (T.agrees tree.old) (T.agrees tree.new) }
+    ensures evaluated { IfOk result (λ files. InEachPair (T.agrees tree.new) (λ maps listings.
+        AreEvaluated (request_context_in refused.entry.limits refused.entry.request.now.shell maps listings)
+        refused.entry.env.now (action_view refused.entry.request.now.action)
+        (files_view refused.entry.request.now.shell files))) }
 {
-    let alloc = refused.alloc;
-    let mut unloaded = loaded_names(alloc, refused.env)?;
+    let entries = loaded(refused.alloc, refused.env)?;
+    let mut unloaded = names_in(refused.alloc, entries.as_slice())?;
     unloaded.reverse();
-    let parts = match &refused.request.action {
-        Action::Load(names) => parts_for(alloc, Mode::Load, names)?,
-        Action::Unload(names) => parts_for(alloc, Mode::Unload, names)?,
-        Action::Purge => parts_for(alloc, Mode::Unload, unloaded.as_slice())?,
-        Action::Show(names) => parts_for(alloc, Mode::Display, names)?,
-        Action::Whatis(names) => parts_for(alloc, Mode::Whatis, names)?,
-        Action::Switch(old, new) => parts_of_switch(alloc, old.as_deref(), new.as_str())?,
-        Action::List | Action::Avail(_) => Vec::new(alloc),
-    };
+    let parts = parts_of(refused.alloc, unloaded.as_slice(), &refused.request.action)?;
     files_of(refused, parts.as_slice(), tree)
 }

@@ -1,17 +1,23 @@
 //! What is said of a refused request: where a modulefile failed, and what to do.
 ghost use Rattle.std.specs.Prelude.{◌≡◌, true, Ok, IfOk, IfSome, map, string_bytes};
 ghost use Rattle.filetree.specs.Agreement.{Narrows};
+ghost use Rattle.modules.specs.Answers.{cause_of};
+ghost use Rattle.requests.specs.RequestViews.{action_view};
 ghost use Rattle.requests.specs.Requests.{RequestedAction, request_of};
-ghost use Rattle.explanations.specs.Explained.{IsSound, IsWhy};
-ghost use Rattle.explanations.specs.Views.{IsWhyOf, is_known};
+ghost use Rattle.explanations.specs.Advised.{IsAdvised};
+ghost use Rattle.explanations.specs.Explained.{IsExplained, IsOfOutcome, IsOfUsage, IsSound, IsWhy};
+ghost use Rattle.explanations.specs.Views.{IfBecause, IsFileOf, is_known};
 
 use crate::advice::{Advice, advice_for};
-use crate::location::{FileExplanation, explain_file};
+use crate::known::known;
+use crate::location::explain_file;
 use crate::refused::RefusedRequest;
-use crate::usage::usage_of;
+use crate::replacements::usage_of;
 use envvars::Env;
+use failedcommands::FileExplanation;
 use filetree::Tree;
-use modules::{FindFault, Refusal, Request, request, run_changes};
+use givenup::unless_given_up;
+use modules::{Refusal, request, run_changes};
 use shelltext::Shell;
 use std::alloc::{AllocError, Global};
 use tclrules::Limits;
@@ -25,17 +31,19 @@ pub struct Explanation {
     pub advice: Option<Advice>,
 }
 
-/// What is advised where these words make no request: how the subcommand is used.
-fn usage_for(alloc: Global, words: &[String]) -> Result<Option<Advice>, AllocError>
-    ensures { IfOk result (λ o. IfSome o (λ advice. is_known advice ≡ true)) }
+/// What is said where these words make no request: how the subcommand is used.
+fn of_usage(alloc: Global, words: &[String]) -> Result<Explanation, AllocError>
+    ensures known { IfOk result (λ x. IfSome x.advice (λ advice. is_known advice ≡ true)) }
+    ensures said { IfOk result (IsOfUsage (map string_bytes words.now)) }
 {
-    let [word, ..] = words else {
-        return Ok(None);
+    let line = match words {
+        [word, ..] => usage_of(word.as_str()),
+        [] => None,
     };
-    match usage_of(word.as_str()) {
-        Some(line) => Ok(Some(Advice::Known(String::from_str(alloc, line)?))),
-        None => Ok(None),
-    }
+    Ok(Explanation {
+        file: None,
+        advice: known(alloc, line)?,
+    })
 }
 
 /// Where a modulefile failed, if the request is refused for one that is shown to have.
@@ -45,45 +53,80 @@ fn file_of<T: Tree>(
     refusal: &Refusal,
 ) -> Result<Option<FileExplanation>, Refusal>
     ensures narrows { Narrows (T.agrees tree.old) (T.agrees tree.new) }
-    ensures located { IfOk result (λ o. IfSome o (IsWhyOf (T.agrees tree.new) refused.entry.limits refusal.now)) }
+    ensures file { IfOk result (IsFileOf (T.agrees tree.new) refused.entry.limits refused.entry.request.now.shell
+        refused.entry.env.now (action_view refused.entry.request.now.action) refusal.now) }
 {
     match refusal {
         Refusal::Run(fault) => explain_file(refused, fault, tree),
-        _ => Ok(None),
+        Refusal::OutOfMemory
+        | Refusal::Find(_)
+        | Refusal::Env(_)
+        | Refusal::BadArguments
+        | Refusal::UnknownSubcommand(_)
+        | Refusal::ConflictWith(_)
+        | Refusal::PrereqMissing(_)
+        | Refusal::StillNeededBy(_)
+        | Refusal::FileGone(_)
+        | Refusal::NotAModulefile(_) => Ok(None),
     }
-}
-
-/// Whether the device failed.
-fn is_of_device(refusal: &Refusal) -> bool {
-    matches!(refusal, Refusal::Find(FindFault::Device))
 }
 
 /// What is said of a request that is refused so.
 ///
-/// It fails for want of memory, or by 43 where the device failed.
+/// It fails where memory ran out, or the device failed.
 fn of_refusal<T: Tree>(
     refused: RefusedRequest<'_>,
     tree: &mut T,
     refusal: &Refusal,
 ) -> Result<Explanation, Refusal>
     ensures narrows { Narrows (T.agrees tree.old) (T.agrees tree.new) }
-    ensures located { IfOk result (λ x. IfSome x.file (IsWhyOf (T.agrees tree.new) refused.entry.limits refusal.now)) }
+    ensures file { IfOk result (λ x. IsFileOf (T.agrees tree.new) refused.entry.limits refused.entry.request.now.shell
+        refused.entry.env.now (action_view refused.entry.request.now.action) refusal.now x.file) }
     ensures advised { IfOk result (λ x. IfSome x.advice (IsSound (T.agrees tree.new) refused.entry.limits
         refused.entry.request.now.shell refused.entry.env.now)) }
+    ensures fits { IfOk result (λ x. IfBecause (cause_of refusal.now) (λ reason.
+        IsAdvised (T.agrees tree.new) refused.entry.limits refused.entry.request.now.shell refused.entry.env.now
+        (action_view refused.entry.request.now.action) reason x.advice)) }
 {
-    if is_of_device(refusal) {
-        return Err(Refusal::Find(FindFault::Device));
-    }
-    let advice = advice_for(refused, tree, refusal)?;
     let file = file_of(refused, tree, refusal)?;
+    let advice = advice_for(refused, tree, refusal)?;
     Ok(Explanation { file, advice })
+}
+
+/// What is said of a request that is run: nothing where it is accepted.
+///
+/// It fails where memory ran out, or the device failed.
+fn of_request<T: Tree>(refused: RefusedRequest<'_>, tree: &mut T) -> Result<Explanation, Refusal>
+    ensures narrows { Narrows (T.agrees tree.old) (T.agrees tree.new) }
+    ensures why { IfOk result (λ x. IfSome x.file (IsWhy (T.agrees tree.new) refused.entry.limits
+        refused.entry.request.now.shell refused.entry.env.now (action_view refused.entry.request.now.action))) }
+    ensures advised { IfOk result (λ x. IfSome x.advice (IsSound (T.agrees tree.new) refused.entry.limits
+        refused.entry.request.now.shell refused.entry.env.now)) }
+    ensures said { IfOk result (IsOfOutcome (T.agrees tree.new) refused.entry.limits
+        refused.entry.request.now.shell refused.entry.env.now (action_view refused.entry.request.now.action)) }
+{
+    let outcome = run_changes(
+        refused.alloc,
+        refused.request,
+        refused.env,
+        tree,
+        refused.limits,
+    );
+    match unless_given_up(outcome)? {
+        Ok(_) => Ok(Explanation {
+            file: None,
+            advice: None,
+        }),
+        Err(refusal) => of_refusal(refused, tree, &refusal),
+    }
 }
 
 /// Explains why the request of these words, of which the first is the subcommand, is refused; nothing where it is
 /// accepted. The environment doesn't change. A file is named only where the request is refused because of one, and only
-/// one that is refused in the same words, by the command that is named; what is advised would be accepted.
+/// one that is refused in the same words, by the command that is named; what is advised would be accepted, and is what
+/// the reason of the refusal asks for. Where the words don't fit the subcommand it says how that is used.
 ///
-/// It fails for want of memory, or by 43 where the device failed.
+/// It fails where no subcommand has this name, for want of memory, or by 43 where the device failed.
 #[tactic(auto, using(crate::proofs::ExplainedLemmas::known_if))]
 pub fn explain<T: Tree>(
     alloc: Global,
@@ -97,28 +140,18 @@ pub fn explain<T: Tree>(
         × (request_of (map string_bytes words.now) ≡ Ok action)
         × IsWhy (T.agrees tree.new) limits shell env.now action file)) }
     ensures advised { IfOk result (λ x. IfSome x.advice (IsSound (T.agrees tree.new) limits shell env.now)) }
+    ensures said { IfOk result (IsExplained (T.agrees tree.new) limits shell env.now (map string_bytes words.now)) }
 {
     let wanted = match request(alloc, shell, words) {
         Ok(wanted) => wanted,
-        Err(Refusal::BadArguments) => {
-            let advice = usage_for(alloc, words)?;
-            return Ok(Explanation { file: None, advice });
-        }
+        Err(Refusal::BadArguments) => return Ok(of_usage(alloc, words)?),
         Err(refusal) => return Err(refusal),
     };
-    match run_changes(alloc, &wanted, env, tree, limits) {
-        Ok(_) => Ok(Explanation {
-            file: None,
-            advice: None,
-        }),
-        Err(refusal) => {
-            let refused = RefusedRequest {
-                alloc,
-                request: &wanted,
-                env,
-                limits,
-            };
-            of_refusal(refused, tree, &refusal)
-        }
-    }
+    let refused = RefusedRequest {
+        alloc,
+        request: &wanted,
+        env,
+        limits,
+    };
+    of_request(refused, tree)
 }

@@ -3,24 +3,23 @@
 #![tactic(auto)]
 
 mod advice;
+mod advice_lines;
 mod alike;
-mod bodies;
-mod commands;
-mod cuts;
+mod automatic;
 mod evaluated_files;
 mod explanation;
-mod failed_command;
 mod failures;
-mod left_out;
-mod lines;
+mod file_lines;
+mod known;
 mod location;
-mod refusal_words;
 mod refused;
-mod trials;
-mod usage;
+mod replacements;
+mod shortened;
+mod unknown;
 
 pub use advice::Advice;
+pub use advice_lines::advice_line;
 pub use explanation::{Explanation, explain};
+pub use failedcommands::FileExplanation;
 pub use failures::failed_path;
-pub use lines::{advice_line, log_line, user_lines};
-pub use location::FileExplanation;
+pub use file_lines::{log_line, user_lines};

@@ -1,4 +1,6 @@
 //! A request that is refused.
+ghost use Rattle.std.specs.Prelude.{◌≡◌};
+ghost use Rattle.requests.specs.Steps.{modulepath};
 
 use envvars::Env;
 use modules::Request;
@@ -14,9 +16,12 @@ pub(crate) struct RefusedRequest<'a> {
     pub(crate) limits: Limits,
 }
 
-impl<'a> RefusedRequest<'a> {
-    /// MODULEPATH, or the empty text where it is unset.
-    pub(crate) fn modulepath(self) -> &'a str {
-        self.env.get("MODULEPATH").unwrap_or("")
+/// The MODULEPATH of an environment, or the empty text where it is unset.
+pub(crate) fn searched_path(env: &Env) -> &str
+    ensures { result.now ≡ modulepath env.entry.now }
+{
+    match env.get("MODULEPATH") {
+        Some(text) => text,
+        None => "",
     }
 }

@@ -15,9 +15,15 @@ pub record Member : Type 0 where
   pub family : Text
   pub name : Text
 
+-- a name that means a module with a version (Symbols)
+pub record Symbol : Type 0 where
+  pub name : Text
+  pub version : Text
+
 -- a site, and the module that a file is of
 pub record Home : Type 0 where
   pub members : List Member
+  pub symbols : List Symbol
   pub name : Text
 
 -- The site

@@ -39,14 +39,14 @@ fn has_literal_bytes(name: &[u8]) -> bool
 }
 
 /// Whether the name can be written as it is.
-fn is_plain(name: &[u8]) -> bool
+pub(crate) fn is_plain(name: &[u8]) -> bool
     ensures { result ≡ spec.is_plain name.now }
 {
     begins_name(name) && has_literal_bytes(name)
 }
 
 /// Whether each of the names can.
-fn are_plain(names: &[&[u8]]) -> bool
+pub(crate) fn are_plain(names: &[&[u8]]) -> bool
     ensures { result ≡ list_all spec.is_plain (texts names.now) }
 {
     names.iter().all(|name| is_plain(name))

@@ -1,10 +1,13 @@
-//! The families of a site, with their modules.
-ghost use Rattle.std.specs.Prelude.{◌≡◌, ◌++◌, [], flat_map, IfOk, OnOk};
+//! What is known of a site: its families, with their modules, and its version symbols.
+ghost use Rattle.std.specs.Prelude.{◌≡◌, ◌++◌, [], bytes_eq, flat_map, IfOk, OnOk};
 ghost use Rattle.std.specs.List.{list_any};
 ghost use Rattle.portforms.specs.Words.{texts};
 ghost use Rattle.families.specs.Families as spec;
-ghost use Rattle.families.specs.Views.{home_view, member_view, members_view, site_view};
+ghost use Rattle.families.specs.Symbols as symbols;
+ghost use Rattle.families.specs.Views.{home_view, member_view, members_view, site_symbols, site_view, symbol_view};
+ghost use Rattle.families.specs.Views.{symbols_view};
 
+use crate::symbols::Symbol;
 use std::alloc::{AllocError, Global};
 
 /// A module, by its name without a version, and a family that a file of it names.
@@ -16,11 +19,13 @@ pub(crate) struct Member {
     pub name: Vec<u8>,
 }
 
-/// The families of a site, with their modules.
+/// What the files of a site say of its modules.
 #[derive(Debug, Drop)]
 pub struct Site {
     /// Each module with each family that it is in.
     pub(crate) members: Vec<Member>,
+    /// The version symbols, each of which has one meaning.
+    pub(crate) symbols: Vec<Symbol>,
 }
 
 /// A site, and the module that a file is of.
@@ -38,6 +43,14 @@ fn is_among(members: &[Member], family: &[u8], name: &[u8]) -> bool
 {
     members.iter().any(|member| member.family.as_slice() == family
         && member.name.as_slice() == name)
+}
+
+/// Whether a symbol of the name is among these.
+#[tactic(auto, using(crate::proofs::Lists::any_mapped))]
+fn is_said(said: &[Symbol], name: &[u8]) -> bool
+    ensures { result ≡ list_any (λ s. bytes_eq s.name name.now) (symbols_view said.now) }
+{
+    said.iter().any(|symbol| symbol.name.as_slice() == name)
 }
 
 /// Adds the module of a member, where that is another one of the family.
@@ -85,12 +98,14 @@ pub(crate) fn others_of<'s>(
 }
 
 impl Site {
-    /// One without families.
+    /// One of which nothing is said.
     pub fn new(alloc: Global) -> Site
-        ensures { site_view result ≡ [] }
+        ensures members { site_view result ≡ [] }
+        ensures symbols { site_symbols result ≡ [] }
     {
         Site {
             members: Vec::new(alloc),
+            symbols: Vec::new(alloc),
         }
     }
 
@@ -98,7 +113,8 @@ impl Site {
     ///
     /// The error: want of memory.
     pub fn add(&mut self, alloc: Global, family: &[u8], name: &[u8]) -> Result<(), AllocError>
-        ensures { OnOk result (site_view self.new ≡ spec.with_member (site_view self.old) family.now name.now) }
+        ensures members { OnOk result (site_view self.new ≡ spec.with_member (site_view self.old) family.now name.now) }
+        ensures symbols { OnOk result (site_symbols self.new ≡ site_symbols self.old) }
     {
         if is_among(self.members.as_slice(), family, name) {
             return Ok(());
@@ -106,6 +122,21 @@ impl Site {
         let family = Vec::from_slice(alloc, family)?;
         let name = Vec::from_slice(alloc, name)?;
         self.members.push(Member { family, name })?;
+        Ok(())
+    }
+
+    /// Adds a version symbol, where none of its name is there yet.
+    ///
+    /// The error: want of memory.
+    pub fn add_symbol(&mut self, symbol: Symbol) -> Result<(), AllocError>
+        ensures symbols { OnOk result (site_symbols self.new
+            ≡ symbols.with_symbol (site_symbols self.old) (symbol_view symbol)) }
+        ensures members { OnOk result (site_view self.new ≡ site_view self.old) }
+    {
+        if is_said(self.symbols.as_slice(), symbol.name.as_slice()) {
+            return Ok(());
+        }
+        self.symbols.push(symbol)?;
         Ok(())
     }
 }

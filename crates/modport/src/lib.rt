@@ -1,15 +1,18 @@
 //! The program `modport FILE`, `--stdin` or `FROM TO`: translates modulefiles into the profile (modport(1)).
 //! Touches its arguments and the standard streams, reads files and directories, and writes new ones.
-//! It is one of the names of the program `module`; it has no clause, so it has little code.
+//! It is one of the names of the program `module`.
 #![tactic(auto)]
 
 mod arguments;
-mod family_walk;
 mod fault;
 mod host;
+mod laws;
 mod left_out;
 mod porting;
+mod report_lines;
 mod reporting;
+mod saying;
+mod site_walk;
 mod status;
 mod texts;
 mod walk;
@@ -17,6 +20,8 @@ mod walk;
 use arguments::{Job, Wanted, asked_for};
 use fault::{PortFault, USAGE};
 use filetext::file_text;
+pub use laws::{accounted_for, unsaid_is_same};
+use left_out::LEFT_OUT;
 use porting::{Manner, Ported, port_file};
 use processinput::arguments as words_of;
 use status::Status;
@@ -56,6 +61,7 @@ fn port(rt: &HostRuntime) -> Result<Status, PortFault> {
     let manner = Manner {
         json,
         host: bindings.as_slice(),
+        left_out: &LEFT_OUT,
     };
     match job {
         Job::Help => help(rt),

@@ -1,17 +1,24 @@
 //! A modulefile translated, however it was written.
-ghost use Rattle.std.specs.Prelude.{IfOk, string_bytes};
+ghost use Rattle.std.specs.Prelude.{◌≡◌, length, IfOk, string_bytes};
+ghost use Rattle.std.specs.Option.{option_map};
 ghost use Rattle.scripttext.specs.ScriptTexts.{Parses};
+ghost use Rattle.computedwords.specs.Views.{bindings_view, edits_view};
+ghost use Rattle.translation.specs.TranslationViews.{notes_view};
+ghost use Rattle.modport.specs.Lines as lines;
+ghost use Rattle.modport.specs.Ported as spec;
+ghost use Rattle.modport.specs.Ported.{IsReported};
+ghost use Rattle.modport.specs.LineViews.{coming_view, now, porting_view};
 
 use crate::fault::PortFault;
-use crate::left_out::LEFT_OUT;
-use crate::reporting::{edit_lines, file_line, note_lines};
+use crate::reporting::push_report;
+use crate::saying::{Coming, added_lines, edit_lines, note_lines, writing_lines};
 use crate::status::Status;
-use computedwords::{Binding, Computed, compute};
+use computedwords::{Binding, Computed, Edit, compute};
 use families::Home;
 use filetext::FileText;
 use oneversion::with_one_version;
 use std::alloc::{AllocError, Global};
-use translation::{Note, Outcome, translate};
+use translation::{Note, Translation, translate};
 
 /// How modulefiles are translated.
 #[derive(Clone, Copy)]
@@ -20,6 +27,8 @@ pub struct Manner<'h> {
     pub json: bool,
     /// What is known of the host that they are for.
     pub host: &'h [Binding<'h>],
+    /// The names of commands that the profile leaves out.
+    pub left_out: &'h [&'h str],
 }
 
 /// What is written for a modulefile.
@@ -33,75 +42,182 @@ pub struct Ported {
     pub status: Status,
 }
 
-/// Adds a note on a file that was written so.
-fn push_note(notes: &mut Vec<Note>, said: &'static str) -> Result<(), AllocError> {
-    notes.push(Note {
-        line: 1,
-        said: said.as_bytes(),
-        outcome: Outcome::Translated,
-    })?;
-    Ok(())
-}
-
-/// Notes on a file: how it was written, where that is in another way.
-fn notes_on(alloc: Global, file: &FileText) -> Result<Vec<Note<'static>>, AllocError> {
-    let mut notes = Vec::new(alloc);
-    if file.mark {
-        push_note(&mut notes, "byte order mark")?;
-    }
-    if file.latin {
-        push_note(&mut notes, "Latin-1")?;
-    }
-    if file.returns {
-        push_note(&mut notes, "CR LF")?;
-    }
-    Ok(notes)
+/// A text that is in conflict with a name, where it is to be.
+#[derive(Debug, Drop)]
+struct OneVersion {
+    /// The text.
+    text: String,
+    /// The command that was added.
+    added: Option<String>,
 }
 
 /// The text of these bytes.
 ///
 /// The error: they aren't UTF-8.
-fn text_of(bytes: Vec<u8>) -> Result<String, PortFault> {
+fn text_of(bytes: Vec<u8>) -> Result<String, PortFault>
+    ensures { IfOk result (λ text. string_bytes text ≡ bytes.items) }
+{
     match String::from_utf8(bytes) {
         Ok(text) => Ok(text),
         Err(_) => Err(PortFault::NotUtf8),
     }
 }
 
-/// What is written for a modulefile that is to be in conflict with this name, and whether it has become so; what has
-/// such a conflict stays.
-fn one_version_of(
-    alloc: Global,
-    text: String,
-    name: Option<&str>,
-) -> Result<(String, bool), PortFault>
-    requires { Parses (string_bytes text) }
-    ensures parses { IfOk result (λ w. Parses (string_bytes w.0)) }
+/// Whether each edit is of bytes behind those of the one before it, in a text of which this many bytes are left.
+fn are_in_order(left: usize, edits: &[Edit]) -> bool
+    ensures { result ≡ spec.are_in_order left (edits_view edits.now) }
 {
-    let Some(name) = name else {
-        return Ok((text, false));
-    };
+    let mut left = left;
+    let mut rest = edits;
+    while let [edit, others @ ..] = rest {
+        if left < edit.from || edit.from < edit.to {
+            return false;
+        }
+        left = edit.to;
+        rest = others;
+    }
+    true
+}
+
+/// What was computed in a text, where it is in order; else nothing is.
+#[tactic(auto, using(crate::proofs::Taken::all_taken, crate::proofs::Taken::none_taken))]
+fn taken(alloc: Global, given: &str, computed: Computed) -> Result<Computed, AllocError>
+    ensures { IfOk result (λ c. spec.AreTaken given.now (edits_view computed.edits.items) (string_bytes computed.text)
+        (spec.are_in_order (length given.now) (edits_view computed.edits.items)) (edits_view c.edits.items)
+        (string_bytes c.text)) }
+{
+    if are_in_order(given.len(), computed.edits.as_slice()) {
+        return Ok(computed);
+    }
+    Ok(Computed {
+        text: String::from_str(alloc, given)?,
+        edits: Vec::new(alloc),
+    })
+}
+
+/// What is computed in a text.
+fn computed_of(alloc: Global, given: &str, host: &[Binding]) -> Result<Computed, PortFault>
+    ensures { IfOk result (λ c. spec.IsComputed (bindings_view host.now) given.now (edits_view c.edits.items)
+        (string_bytes c.text)) }
+{
+    let computed = compute(alloc, given, host)?;
+    Ok(taken(alloc, given, computed)?)
+}
+
+/// A conflict with the name.
+fn conflict_with(alloc: Global, name: &str) -> Result<String, AllocError>
+    ensures { IfOk result (λ text. string_bytes text ≡ spec.conflict_with name.now) }
+{
+    let mut text = String::from_str(alloc, "conflict ")?;
+    text.push_str(name)?;
+    Ok(text)
+}
+
+/// A script in conflict with a name: that it has become, where it was none; what has such a conflict stays.
+fn named_version(alloc: Global, text: String, name: &str) -> Result<OneVersion, PortFault>
+    requires { Parses (string_bytes text) }
+    ensures parses { IfOk result (λ v. Parses (string_bytes v.text)) }
+    ensures adds { IfOk result (λ v. spec.IsOneVersion (Some name.now) (string_bytes text) (string_bytes v.text)
+        (option_map string_bytes v.added)) }
+{
     match with_one_version(alloc, text.as_str(), name)? {
-        Some(written) => Ok((written, true)),
-        None => Ok((text, false)),
+        Some(text) => Ok(OneVersion {
+            text,
+            added: Some(conflict_with(alloc, name)?),
+        }),
+        None => Ok(OneVersion { text, added: None }),
     }
 }
 
-/// The line that says that the file of this path has become in conflict with its name.
-fn added_line(
+/// A script in conflict with a name, where one is given.
+fn one_version_of(alloc: Global, text: String, name: Option<&str>) -> Result<OneVersion, PortFault>
+    requires { Parses (string_bytes text) }
+    ensures parses { IfOk result (λ v. Parses (string_bytes v.text)) }
+    ensures adds { IfOk result (λ v. spec.IsOneVersion (now name.entry) (string_bytes text) (string_bytes v.text)
+        (option_map string_bytes v.added)) }
+{
+    match name {
+        Some(name) => named_version(alloc, text, name),
+        None => Ok(OneVersion { text, added: None }),
+    }
+}
+
+/// The bytes of a text, where there is one.
+fn bytes_of(text: &Option<String>) -> Option<&[u8]>
+    ensures { now result ≡ option_map string_bytes text.entry.now }
+{
+    match text {
+        Some(text) => Some(text.as_bytes()),
+        None => None,
+    }
+}
+
+/// What is said of a file of this path that came so and whose text this is.
+#[tactic(auto, using(crate::proofs::Reported::joined))]
+fn report_on(
     alloc: Global,
     json: bool,
     path: &str,
+    coming: Coming,
+    text: &[u8],
+    edits: &[Edit],
+    notes: &[Note],
+    added: Option<&[u8]>,
+) -> Result<Vec<u8>, AllocError>
+    ensures { IfOk result (λ r. r.items ≡ lines.report json path.now (spec.lines_of (coming_view coming) text.now
+        (edits_view edits.now) (notes_view notes.now) (now added.entry))) }
+{
+    let mut report = Vec::new(alloc);
+    let written = writing_lines(alloc, coming)?;
+    push_report(alloc, &mut report, json, path, written.as_slice())?;
+    let computed = edit_lines(alloc, text, edits)?;
+    push_report(alloc, &mut report, json, path, computed.as_slice())?;
+    let translated = note_lines(alloc, notes)?;
+    push_report(alloc, &mut report, json, path, translated.as_slice())?;
+    let more = added_lines(alloc, added)?;
+    push_report(alloc, &mut report, json, path, more.as_slice())?;
+    Ok(report)
+}
+
+/// The translation of a text that came so, and the report on it.
+#[tactic(auto, using(crate::proofs::Reported::reported))]
+fn port_text(
+    alloc: Global,
+    manner: Manner,
+    path: &str,
+    coming: Coming,
+    given: &str,
+    home: Option<Home>,
     name: Option<&str>,
-    added: bool,
-) -> Result<Vec<u8>, PortFault> {
-    match name {
-        Some(name) if added => {
-            let what = format!(in alloc; "conflict {name}")?;
-            Ok(file_line(alloc, json, path, "added", what.as_str())?)
-        }
-        _ => Ok(Vec::new(alloc)),
-    }
+) -> Result<Ported, PortFault>
+    ensures parses { IfOk result (λ p. Parses (string_bytes p.text)) }
+    ensures reported { IfOk result (λ p. IsReported (porting_view manner.entry home.entry name.entry) manner.entry.json
+        path.now (coming_view coming) given.now (string_bytes p.text) p.report.items p.status) }
+{
+    let Computed {
+        text: computed,
+        edits,
+    } = computed_of(alloc, given, manner.host)?;
+    let Translation {
+        text: translated,
+        notes,
+    } = translate(alloc, home, computed.as_str(), manner.left_out)?;
+    let OneVersion { text, added } = one_version_of(alloc, translated, name)?;
+    let report = report_on(
+        alloc,
+        manner.json,
+        path,
+        coming,
+        given.as_bytes(),
+        edits.as_slice(),
+        notes.as_slice(),
+        bytes_of(&added),
+    )?;
+    Ok(Ported {
+        text,
+        report,
+        status: Status::of(notes.as_slice()),
+    })
 }
 
 /// The translation of a modulefile, and the report on it, where it has this path. It is in a site where a home is
@@ -118,28 +234,23 @@ pub fn port_file(
 ) -> Result<Ported, PortFault>
     // What is written is a script.
     ensures parses { IfOk result (λ p. Parses (string_bytes p.text)) }
+
+    // What is written, and what the report says, is what each step has, one after the other.
+    ensures reported { IfOk result (λ p. IsReported (porting_view manner.entry home.entry name.entry) manner.entry.json
+        path.now (record { mark = file.mark; latin = file.latin; returns = file.returns }) file.text.items
+        (string_bytes p.text) p.report.items p.status) }
 {
-    let Manner { json, host } = manner;
-    let written = notes_on(alloc, &file)?;
-    let given = text_of(file.text)?;
-    let Computed { text, edits } = compute(alloc, given.as_str(), host)?;
-    let translation = translate(alloc, home, text.as_str(), &LEFT_OUT)?;
-    let notes = translation.notes.as_slice();
-    let mut report = note_lines(alloc, json, path, written.as_slice())?;
-    report.extend_from_slice(edit_lines(
-        alloc,
-        json,
-        path,
-        given.as_str(),
-        edits.as_slice(),
-    )?.as_slice())?;
-    report.extend_from_slice(note_lines(alloc, json, path, notes)?.as_slice())?;
-    let status = Status::of(notes);
-    let (text, added) = one_version_of(alloc, translation.text, name)?;
-    report.extend_from_slice(added_line(alloc, json, path, name, added)?.as_slice())?;
-    Ok(Ported {
+    let FileText {
         text,
-        report,
-        status,
-    })
+        mark,
+        latin,
+        returns,
+    } = file;
+    let coming = Coming {
+        mark,
+        latin,
+        returns,
+    };
+    let given = text_of(text)?;
+    port_text(alloc, manner, path, coming, given.as_str(), home, name)
 }

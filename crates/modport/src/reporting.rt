@@ -1,161 +1,203 @@
-//! The lines of the report: for people, or each a JSON object.
+//! The text of the report: for people, or each line a JSON object.
+ghost use Rattle.std.specs.Prelude.{◌≡◌, [], ◌∷◌, ◌++◌, if◌then◌else◌, OnOk};
+ghost use Rattle.json.specs.Token.{key, string};
+ghost use Rattle.modport.specs.Lines as spec;
+ghost use Rattle.modport.specs.LineViews.{line_view, lines_view, now, AddsTokens};
 
 use crate::fault::PortFault;
-use computedwords::Edit;
+use crate::report_lines::{Fate, Line};
+use itoa::Buffer;
 use json::Writer;
 use std::alloc::{AllocError, Global};
-use std::str;
-use translation::{Note, Outcome, report};
 
-/// How a JSON line says what became of a command.
-fn word(outcome: Outcome) -> &'static str {
-    match outcome {
-        Outcome::Translated => "translated",
-        Outcome::Dropped => "dropped",
-        Outcome::Left => "left out",
+impl Fate {
+    /// How the report says it.
+    fn word(self) -> &'static str
+        ensures { result.now ≡ spec.word_of self }
+    {
+        match self {
+            Fate::Translated => "translated",
+            Fate::Dropped => "dropped",
+            Fate::Computed => "computed",
+            Fate::Added => "added",
+            Fate::LeftOut => "left out",
+        }
     }
 }
 
-/// Adds the JSON line of a note on the file of this path.
-fn push_json(
+/// Adds a place.
+fn push_place(report: &mut Vec<u8>, place: Option<usize>) -> Result<(), AllocError>
+    ensures { OnOk result (report.new.items ≡ report.old.items ++ spec.place_text place) }
+{
+    match place {
+        Some(line) => {
+            let mut buffer = Buffer::new();
+            report.extend_from_slice(b":")?;
+            report.extend_from_slice(buffer.format(line).as_bytes())
+        }
+        None => Ok(()),
+    }
+}
+
+/// Adds what is written for what a line is about, where that is said.
+fn push_put(report: &mut Vec<u8>, put: Option<&[u8]>) -> Result<(), AllocError>
+    ensures { OnOk result (report.new.items ≡ report.old.items ++ spec.put_text (now put.entry)) }
+{
+    match put {
+        Some(text) => {
+            report.extend_from_slice(b": ")?;
+            report.extend_from_slice(text)
+        }
+        None => Ok(()),
+    }
+}
+
+/// Adds what a line says.
+fn push_said(report: &mut Vec<u8>, line: &Line) -> Result<(), AllocError>
+    ensures { OnOk result (report.new.items ≡ report.old.items ++ spec.said_text (line_view line.now)) }
+{
+    report.extend_from_slice(line.fate.word().as_bytes())?;
+    report.extend_from_slice(b": ")?;
+    report.extend_from_slice(line.what)?;
+    push_put(report, line.put)
+}
+
+/// Adds a line on the file of this path, for people.
+fn push_plain(report: &mut Vec<u8>, path: &str, line: &Line) -> Result<(), AllocError>
+    ensures { OnOk result (report.new.items ≡ report.old.items ++ spec.plain path.now (line_view line.now)) }
+{
+    report.extend_from_slice(path.as_bytes())?;
+    push_place(report, line.place)?;
+    report.extend_from_slice(b": ")?;
+    push_said(report, line)?;
+    report.extend_from_slice(b"\n")
+}
+
+/// Writes a member that is a text.
+#[tactic(auto, using(crate::proofs::Tokens::adds_one, crate::proofs::Tokens::adds_more))]
+fn write_text(writer: &mut Writer, name: &str, text: &str) -> Result<(), AllocError>
+    ensures { OnOk result (AddsTokens writer.old writer.new (key name.now ∷ (string text.now ∷ []))) }
+{
+    writer.key(name)?;
+    writer.string(text)
+}
+
+/// Writes a member that is a text of these bytes.
+fn write_bytes(
     alloc: Global,
-    lines: &mut Vec<u8>,
+    writer: &mut Writer,
+    name: &str,
+    bytes: &[u8],
+) -> Result<(), AllocError>
+    ensures { OnOk result (AddsTokens writer.old writer.new (spec.text_tokens name.now bytes.now)) }
+{
+    let text = String::from_utf8_lossy(alloc, bytes)?;
+    write_text(writer, name, text.as_str())
+}
+
+/// Writes a place as a member.
+fn write_place(writer: &mut Writer, place: Option<usize>) -> Result<(), AllocError>
+    ensures { OnOk result (AddsTokens writer.old writer.new (spec.place_tokens place)) }
+{
+    match place {
+        Some(line) => {
+            writer.key("line")?;
+            writer.u64(line as u64)
+        }
+        None => Ok(()),
+    }
+}
+
+/// Writes what is written for what a line is about as a member, where that is said.
+fn write_put(alloc: Global, writer: &mut Writer, put: Option<&[u8]>) -> Result<(), AllocError>
+    ensures { OnOk result (AddsTokens writer.old writer.new (spec.put_tokens (now put.entry))) }
+{
+    match put {
+        Some(text) => write_bytes(alloc, writer, "text", text),
+        None => Ok(()),
+    }
+}
+
+/// Writes the members of a line on the file of this path.
+fn write_members(
+    alloc: Global,
+    writer: &mut Writer,
     path: &str,
-    note: &Note,
-) -> Result<(), AllocError> {
+    line: &Line,
+) -> Result<(), AllocError>
+    ensures { OnOk result (AddsTokens writer.old writer.new (spec.members path.now (line_view line.now))) }
+{
+    write_bytes(alloc, writer, "file", path.as_bytes())?;
+    write_place(writer, line.place)?;
+    write_bytes(alloc, writer, "what", line.what)?;
+    write_bytes(alloc, writer, "why", line.fate.word().as_bytes())?;
+    write_put(alloc, writer, line.put)
+}
+
+/// Adds a line on the file of this path, as JSON.
+fn push_json(alloc: Global, report: &mut Vec<u8>, path: &str, line: &Line) -> Result<(), AllocError>
+    ensures { OnOk result (report.new.items ≡ report.old.items ++ spec.as_json path.now (line_view line.now)) }
+{
     let mut writer = Writer::new(Vec::new(alloc));
     writer.begin_object()?;
-    writer.key("file")?;
-    writer.string(path)?;
-    writer.key("line")?;
-    writer.u64(note.line as u64)?;
-    writer.key("what")?;
-    writer.string(str::from_utf8(note.said).unwrap_or(""))?;
-    writer.key("why")?;
-    writer.string(word(note.outcome))?;
+    write_members(alloc, &mut writer, path, line)?;
     writer.end_object()?;
-    lines.extend_from_slice(writer.into_inner().as_slice())?;
-    lines.push(b'\n')?;
+    report.extend_from_slice(writer.into_inner().as_slice())?;
+    report.extend_from_slice(b"\n")
+}
+
+/// Adds a line on the file of this path.
+fn push_line(
+    alloc: Global,
+    report: &mut Vec<u8>,
+    json: bool,
+    path: &str,
+    line: &Line,
+) -> Result<(), AllocError>
+    ensures { OnOk result (report.new.items ≡ report.old.items ++ spec.shown json path.now (line_view line.now)) }
+{
+    if json {
+        push_json(alloc, report, path, line)
+    } else {
+        push_plain(report, path, line)
+    }
+}
+
+/// Adds the report of these lines on the file of this path, where each line is JSON or is for people.
+///
+/// The error: want of memory.
+pub(crate) fn push_report(
+    alloc: Global,
+    report: &mut Vec<u8>,
+    json: bool,
+    path: &str,
+    lines: &[Line],
+) -> Result<(), AllocError>
+    ensures { OnOk result (report.new.items
+        ≡ report.old.items ++ spec.report json path.now (lines_view lines.now)) }
+{
+    for line in lines {
+        push_line(alloc, report, json, path, line)?;
+    }
     Ok(())
 }
 
-/// The lines of notes on the file of this path.
-pub(crate) fn note_lines(
+/// The line that says of the file of this path that something is left out.
+pub(crate) fn left_out_line(
     alloc: Global,
     json: bool,
     path: &str,
-    notes: &[Note],
-) -> Result<Vec<u8>, AllocError> {
-    if !json {
-        return report(alloc, path, notes);
-    }
-    let mut lines = Vec::new(alloc);
-    for note in notes {
-        push_json(alloc, &mut lines, path, note)?;
-    }
-    Ok(lines)
-}
-
-/// The part of a text from one place to another, as an edit says them.
-fn part_of<'a>(text: &'a str, edit: &Edit) -> &'a str {
-    let start = text.len().saturating_sub(edit.from);
-    let end = text.len().saturating_sub(edit.to);
-    text.get(start..end).unwrap_or("")
-}
-
-/// The line, from 1, of a place of a text, as an edit says it.
-fn line_of(text: &str, edit: &Edit) -> usize {
-    let start = text.len().saturating_sub(edit.from);
-    let before = text.get(..start).unwrap_or("");
-    let newlines = before
-        .as_bytes()
-        .iter()
-        .filter(|byte| **byte == b'\n')
-        .count();
-    newlines.saturating_add(1)
-}
-
-/// A text up to its first newline.
-fn first_line(text: &str) -> &str {
-    match text.split_once('\n') {
-        Some((line, _)) => line,
-        None => text,
-    }
-}
-
-/// Adds the line of what was computed on the file of this path, which had this text.
-fn push_edit(
-    alloc: Global,
-    json: bool,
-    lines: &mut Vec<u8>,
-    path: &str,
-    text: &str,
-    edit: &Edit,
-) -> Result<(), AllocError> {
-    let what = first_line(part_of(text, edit));
-    let put = str::from_utf8(edit.text.as_slice()).unwrap_or("");
-    let line = line_of(text, edit);
-    if !json {
-        let said = format!(in alloc; "{path}:{line}: computed: {what}: {put}\n")?;
-        return lines.extend_from_slice(said.as_bytes());
-    }
-    let mut writer = Writer::new(Vec::new(alloc));
-    writer.begin_object()?;
-    writer.key("file")?;
-    writer.string(path)?;
-    writer.key("line")?;
-    writer.u64(line as u64)?;
-    writer.key("what")?;
-    writer.string(what)?;
-    writer.key("why")?;
-    writer.string("computed")?;
-    writer.key("text")?;
-    writer.string(put)?;
-    writer.end_object()?;
-    lines.extend_from_slice(writer.into_inner().as_slice())?;
-    lines.push(b'\n')?;
-    Ok(())
-}
-
-/// The lines of what was computed on the file of this path, which had this text.
-pub(crate) fn edit_lines(
-    alloc: Global,
-    json: bool,
-    path: &str,
-    text: &str,
-    edits: &[Edit],
-) -> Result<Vec<u8>, AllocError> {
-    let mut lines = Vec::new(alloc);
-    for edit in edits {
-        push_edit(alloc, json, &mut lines, path, text, edit)?;
-    }
-    Ok(lines)
-}
-
-/// The line that says of the file of this path what is left out, or why else it is named.
-pub(crate) fn file_line(
-    alloc: Global,
-    json: bool,
-    path: &str,
-    why: &str,
     what: &str,
 ) -> Result<Vec<u8>, AllocError> {
-    if !json {
-        let line = format!(in alloc; "{path}: {why}: {what}\n")?;
-        return Ok(line.into_bytes());
-    }
-    let mut writer = Writer::new(Vec::new(alloc));
-    writer.begin_object()?;
-    writer.key("file")?;
-    writer.string(path)?;
-    writer.key("what")?;
-    writer.string(what)?;
-    writer.key("why")?;
-    writer.string(why)?;
-    writer.end_object()?;
-    let mut line = writer.into_inner();
-    line.push(b'\n')?;
-    Ok(line)
+    let line = Line {
+        place: None,
+        fate: Fate::LeftOut,
+        what: what.as_bytes(),
+        put: None,
+    };
+    let mut report = Vec::new(alloc);
+    push_line(alloc, &mut report, json, path, &line)?;
+    Ok(report)
 }
 
 /// The line that says of the file of this path why it isn't translated.

@@ -1,16 +1,38 @@
 //! With which status the program ends.
+ghost use Rattle.std.specs.Prelude.{◌≡◌};
+ghost use Rattle.std.specs.List.{list_any};
+ghost use Rattle.modport.specs.Ported as spec;
+ghost use Rattle.translation.specs.TranslationViews.{notes_view};
 
 use translation::{Note, Outcome};
 
 /// How far what was read is within the profile.
 #[derive(Clone, Copy, Debug, PartialEq, Eq)]
-pub(crate) enum Status {
+pub enum Status {
     /// All that was written is.
     Within,
     /// Something is left that the profile leaves out.
     Left,
     /// Something couldn't be translated.
     Refused,
+}
+
+/// Whether it is something that the profile leaves out.
+fn is_left(outcome: Outcome) -> bool
+    ensures { result ≡ spec.is_left outcome }
+{
+    match outcome {
+        Outcome::Left => true,
+        Outcome::Translated => false,
+        Outcome::Dropped => false,
+    }
+}
+
+/// Whether one of the notes is on something that the profile leaves out.
+fn has_left(notes: &[Note]) -> bool
+    ensures { result ≡ list_any (λ n. spec.is_left n.outcome) (notes_view notes.now) }
+{
+    notes.iter().any(|note| is_left(note.outcome))
 }
 
 impl Status {
@@ -33,8 +55,10 @@ impl Status {
     }
 
     /// That of one file, by what is said of its commands.
-    pub fn of(notes: &[Note]) -> Status {
-        if notes.iter().any(|note| note.outcome == Outcome::Left) {
+    pub fn of(notes: &[Note]) -> Status
+        ensures { result ≡ spec.status_of (notes_view notes.now) }
+    {
+        if has_left(notes) {
             Status::Left
         } else {
             Status::Within

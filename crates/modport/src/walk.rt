@@ -1,10 +1,10 @@
 //! The files below a directory, translated below another.
 
 use crate::arguments::Walked;
-use crate::family_walk::{module_of, site_of};
 use crate::fault::PortFault;
 use crate::porting::{Manner, port_file};
-use crate::reporting::{fault_line, file_line};
+use crate::reporting::{fault_line, left_out_line};
+use crate::site_walk::{module_of, site_of};
 use crate::status::Status;
 use crate::texts::{joined, kind_of, modulefile, read, write_new};
 use families::{Home, Site};
@@ -37,7 +37,7 @@ pub(crate) struct Walk<'r> {
     manner: Manner<'r>,
     /// Whether each modulefile is to be in conflict with its own name.
     one_version: bool,
-    /// The families of the site, with their modules.
+    /// What the files of the site say of its modules.
     site: Site,
     /// How far what was read so far is within the profile.
     status: Status,
@@ -99,7 +99,7 @@ impl<'r> Walk<'r> {
     /// Says what is left out of a path.
     fn leave(&mut self, path: &str, what: &str) -> Result<(), PortFault> {
         self.status = self.status.and(Status::Left);
-        self.say(file_line(self.rt.alloc(), self.manner.json, path, "left out", what)?.as_slice())
+        self.say(left_out_line(self.rt.alloc(), self.manner.json, path, what)?.as_slice())
     }
 
     /// Goes on behind a fault at a path, which is said, unless memory ran out or the report can't be written.
@@ -128,13 +128,8 @@ impl<'r> Walk<'r> {
     ) -> Result<(), PortFault> {
         let alloc = self.rt.alloc();
         let Some(file) = modulefile(alloc, read(self.rt, from)?.as_slice())? else {
-            return self.say(file_line(
-                alloc,
-                self.manner.json,
-                from,
-                "left out",
-                "no modulefile",
-            )?.as_slice());
+            let line = left_out_line(alloc, self.manner.json, from, "no modulefile")?;
+            return self.say(line.as_slice());
         };
         let home = Home {
             site: &self.site,

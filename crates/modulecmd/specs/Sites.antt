@@ -24,7 +24,8 @@ judged_site judged_in files listings = site_of standard judged_in files listings
 -- These are the candidates of the site: its settled modules that read nothing which a settled module uses. From a start
 -- whose loaded list is in order, after any commands that load only certified modules with whose uses the start agrees
 -- and whose reads have in it the values of the environment that was judged, and unload no module of the start: what the
--- shell holds is in order and is the start with the modules that are live then layered on it. With none it is the start.
+-- shell holds is in order and is the start with the modules that are live then layered on it. With none it is the
+-- start.
 abbrev pub SiteShellsReturn : Type 0
 SiteShellsReturn =
     (judged_in : Environment) (files : Files) (listings : Listings) (ms : List Module) (start last : Environment)
@@ -50,8 +51,8 @@ HandsLeaveReads site live (act c ∷ events) = HandsLeaveReads site (live_after 
 HandsLeaveReads site live (by_hand c ∷ events) = IsUnread site live c.variable × HandsLeaveReads site live events
 
 -- The same with changes by hand between the commands, each by the uses of the modules that are live then, and of a
--- variable that none of them reads: a variable that none of them uses or reads may be changed freely. At each load it is
--- the start as changes have made it until then that agrees with what the module uses, and has of what it reads the
+-- variable that none of them reads: a variable that none of them uses or reads may be changed freely. At each load it
+-- is the start as changes have made it until then that agrees with what the module uses, and has of what it reads the
 -- values of the environment that was judged. With no module live the shell holds what the same changes have made of the
 -- start.
 abbrev pub SiteShellsAndHandsReturn : Type 0

@@ -143,10 +143,11 @@ unknown_names outcomes = flat_map (unknown_of (means_one outcomes)) outcomes
 
 -- ---- the whole
 
--- What was found is an audit of the site: a walk over it has these directories and these outcomes. It has each module of
--- the walk, in its order, with the variables that its evaluation reads, each once, and how it stands; the certificate of its candidates, each use once; those of its
--- directories that aren't there, in their order; the files in the places of modules that are no modulefiles; the bad
--- default files of the modules in turn, each once; the names that mean no module; and the reasons for which the environment at hand doesn't agree with the certificate, use after use.
+-- What was found is an audit of the site: a walk over it has these directories and these outcomes. It has each module
+-- of the walk, in its order, with the variables that its evaluation reads, each once, and how it stands; the certificate
+-- of its candidates, each use once; those of its directories that aren't there, in their order; the files in the places
+-- of modules that are no modulefiles; the bad default files of the modules in turn, each once; the names that mean no
+-- module; and the reasons for which the environment at hand doesn't agree with the certificate, use after use.
 pub record IsAudit (site : Site) (found : SiteAudit) : Type 0 where
   pub dirs : List Text
   pub outcomes : List Evaluated

@@ -7,7 +7,7 @@ ghost use Rattle.sitelaws.specs.DirectorySets.{with_directories};
 ghost use Rattle.siteaudit.specs.SettledRuns.{directories_after};
 ghost use Rattle.siteaudit.specs.WalkParts.{directories_found};
 
-use crate::settled::is_settled;
+use crate::settled_runs::is_settled;
 use crate::walk::Evaluation;
 use modulefile::Record;
 use modulerun::FileRun;

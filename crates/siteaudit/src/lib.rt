@@ -18,7 +18,7 @@ mod names;
 mod no_modulefiles;
 mod progress;
 mod reads;
-mod settled;
+mod settled_runs;
 mod standing;
 mod walk;
 

@@ -3,7 +3,7 @@ ghost use Rattle.std.specs.Prelude.{◌≡◌, map, IfOk};
 ghost use Rattle.sitereads.specs.Answers.{module_of, reads_of};
 ghost use Rattle.siteaudit.specs.SettledRuns.{is_settled_run, settled_module, settled_reads, AreUsedReads};
 
-use crate::settled::is_settled;
+use crate::settled_runs::is_settled;
 use crate::walk::Evaluation;
 use modulerun::FileRun;
 use settled::variables_read;

@@ -30,8 +30,8 @@ pub enum Standing {
     OneWay(Record),
     /// It is settled, and reads a variable that a settled module uses.
     ReadsUsed(UsedRead),
-    /// It is settled, and uses the variable in these two ways; or the variable is MODULEPATH, and the second way is that
-    /// of a path with colons.
+    /// It is settled, and uses the variable in these two ways; or the variable is MODULEPATH, and the second way is
+    /// that of a path with colons.
     OutOfStep {
         variable: String,
         one: VariableUse,

@@ -1,5 +1,5 @@
-//! Which of the variables that the modules of a site read others of them use, so that their records may change with what
-//! is loaded. Takes memory and touches nothing else.
+//! Which of the variables that the modules of a site read others of them use.
+//! Takes memory and touches nothing else.
 #![tactic(auto)]
 
 mod answers;

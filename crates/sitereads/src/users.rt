@@ -84,7 +84,8 @@ impl<'a> Users<'a> {
 
     /// Enters a module for each variable that its records use.
     fn enter_reader(&mut self, reader: &'a Reader<'a>) -> Result<(), AllocError>
-        ensures { OnOk result ((v : Text) → user_in self.new v ≡ option_or (user_in self.old v) (user_by v reader.now)) }
+        ensures { OnOk result ((v : Text) → user_in self.new v
+            ≡ option_or (user_in self.old v) (user_by v reader.now)) }
     {
         for recorded in reader.records {
             self.enter_record(recorded, reader)?;

@@ -6,7 +6,9 @@ use Rattle.std.specs.Prelude.{◌++◌, bytes_eq, chars, codes, count_by, decima
 use Rattle.std.specs.Prelude.{string_bytes}
 use Rattle.std.specs.Char.{digit_char}
 use Rattle.std.specs.List.{join_with_byte}
-use Rattle.envvars.specs.Texts.{Text, texts_in}
+use Rattle.std.specs.declared.alloc.Global.{Global}
+use Rattle.std.specs.declared.string.String.{String}
+use Rattle.envvars.specs.Texts.{Text}
 use Rattle.tcllist.specs.Lists.{list_text}
 use Rattle.tclrules.specs.Oracle.{Question, OfCommand, OfVariable}
 use Rattle.modulefile.specs.declared.records.Record.{Record}
@@ -116,18 +118,19 @@ used_read_words used =
     ++ (string_bytes used.user_path ++ codes ")"))))
 
 -- the variables that a certified module reads; nothing where it reads none
-abbrev pub reads_words : List Text → Text
+abbrev pub reads_words : List (String Global) → Text
 reads_words [] = []
-reads_words (name ∷ names) = codes "reads " ++ (name ++ flat_map (λ n. codes ", " ++ n) names)
+reads_words (name ∷ names) =
+    codes "reads " ++ (string_bytes name ++ flat_map (λ n. codes ", " ++ string_bytes n) names)
 
 -- what was asked, as a modulefile has it: the words of a command with a space between two, or a variable as `$env(VAR)`
 abbrev pub question_words : Question → Text
 question_words (OfCommand words answer) = join_with_byte 32 words
 question_words (OfVariable name value) = codes "$env(" ++ (name ++ codes ")")
 
--- Why a module that reads these variables stands so: of a certified one what it reads, of one that asks the question, of
--- one that is one way the record, of a refused one the refusal.
-abbrev pub reason_of : List Text → Standing → Text
+-- Why a module that reads these variables stands so: of a certified one what it reads, of one that asks the question,
+-- of one that is one way the record, of a refused one the refusal.
+abbrev pub reason_of : List (String Global) → Standing → Text
 reason_of reads Certified = reads_words reads
 reason_of reads (Asks first) = question_words (question_view first)
 reason_of reads (OneWay first) = record_words first
@@ -138,4 +141,4 @@ reason_of reads (Refused refusal) = message_of refusal
 
 -- the same of a module
 abbrev pub reason : AuditedModule → Text
-reason m = reason_of (texts_in m.reads) m.standing
+reason m = reason_of m.reads.items m.standing

@@ -1,5 +1,5 @@
 //! What is said of a module: how it stands in one word, and why.
-ghost use Rattle.std.specs.Prelude.{◌≡◌, ◌++◌, codes, flat_map, map, IfOk, string_bytes};
+ghost use Rattle.std.specs.Prelude.{◌≡◌, ◌++◌, codes, flat_map, IfOk, OnOk, string_bytes};
 ghost use Rattle.modulerun.specs.Questions.{question_view};
 ghost use Rattle.sitereport.specs.Words as spec;
 
@@ -102,21 +102,28 @@ fn used_read_words(alloc: Global, used: &UsedRead) -> Result<String, AllocError>
     format!(in alloc; "{variable}: read here, used in {name} ({path})")
 }
 
+/// Adds a name behind a comma and a space.
+fn push_further(words: &mut String, name: &str) -> Result<(), AllocError>
+    ensures { OnOk result (string_bytes words.new ≡ string_bytes words.old ++ (codes ", " ++ name.now)) }
+{
+    words.push_str(", ")?;
+    words.push_str(name)
+}
+
 /// The names, each behind a comma and a space.
 fn further_names(alloc: Global, names: &[String]) -> Result<String, AllocError>
     ensures { IfOk result (λ words. string_bytes words ≡ flat_map (λ n. codes ", " ++ string_bytes n) names.now) }
 {
     let mut words = String::new(alloc);
     for name in names {
-        words.push_str(", ")?;
-        words.push_str(name.as_str())?;
+        push_further(&mut words, name.as_str())?;
     }
     Ok(words)
 }
 
 /// The variables that a certified module reads; nothing where it reads none.
 fn reads_words(alloc: Global, reads: &[String]) -> Result<String, AllocError>
-    ensures { IfOk result (λ words. string_bytes words ≡ spec.reads_words (map string_bytes reads.now)) }
+    ensures { IfOk result (λ words. string_bytes words ≡ spec.reads_words reads.now) }
 {
     match reads {
         [] => Ok(String::new(alloc)),

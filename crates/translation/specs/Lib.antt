@@ -4,7 +4,6 @@ pub mod Options
 pub mod PieceViews
 pub mod Pieces
 pub mod Places
-pub mod Reports
 pub mod TranslationViews
 pub mod Translations
 pub mod Writing

@@ -1,39 +1,59 @@
 -- What is written for a modulefile, and what is said of its commands (own). The home of a file is the site that it is of,
--- and the module; without one nothing is known of families.
-use Rattle.std.specs.Prelude.{◌≡◌, ℕ, ◌+◌, List, [], ◌∷◌, ◌++◌, ◌==◌, take, count_by, flat_map}
-use Rattle.std.specs.Prelude.{Option, Some, None, option_and_then}
+-- and the module; without one nothing is known of families and version symbols.
+use Rattle.std.specs.Prelude.{◌≡◌, ℕ, ◌+◌, List, [], ◌∷◌, ◌++◌, ◌&&◌, ◌==◌, bytes_eq, codes, take, count_by, flat_map}
+use Rattle.std.specs.Prelude.{if◌then◌else◌, Option, Some, None, option_and_then}
 use Rattle.std.specs.Option.{option_map}
 use Rattle.tclchars.specs.Bytes.{newline}
 use Rattle.tclchars.specs.Runs.{Text}
 use Rattle.families.specs.Families.{Home, conflicts_for, conflict_with}
+use Rattle.families.specs.Symbols.{has_versions, meanings}
 use Rattle.translation.specs.declared.notes.Outcome.{Outcome}
 use Rattle.translation.specs.declared.notes.Outcome.TheVariants.{Translated, Dropped, Left}
 use Rattle.translation.specs.Places.{line_of, behind_words}
 use Rattle.portforms.specs.Words.{constants}
-use Rattle.portforms.specs.Forms.{Form, form_of}
+use Rattle.portforms.specs.Forms.{Form, each, one, front, back, form_of}
 use Rattle.translation.specs.Writing.{written, needs}
 use Rattle.guards.specs.Guards.{Guard, guard_of}
 use Rattle.translation.specs.Options.{idle_front, without_option}
 use Rattle.translation.specs.Pieces.{Piece}
 use Rattle.translation.specs.Notes.{Note, left_in}
 
+-- Forms, with the versions that symbols mean in a file of this home
+
+abbrev pub with_versions : Option Home → Form → Form
+with_versions home (each names) = each (meanings home names)
+with_versions home (one names) = one (meanings home names)
+with_versions home (front directories) = front directories
+with_versions home (back directories) = back directories
+
 -- what is written for a form of these words, with what stands behind it
-abbrev pub of_form : List Text → Text → Form → Option Text
-of_form words text form = option_map (λ rest. written [] form ++ rest) (behind_words words text)
+abbrev pub of_form : Option Home → List Text → Text → Form → Option Text
+of_form home words text form =
+    option_map (λ rest. written [] (with_versions home form) ++ rest) (behind_words words text)
 
 -- what is written for a command of these words, with what stands behind it
-abbrev pub of_words : Text → List Text → Option Text
-of_words text words = option_and_then (of_form words text) (form_of words)
+abbrev pub of_words : Option Home → Text → List Text → Option Text
+of_words home text words = option_and_then (of_form home words text) (form_of words)
 
-abbrev pub of_command : Piece → Option Text
-of_command p = option_and_then (of_words p.text) (constants p.words)
+abbrev pub of_command : Option Home → Piece → Option Text
+of_command home p = option_and_then (of_words home p.text) (constants p.words)
 
-abbrev pub of_this_guard : Text → Guard → Option Text
-of_this_guard text g = option_map (λ rest. needs [] g.needs ++ rest) (behind_words g.spelling text)
+abbrev pub of_this_guard : Option Home → Text → Guard → Option Text
+of_this_guard home text g = option_map (λ rest. needs [] (meanings home g.needs) ++ rest) (behind_words g.spelling text)
 
 -- what is written for a guard, with what stands behind it
-abbrev pub of_guard : Piece → Option Text
-of_guard p = option_and_then (of_this_guard p.text) (guard_of p.words)
+abbrev pub of_guard : Option Home → Piece → Option Text
+of_guard home p = option_and_then (of_this_guard home p.text) (guard_of p.words)
+
+-- what is written for `prereq NAME...`, where a name is a symbol, with what stands behind it
+abbrev pub of_prereq : Option Home → Text → List Text → Option Text
+of_prereq home text [] = None
+of_prereq home text (word ∷ names) =
+    if bytes_eq word (codes "prereq") && has_versions home names
+    then of_form home (word ∷ names) text (one names) else None
+
+abbrev pub of_symbols : Option Home → Piece → Option Text
+of_symbols home p = option_and_then (of_prereq home p.text) (constants p.words)
 
 abbrev pub first_of : Option Text → Option Text → Option Text
 first_of (Some text) other = Some text
@@ -57,15 +77,18 @@ of_family_words home text words = option_and_then (of_conflicts text words) (con
 abbrev pub of_family : Option Home → Piece → Option Text
 of_family home p = option_and_then (of_family_words home p.text) (constants p.words)
 
-abbrev pub of_rest : Piece → Option Text
-of_rest p = first_of (of_guard p) (of_option p)
+abbrev pub of_last : Option Home → Piece → Option Text
+of_last home p = first_of (of_symbols home p) (of_option p)
+
+abbrev pub of_rest : Option Home → Piece → Option Text
+of_rest home p = first_of (of_guard home p) (of_last home p)
 
 abbrev pub of_other : Option Home → Piece → Option Text
-of_other home p = first_of (of_family home p) (of_rest p)
+of_other home p = first_of (of_family home p) (of_rest home p)
 
 -- what is written for the command that the piece begins with, where it is another one, or none
 abbrev pub change_of : Option Home → Piece → Option Text
-change_of home p = first_of (of_command p) (of_other home p)
+change_of home p = first_of (of_command home p) (of_other home p)
 
 -- what becomes of a command for which that is written
 abbrev pub outcome_by : Option (List Text) → Outcome

@@ -7,7 +7,6 @@ mod notes;
 mod options;
 mod pieces;
 mod places;
-mod report_lines;
 mod translating;
 mod translation_fault;
 mod translation_text;
@@ -15,6 +14,5 @@ mod writing;
 
 pub use laws::{accounted, pieces_of_text};
 pub use notes::{Note, Outcome};
-pub use report_lines::report;
 pub use translation_fault::TranslationFault;
 pub use translation_text::{Translation, translate};

@@ -16,9 +16,9 @@ use crate::options::{idle_front, push_without_option};
 use crate::pieces::{Piece, pieces_of};
 use crate::places::{behind_words, line_of};
 use crate::writing::{push_form, push_needs};
-use families::{Home, conflicts_for, push_conflict};
+use families::{Home, conflicts_for, has_versions, push_conflict};
 use guards::{Guard, guard_of};
-use portforms::{Form, constants, form_of};
+use portforms::{Form, constants, form_of, is_text};
 use std::alloc::{AllocError, Global};
 use tclchars::TextFault;
 use tclscript::{Script, parse_script};
@@ -35,60 +35,122 @@ pub(crate) struct Draft<'a> {
 /// Adds what is written for a form of these words, and what stands behind it; false where the text has them not.
 fn push_form_for(
     written: &mut Vec<u8>,
+    home: Option<Home>,
     text: &[u8],
     words: &[&[u8]],
     form: Form,
 ) -> Result<bool, AllocError>
     ensures { AddsChange result written.old.items written.new.items
-        (spec.of_form (texts words.now) text.now (form_view form.entry)) }
+        (spec.of_form (option_map home_view home.entry) (texts words.now) text.now (form_view form.entry)) }
 {
     let Some(rest) = behind_words(words, text) else {
         return Ok(false);
     };
-    push_form(written, b"", form)?;
+    push_form(written, home, b"", form)?;
     written.extend_from_slice(rest)?;
     Ok(true)
 }
 
 /// Adds what is written for a command of these words, and what stands behind it; false where they are no form.
-fn push_words(written: &mut Vec<u8>, text: &[u8], words: &[&[u8]]) -> Result<bool, AllocError>
-    ensures { AddsChange result written.old.items written.new.items (spec.of_words text.now (texts words.now)) }
+fn push_words(
+    written: &mut Vec<u8>,
+    home: Option<Home>,
+    text: &[u8],
+    words: &[&[u8]],
+) -> Result<bool, AllocError>
+    ensures { AddsChange result written.old.items written.new.items
+        (spec.of_words (option_map home_view home.entry) text.now (texts words.now)) }
 {
     match form_of(words) {
-        Some(form) => push_form_for(written, text, words, form),
+        Some(form) => push_form_for(written, home, text, words, form),
         None => Ok(false),
     }
 }
 
 /// Adds what is written for the command of a piece, and what stands behind it; false where it is no form.
-fn push_command(alloc: Global, written: &mut Vec<u8>, piece: &Piece) -> Result<bool, AllocError>
-    ensures { AddsChange result written.old.items written.new.items (spec.of_command (piece_view piece.now)) }
+fn push_command(
+    alloc: Global,
+    written: &mut Vec<u8>,
+    home: Option<Home>,
+    piece: &Piece,
+) -> Result<bool, AllocError>
+    ensures { AddsChange result written.old.items written.new.items
+        (spec.of_command (option_map home_view home.entry) (piece_view piece.now)) }
 {
     match constants(alloc, piece.words)? {
-        Some(words) => push_words(written, piece.text, words.as_slice()),
+        Some(words) => push_words(written, home, piece.text, words.as_slice()),
         None => Ok(false),
     }
 }
 
 /// Adds what is written for a guard, and what stands behind it; false where the text has it not.
-fn push_guard(written: &mut Vec<u8>, text: &[u8], guard: &Guard) -> Result<bool, AllocError>
+fn push_guard(
+    written: &mut Vec<u8>,
+    home: Option<Home>,
+    text: &[u8],
+    guard: &Guard,
+) -> Result<bool, AllocError>
     ensures { AddsChange result written.old.items written.new.items
-        (spec.of_this_guard text.now (guard_view guard.now)) }
+        (spec.of_this_guard (option_map home_view home.entry) text.now (guard_view guard.now)) }
 {
     let Some(rest) = behind_words(guard.spelling.as_slice(), text) else {
         return Ok(false);
     };
-    push_needs(written, b"", guard.needs.as_slice())?;
+    push_needs(written, home, b"", guard.needs.as_slice())?;
     written.extend_from_slice(rest)?;
     Ok(true)
 }
 
 /// Adds what is written for the guard of a piece, and what stands behind it; false where it is none.
-fn push_guard_of(alloc: Global, written: &mut Vec<u8>, piece: &Piece) -> Result<bool, AllocError>
-    ensures { AddsChange result written.old.items written.new.items (spec.of_guard (piece_view piece.now)) }
+fn push_guard_of(
+    alloc: Global,
+    written: &mut Vec<u8>,
+    home: Option<Home>,
+    piece: &Piece,
+) -> Result<bool, AllocError>
+    ensures { AddsChange result written.old.items written.new.items
+        (spec.of_guard (option_map home_view home.entry) (piece_view piece.now)) }
 {
     match guard_of(alloc, piece.words)? {
-        Some(guard) => push_guard(written, piece.text, &guard),
+        Some(guard) => push_guard(written, home, piece.text, &guard),
+        None => Ok(false),
+    }
+}
+
+/// Adds what is written for a `prereq` of these words with a version symbol, and what stands behind it; else false.
+fn push_prereq(
+    written: &mut Vec<u8>,
+    home: Option<Home>,
+    text: &[u8],
+    words: &[&[u8]],
+) -> Result<bool, AllocError>
+    ensures { AddsChange result written.old.items written.new.items
+        (spec.of_prereq (option_map home_view home.entry) text.now (texts words.now)) }
+{
+    match words {
+        [] => Ok(false),
+        [word, names @ ..] => {
+            if is_text(word, "prereq") && has_versions(home, names) {
+                push_form_for(written, home, text, words, Form::One(names))
+            } else {
+                Ok(false)
+            }
+        }
+    }
+}
+
+/// Adds what is written for the `prereq` of a piece with a version symbol, and what stands behind it; else false.
+fn push_symbols(
+    alloc: Global,
+    written: &mut Vec<u8>,
+    home: Option<Home>,
+    piece: &Piece,
+) -> Result<bool, AllocError>
+    ensures { AddsChange result written.old.items written.new.items
+        (spec.of_symbols (option_map home_view home.entry) (piece_view piece.now)) }
+{
+    match constants(alloc, piece.words)? {
+        Some(words) => push_prereq(written, home, piece.text, words.as_slice()),
         None => Ok(false),
     }
 }
@@ -103,15 +165,38 @@ fn push_option(written: &mut Vec<u8>, piece: &Piece) -> Result<bool, AllocError>
     }
 }
 
-/// Adds what is written for a piece that is a guard, or has such an option; else false.
+/// Adds what is written for a piece that is a `prereq` with a version symbol, or has such an option; else false.
 #[tactic(auto, using(crate::proofs::Adding::added_first, crate::proofs::Adding::added_second))]
-fn push_rest(alloc: Global, written: &mut Vec<u8>, piece: &Piece) -> Result<bool, AllocError>
-    ensures { AddsChange result written.old.items written.new.items (spec.of_rest (piece_view piece.now)) }
+fn push_last(
+    alloc: Global,
+    written: &mut Vec<u8>,
+    home: Option<Home>,
+    piece: &Piece,
+) -> Result<bool, AllocError>
+    ensures { AddsChange result written.old.items written.new.items
+        (spec.of_last (option_map home_view home.entry) (piece_view piece.now)) }
 {
-    if push_guard_of(alloc, written, piece)? {
+    if push_symbols(alloc, written, home, piece)? {
         return Ok(true);
     }
     push_option(written, piece)
+}
+
+/// Adds what is written for a piece that is a guard or such a `prereq`, or has such an option; else false.
+#[tactic(auto, using(crate::proofs::Adding::added_first, crate::proofs::Adding::added_second))]
+fn push_rest(
+    alloc: Global,
+    written: &mut Vec<u8>,
+    home: Option<Home>,
+    piece: &Piece,
+) -> Result<bool, AllocError>
+    ensures { AddsChange result written.old.items written.new.items
+        (spec.of_rest (option_map home_view home.entry) (piece_view piece.now)) }
+{
+    if push_guard_of(alloc, written, home, piece)? {
+        return Ok(true);
+    }
+    push_last(alloc, written, home, piece)
 }
 
 /// Adds a conflict with these modules for a command of these words, and what stands behind it; false where the text has
@@ -166,7 +251,8 @@ fn push_family(
     }
 }
 
-/// Adds what is written for a piece that names a family, is a guard, or has such an option; else false.
+/// Adds what is written for a piece that names a family, is a guard or such a `prereq`, or has such an option; else
+/// false.
 #[tactic(auto, using(crate::proofs::Adding::added_first, crate::proofs::Adding::added_second))]
 fn push_other(
     alloc: Global,
@@ -180,7 +266,7 @@ fn push_other(
     if push_family(alloc, written, home, piece)? {
         return Ok(true);
     }
-    push_rest(alloc, written, piece)
+    push_rest(alloc, written, home, piece)
 }
 
 /// Adds what is written for the command of a piece, where it is another one; else false.
@@ -194,7 +280,7 @@ fn push_change(
     ensures { AddsChange result written.old.items written.new.items
         (spec.change_of (option_map home_view home.entry) (piece_view piece.now)) }
 {
-    if push_command(alloc, written, piece)? {
+    if push_command(alloc, written, home, piece)? {
         return Ok(true);
     }
     push_other(alloc, written, home, piece)

@@ -10,8 +10,8 @@ use Rattle.shelltext.specs.declared.shell.Shell.{Shell}
 use Rattle.requests.specs.Looked.{SearchLooksAt}
 use Rattle.requests.specs.Steps.{request_context_in}
 use Rattle.modules.proofs.TreeAnswers.{reads_both}
-use Rattle.autohandling.specs.Loads.{IsFound, IsMissed}
-use Rattle.autohandling.specs.Views.{AnyLooksAt, FoundAmong, IsFoundOrMissed}
+use Rattle.autohandling.specs.Loads.{AnyLooksAt, FoundAmong, IsFound, IsMissed}
+use Rattle.autohandling.specs.Views.{IsFoundOrMissed}
 use Rattle.autohandling.proofs.FindLemmas.{all_missed, first_found, missed_more, one_looks}
 use Rattle.autohandling.proofs.finding.first_found.Goals as goal
 

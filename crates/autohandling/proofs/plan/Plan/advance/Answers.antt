@@ -10,8 +10,8 @@ use Rattle.requests.specs.Requests.{load}
 use Rattle.requests.specs.Steps.{RequestStep, request_context_in}
 use Rattle.modules.specs.Answers.{cause_of, is_failure}
 use Rattle.modules.proofs.StepLemmas.{stands_as}
-use Rattle.autohandling.specs.Loads.{AutomaticLoadLooksAt, RefusesLoad}
-use Rattle.autohandling.specs.Views.{AnyLooksAt, IsPlan, IsUnmet, PutsIn}
+use Rattle.autohandling.specs.Loads.{AnyLooksAt, AutomaticLoadLooksAt, RefusesLoad}
+use Rattle.autohandling.specs.Views.{IsPlan, IsUnmet, PutsIn}
 use Rattle.autohandling.proofs.FinalLemmas.{IsOther, final_load}
 use Rattle.autohandling.proofs.PlanLemmas.{need_looks, one_put, one_ready, refuses, stuck, try_looks}
 use Rattle.autohandling.proofs.ResultLemmas.{if_err, on_ok}

@@ -12,7 +12,7 @@ use Rattle.modules.specs.Answers.{is_failure as refused}
 use Rattle.modules.specs.declared.refusal.Refusal.TheVariants.{Find}
 use Rattle.modules.proofs.FailureLemmas.{found_failure}
 use Rattle.autohandling.specs.Adding.{is_spent}
-use Rattle.autohandling.specs.Views.{AnyLooksAt, FoundAmong}
+use Rattle.autohandling.specs.Loads.{AnyLooksAt, FoundAmong}
 use Rattle.autohandling.proofs.FindLemmas.{none_found, texts_insert, texts_push}
 use Rattle.autohandling.proofs.plan.Plan.put_in.Goals as goal
 

@@ -1,0 +1,2 @@
+mod OffsetLemmas
+mod PlaceLemmas

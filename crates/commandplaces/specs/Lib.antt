@@ -1,0 +1,3 @@
+-- Places of commands in the text of a script, and texts that are cut there.
+pub mod Cuts
+pub mod Places

@@ -1,0 +1,136 @@
+//! The commands of a script that stands in a text, by their places.
+ghost use Rattle.std.specs.Prelude.{◌≡◌, drop, length, map, IfOk};
+ghost use Rattle.tclchars.specs.Runs.{Text};
+ghost use Rattle.tclchars.specs.Whole.{Reads};
+ghost use Rattle.tclscript.specs.Pieces.{between};
+ghost use Rattle.tclscript.specs.Text.{script_of};
+ghost use Rattle.tclscript.specs.View.{script_view};
+ghost use Rattle.tclscript.specs.declared.piece.ByteRange as code;
+ghost use Rattle.commandplaces.specs.Places.{behind, first_begin, offsets_of, place_view, places};
+
+use std::alloc::{AllocError, Global};
+use tclchars::TextFault;
+use tclscript::{ByteRange, Script, parse_pieces};
+
+/// The place of a command in a text, by byte offsets.
+#[derive(Clone, Copy, Debug, PartialEq, Eq)]
+pub struct CommandPlace {
+    /// Where it begins.
+    pub begin: usize,
+    /// Where the next command of its script begins, or else the script ends.
+    pub end: usize,
+    /// Where its script ends.
+    pub script_end: usize,
+}
+
+/// A part of a text, which is to be a script of its own.
+#[derive(Clone, Copy, Debug, PartialEq, Eq)]
+pub struct Part {
+    /// Where it begins.
+    pub begin: usize,
+    /// Where it ends.
+    pub end: usize,
+}
+
+impl Part {
+    /// The whole text.
+    pub fn whole(text: &str) -> Part
+        ensures { (result.begin ≡ 0) × (result.end ≡ length text.now) }
+    {
+        Part {
+            begin: 0,
+            end: text.len(),
+        }
+    }
+
+    /// A part of this one, by its offsets there.
+    pub fn within(self, range: ByteRange) -> Part
+        ensures { (result.begin ≡ behind self.begin range.start) × (result.end ≡ behind self.begin range.end) }
+    {
+        Part {
+            begin: self.begin.saturating_add(range.start),
+            end: self.begin.saturating_add(range.end),
+        }
+    }
+
+    /// The text of the part; the empty one where it would cut a character.
+    pub fn of(self, text: &str) -> &str
+        ensures { result.now ≡ between text.now self.begin self.end }
+    {
+        let range = ByteRange {
+            start: self.begin,
+            end: self.end,
+        };
+        range.of(text)
+    }
+}
+
+/// The script that a whole text is.
+///
+/// It fails with the first fault of the text, or for want of memory.
+pub fn whole_script(alloc: Global, text: &str) -> Result<Script<ByteRange>, TextFault>
+    ensures { Reads (script_view (λ range. between text.now range.start range.end)) result (script_of text.now) }
+{
+    parse_pieces(alloc, &text)
+}
+
+/// The script that a part of a text is.
+///
+/// It fails with the first fault of the part, or for want of memory.
+pub fn script_of(alloc: Global, text: &str, part: Part) -> Result<Script<ByteRange>, TextFault>
+    ensures { Reads (script_view (λ range. between (between text.now part.begin part.end) range.start range.end)) result
+        (script_of (between text.now part.begin part.end)) }
+{
+    parse_pieces(alloc, &part.of(text))
+}
+
+/// The offsets of the commands of a script in it.
+fn offsets_of(alloc: Global, script: &Script<ByteRange>) -> Result<Vec<usize>, AllocError>
+    ensures { IfOk result (λ v. (shown : code.ByteRange → Text) → v.items ≡ offsets_of (script_view shown script.now)) }
+{
+    script
+        .commands
+        .iter()
+        .map(|command| command.offset)
+        .collect(alloc)
+}
+
+/// Where the command of this number begins, of those at these offsets, or else the script ends.
+fn begin_at(offsets: &[usize], index: usize, part: Part) -> usize
+    ensures { result ≡ first_begin part.begin part.end (drop index offsets.now) }
+{
+    match offsets.get(index) {
+        Some(offset) => part.begin.saturating_add(*offset),
+        None => part.end,
+    }
+}
+
+/// The places of commands at these offsets.
+fn places_at(alloc: Global, offsets: &[usize], part: Part) -> Result<Vec<CommandPlace>, AllocError>
+    ensures { IfOk result (λ v. map place_view v.items ≡ places part.begin part.end offsets.now) }
+{
+    let mut found = Vec::with_capacity(alloc, offsets.len())?;
+    for index in 0..offsets.len() {
+        found.push(CommandPlace {
+            begin: begin_at(offsets, index, part),
+            end: begin_at(offsets, index + 1, part),
+            script_end: part.end,
+        })?;
+    }
+    Ok(found)
+}
+
+/// The places of the commands of a script that stands in this part of a text.
+///
+/// It fails for want of memory alone.
+pub fn places_of(
+    alloc: Global,
+    script: &Script<ByteRange>,
+    part: Part,
+) -> Result<Vec<CommandPlace>, AllocError>
+    ensures { IfOk result (λ v. (shown : code.ByteRange → Text) → map place_view v.items
+        ≡ places part.begin part.end (offsets_of (script_view shown script.now))) }
+{
+    let offsets = offsets_of(alloc, script)?;
+    places_at(alloc, offsets.as_slice(), part)
+}

@@ -1,0 +1,59 @@
+//! What is known of a name that isn't found.
+ghost use Rattle.std.specs.Prelude.{◌≡◌, false, true, IfOk, IfSome};
+ghost use Rattle.envvars.specs.Texts.{slice_texts};
+ghost use Rattle.filetree.specs.Agreement.{Narrows};
+ghost use Rattle.requests.specs.Steps.{modulepath};
+ghost use Rattle.explanations.specs.Advised as spec;
+ghost use Rattle.explanations.specs.Views.{is_known};
+
+use crate::advice::Advice;
+use crate::alike::names_like;
+use crate::known::{asked, known};
+use crate::refused::{RefusedRequest, searched_path};
+use filetree::{Tree, TreeFault};
+use modules::Refusal;
+use search::directories;
+
+/// Whether one of the directories is there.
+fn is_one_there<T: Tree>(tree: &mut T, directories: &[&str]) -> Result<bool, TreeFault>
+    ensures narrows { Narrows (T.agrees tree.old) (T.agrees tree.new) }
+    ensures none { IfOk result (λ is. is ≡ false → spec.NoneIsThere (T.agrees tree.new) (slice_texts directories.now)) }
+    ensures one { IfOk result (λ is. is ≡ true → spec.IsOneThere (T.agrees tree.new) (slice_texts directories.now)) }
+{
+    for directory in directories {
+        if tree.entries(directory)?.is_some() {
+            return Ok(true);
+        }
+    }
+    Ok(false)
+}
+
+/// For a name that isn't found: that nothing is searched, or names that are like it.
+///
+/// It fails where memory ran out, or the device failed.
+pub(crate) fn for_unknown<T: Tree>(
+    refused: RefusedRequest<'_>,
+    tree: &mut T,
+    name: &str,
+) -> Result<Option<Advice>, Refusal>
+    ensures narrows { Narrows (T.agrees tree.old) (T.agrees tree.new) }
+    ensures known { IfOk result (λ o. IfSome o (λ advice. is_known advice ≡ true)) }
+    ensures fits { IfOk result (spec.ForUnknown (T.agrees tree.new) refused.entry.limits
+        refused.entry.request.now.shell refused.entry.env.now (modulepath refused.entry.env.now) name.now) }
+{
+    let alloc = refused.alloc;
+    let modulepath = searched_path(refused.env);
+    if modulepath.is_empty() {
+        let line =
+            "No MODULEPATH is set: \"module use DIRECTORY\" adds one, and a site has its own in etc/modulespath.";
+        return Ok(known(alloc, Some(line))?);
+    }
+    let directories = directories(alloc, modulepath)?;
+    if !is_one_there(tree, directories.as_slice())? {
+        let mut line = String::from_str(alloc, "None of the directories of MODULEPATH is there: ")?;
+        line.push_str(modulepath)?;
+        return Ok(known(alloc, Some(line.as_str()))?);
+    }
+    let names = names_like(alloc, name, modulepath, tree, refused.limits)?;
+    Ok(asked(alloc, names.as_slice())?)
+}

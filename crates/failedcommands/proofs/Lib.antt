@@ -1,0 +1,3 @@
+pub mod TrialLemmas
+pub mod FailedLemmas
+pub mod CommandLemmas

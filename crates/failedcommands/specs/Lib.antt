@@ -1,0 +1,4 @@
+-- Which command of a modulefile failed.
+pub mod Failing
+pub mod Locations
+pub mod Views

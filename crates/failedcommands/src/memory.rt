@@ -1,0 +1,37 @@
+//! Whether a file was refused for want of memory, which says nothing of the file.
+ghost use Rattle.std.specs.Prelude.{◌≡◌, None, is_none};
+ghost use Rattle.modulerun.specs.Running.{eval_reason, file_reason_of};
+
+use modulerun::RunFault;
+use tclrules::EvalFault;
+
+/// Whether the evaluation of a text was given up: memory ran out.
+fn is_evaluation_given_up(fault: &EvalFault) -> bool
+    ensures { result ≡ is_none (eval_reason fault.now None) }
+{
+    match fault {
+        EvalFault::OutOfMemory => true,
+        EvalFault::Text(_)
+        | EvalFault::TclError(_, _)
+        | EvalFault::TooManyCommands
+        | EvalFault::TooDeep
+        | EvalFault::ValueTooLong
+        | EvalFault::NumberTooLarge
+        | EvalFault::FractionOperand
+        | EvalFault::LeftOut(_)
+        | EvalFault::Stopped
+        | EvalFault::Host(_) => false,
+    }
+}
+
+/// Whether the run of a file was given up: memory ran out, which is no reason against the file.
+pub fn wants_memory(fault: &RunFault) -> bool
+    ensures { result ≡ is_none (file_reason_of fault.now) }
+{
+    match fault {
+        RunFault::OutOfMemory => true,
+        RunFault::Eval(fault) => is_evaluation_given_up(fault),
+        RunFault::BadArguments => false,
+        RunFault::BadRecord(fault) => fault.is_out_of_memory(),
+    }
+}

@@ -1,0 +1,2 @@
+-- Which causes say nothing of what is asked for.
+pub mod Causes

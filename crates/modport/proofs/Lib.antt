@@ -1,0 +1,5 @@
+pub mod Accounted
+pub mod Reported
+pub mod Taken
+pub mod Tokens
+pub mod Unsaid

@@ -1,0 +1,4 @@
+pub mod Accounts
+pub mod Lines
+pub mod LineViews
+pub mod Ported

@@ -1,0 +1,29 @@
+//! What the report says, a line at a time.
+
+/// What became of a part of a file.
+#[derive(Clone, Copy, Debug, PartialEq, Eq)]
+pub enum Fate {
+    /// Another text is written for it.
+    Translated,
+    /// Nothing is written for it.
+    Dropped,
+    /// What Tcl computes is written for it.
+    Computed,
+    /// It wasn't there.
+    Added,
+    /// It is kept as it is, and the profile leaves it out; or it isn't written.
+    LeftOut,
+}
+
+/// A line of the report.
+#[derive(Clone, Copy, Debug)]
+pub struct Line<'w, 'p> {
+    /// The line of the file, from 1, that it is about; none where it is about the whole.
+    pub place: Option<usize>,
+    /// What became of it.
+    pub fate: Fate,
+    /// Which it is.
+    pub what: &'w [u8],
+    /// What is written for it, where that is said.
+    pub put: Option<&'p [u8]>,
+}
