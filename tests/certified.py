@@ -1,15 +1,15 @@
 """Sessions of certified modules, tried by the built program in a real shell: the law of sites.
 
 Random trees of modulefiles, of which each uses variables as it likes, and of which some read variables and leave what
-these say, some ask, undo nothing or are refused; a random environment that agrees with some of what the certified modules
-of the site use (`standings.py` says which these are, and which starts agree), and mostly has the values of the audit; and
-random lists of loads, unloads, switches and purges, in which each accepted load is of a certified module with whose uses
-the start agrees and whose reads have in it the values of the audit, and each unload of one that the session loaded.
-Between them changes by hand, by the uses and reads of the modules that are live then (`hands.py`): so a variable that none
-of them uses or reads is changed freely, and the start by which the next load is judged is what the changes have made of
-it. After each command and
-each change the exported variables of the shell are those that a model makes (`sentence.py`, `runs.py`), in which what is
-loaded stands over the start as its file means; and after the last one `env -0` writes what it wrote at the start.
+these say, some ask, undo nothing or are refused; a random environment that agrees with some of what the certified
+modules of the site use (`standings.py` says which these are, and which starts agree), and mostly has the values of
+the audit; and random lists of loads, unloads, switches and purges, in which each accepted load is of a certified
+module with whose uses the start agrees and whose reads have in it the values of the audit, and each unload of one
+that the session loaded. Between them changes by hand, by the uses and reads of the modules that are live then
+(`hands.py`): so a variable that none of them uses or reads is changed freely, and the start by which the next load is
+judged is what the changes have made of it. After each command and each change the exported variables of the shell are
+those that a model makes (`sentence.py`, `runs.py`), in which what is loaded stands over the start as its file means;
+and after the last one `env -0` writes what it wrote at the start.
 
 The program `modaudit` has to say the same of each site: how its modules stand, in which order, their certificate, and
 where the start doesn't agree with it.
@@ -93,7 +93,7 @@ def added_value(name, way):
 
 @st.composite
 def readers(draw, names, records, values):
-    """Lines that read one of these variables, with some of these records, or with its value in a record of these kinds."""
+    """Lines that read one of these variables, with some of these records, or with its value in one of these kinds."""
     name = draw(names)
     if values and not draw(st.integers(0, 3)):
         return "takes", name, draw(st.sampled_from(values))
@@ -146,7 +146,8 @@ def sites(draw, shell, dirs):
     in_all = {folder: {"all": [folder], "first": oldest[folder]}.get(way) for folder, way in exclusive.items()}
     tree = draw(sentence.trees(dirs, lines(dirs, kinds), in_all))
     first = draw(st.lists(st.sampled_from(dirs), min_size=1, max_size=3, unique=True))
-    return Site(tree, ":".join(first), {"HOME": HOME, "OTHER": draw(st.sampled_from([*TEXTS, *sentence.startable(shell)]))})
+    others = {"HOME": HOME, "OTHER": draw(st.sampled_from([*TEXTS, *sentence.startable(shell)]))}
+    return Site(tree, ":".join(first), others)
 
 
 # Starts.
@@ -157,8 +158,8 @@ OLD = (*model.OLD, "m/1", "n")
 
 @st.composite
 def starts(draw, site, shell):
-    """An environment that agrees with a use of most variables of the certificate, and mostly has the values of the audit.
-    Its MODULEPATH may lead elsewhere too."""
+    """An environment that agrees with a use of most variables of the certificate, and mostly has the values of the
+    audit. Its MODULEPATH may lead elsewhere too."""
     env = {"HOME": HOME, "OTHER": site.at_hand["OTHER"], "__MODULES_ELSE": "x"}
     if not draw(st.integers(0, 3)):
         env["OTHER"] = draw(st.sampled_from(sentence.startable(shell)))
@@ -272,8 +273,8 @@ def uses_in(values):
 
 
 def standing_in(value):
-    """A module of the document: its place and its standing, with what a certified one reads, or what of that which other
-    module uses."""
+    """A module of the document: its place and its standing, with what a certified one reads, or which of the variables
+    that it reads another module uses."""
     stands, other = value["standing"], value.get("other", {})
     used = (value["variable"], other["name"], other["path"]) if stands == "reads-used" else None
     return value["name"], value["path"], stands, value.get("reads", []), used

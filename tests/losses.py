@@ -1,5 +1,5 @@
-"""Why modules aren't certified: for each standing, each rule of clashes and each rule of what modules read, a session of
-the built program in which the start is lost, or an unload takes what another loaded module has set.
+"""Why modules aren't certified: for each standing, each rule of clashes and each rule of what modules read, a session
+of the built program in which the start is lost, or an unload takes what another loaded module has set.
 
 Each row has its modulefiles, the standing of each by the rules in the crates' pages (and so by the model in
 `standings.py`, where the records stand in the row), the variables of the start, the commands, and what is there after

@@ -100,8 +100,8 @@ def command(spelling, words):
 
 
 class Module:
-    """A modulefile: its lines, what they record where no variable is set, what it says, and its text. Each line comes with
-    how it is spelled."""
+    """A modulefile: its lines, what they record where no variable is set, what it says, and its text. Each line comes
+    with how it is spelled."""
 
     def __init__(self, lines):
         self.lines = [line for line, _ in lines]
@@ -112,8 +112,8 @@ class Module:
         self.text += "exit\n" if self.fault else ""
 
     def evaluated(self, name, env):
-        """What a load in an environment records, and what it asks: each variable that it reads with its value, and none for
-        what isn't about a variable."""
+        """What a load in an environment records, and what it asks: each variable that it reads with its value, and none
+        for what isn't about a variable."""
         env, records, asked = dict(env), [], []
         for line in self.lines:
             if line[0] == "asks":
@@ -130,8 +130,8 @@ class Module:
 # Lines that record nothing, and how they are written. A modulefile exits at its end.
 OTHER_LINES = {"says": "puts stderr {{{}}}\n", "asks": "{}\n", "exits": "", "nothing": ""}
 
-# Lines that read a variable: `reads` has one record where the variable is so, and else another one; `takes` has one with
-# its value in it. The conditions are written over the name and a word.
+# Lines that read a variable: `reads` has one record where the variable is so, and else another one; `takes` has one
+# with its value in it. The conditions are written over the name and a word.
 CONDITIONS = {
     "is": ("[getenv {}] eq {{{}}}", lambda value, text: (value or "") == text),
     "is there": ("[info exists env({})]", lambda value, _: value is not None),

@@ -1,5 +1,6 @@
-"""Two whole sites, as sites write them (site.txt, whose head says how to read it, and sitefiles.txt): what `modaudit` says
-of each of their modulefiles, sessions of those that are certified, and what the others leave or how they are refused.
+"""Two whole sites, as sites write them (site.txt, whose head says how to read it, and sitefiles.txt): what `modaudit`
+says of each of their modulefiles, sessions of those that are certified, and what the others leave or how they are
+refused.
 
 The standings, the reasons and what is left are typed by hand from modaudit(1) and modulefile(5).
 """
@@ -113,7 +114,8 @@ each_site = pytest.mark.parametrize("written", SITES, ids=lambda written: writte
 def each(kind):
     """Each file of a kind, with its site."""
     pairs = [(written, file) for written in SITES for file in getattr(written, kind)]
-    return pytest.mark.parametrize("written, file", pairs, ids=[f"{written.name}: {file.path}" for written, file in pairs])
+    ids = [f"{written.name}: {file.path}" for written, file in pairs]
+    return pytest.mark.parametrize("written, file", pairs, ids=ids)
 
 
 # What the sites say of themselves.
@@ -229,7 +231,8 @@ def test_how_the_modules_stand(site, written, note):
     counts = (len(written.certified), len(seen))
     same((found["certified"], found["count"]), counts, "how many are certified, and how many are there")
     same(found["disagreements"], [], "what the start has against the certificate")
-    note(f"{written.name}: {len(written.certified)} certified of {len(written.modules) - len(written.outside)} that the profile admits")
+    admitted = len(written.modules) - len(written.outside)
+    note(f"{written.name}: {len(written.certified)} certified of {admitted} that the profile admits")
 
 
 # Sessions of certified modules, and with others of which it is said that they do no harm.

@@ -13,10 +13,10 @@ MODULEPATH = "MODULEPATH"
 COLONS = ("path", ":")
 
 # What shells change by themselves.
-OF_SHELLS = {
-    *("PWD", "OLDPWD", "SHLVL", "_", "RANDOM", "SRANDOM", "SECONDS", "EPOCHSECONDS", "EPOCHREALTIME", "LINENO", "LINES"),
-    *("COLUMNS", "PPID", "BASHPID", "PIPESTATUS", "OPTIND", "OPTARG", "REPLY", "HISTCMD"),
-}
+OF_SHELLS = set(
+    """PWD OLDPWD SHLVL _ RANDOM SRANDOM SECONDS EPOCHSECONDS EPOCHREALTIME LINENO LINES COLUMNS PPID BASHPID PIPESTATUS
+    OPTIND OPTARG REPLY HISTCMD""".split()
+)
 
 # What is left out of the definition, in the runs that have to lose a law.
 WITHOUT = ""
@@ -49,8 +49,8 @@ def is_without(clause):
 
 
 class SiteModule:
-    """A module of a site: its name, its file, what that leaves, what it asks (each variable that it reads with its value,
-    and none for anything else), and why it is refused, if it is."""
+    """A module of a site: its name, its file, what that leaves, what it asks (each variable that it reads with its
+    value, and none for anything else), and why it is refused, if it is."""
 
     def __init__(self, name, path, records, asked=(), fault=None):
         self.name = name
