@@ -1,5 +1,6 @@
 """Why modules aren't certified: for each standing, each rule of clashes and each rule of what modules read, a session
-of the built program in which the start is lost, or an unload takes what another loaded module has set.
+of the built program in which the start is lost, or an unload takes what another loaded module has set. And of certified
+modules, sessions in which what they read isn't as it was in the audit.
 
 Each row has its modulefiles, the standing of each by the rules in the crates' pages (and so by the model in
 `standings.py`, where the records stand in the row), the variables of the start, the commands, and what is there after
@@ -36,7 +37,8 @@ class Row:
         self.reads = reads or {}
 
 
-# By what is lost. `found` has the variables after the commands that differ from the start, None for one that is unset.
+# By what is lost. A command `V=x` is a change by hand. `found` has the variables after the commands that differ from the
+# start, None for one that is unset.
 ROWS = {
     # Standings of one module: the start is lost where it is unloaded again.
     "a value that no unload knows": Row(
@@ -118,6 +120,22 @@ ROWS = {
         ["load c", "load a", "unload c", "unload a"],
         {"V": "/a:/x"},
         {"V": "/a"},
+    ),
+    # Certified modules, and another value of what they read than that of the audit.
+    "a change by hand of what is read": Row(
+        {"a/1": "append-path V /[getenv W]\n"},
+        ["certified"],
+        ["load a", "W=x", "unload a"],
+        {"V": "/a:/", "W": "x"},
+        {"V": "/a"},
+    ),
+    "a start with another value": Row(
+        {"a/1": "append-path V b\n", "b/1": "append-path -d [getenv W :] V c\n"},
+        ["certified", "certified"],
+        ["load a", "load b", "unload a", "unload b"],
+        {"V": "a:b"},
+        {"V": "a"},
+        reads={"W": ","},
     ),
     # Clashes of modules that may be loaded at once: an unload takes what another has set.
     "a variable that both set": Row(
@@ -204,7 +222,10 @@ class Session:
         return text.replace("/m", os.fsdecode(self.folder.modules))
 
     def does(self, words):
-        """Runs a command, and has sh evaluate what it prints."""
+        """Runs a command, and has sh evaluate what it prints; or changes a variable by hand."""
+        if "=" in words:
+            self.env.update([words.split("=")])
+            return
         done = subprocess.run(
             [SH, "-c", f'text=$("$0" sh {words}) || exit 1; eval "$text"; exec {ENV} -0', os.fsdecode(self.folder.program)],
             env=self.env,
@@ -243,7 +264,8 @@ def asked_of(text):
 
 def answer_of(question):
     """What stands in place of a question where modules are judged."""
-    return {"getenv": "", "is-loaded": "0", "module-info": "1"}[question[1].split()[0]]
+    kind, *words = question[1].split()
+    return {"getenv": "".join(words[1:]), "is-loaded": "0", "module-info": "1"}[kind]
 
 
 def records_of(text):
