@@ -1,13 +1,15 @@
 """Sessions of certified modules, tried by the built program in a real shell: the law of sites.
 
-Random trees of modulefiles, of which each uses variables as it likes, and of which some ask, undo nothing or are
-refused; a random environment that agrees with some of what the certified modules of the site use (`standings.py` says
-which these are, and which starts agree); and random lists of loads, unloads, switches and purges, in which each accepted
-load is of a certified module with whose uses the start agrees, and each unload of one that the session loaded. Between
-them changes by hand, by the uses of the modules that are live then (`hands.py`): so a variable that none of them uses is
-changed freely, and the start by which the next load is judged is what the changes have made of it. After each command and
-each change the exported variables of the shell are those that a model makes (`sentence.py`, `runs.py`), in which what is
-loaded stands over the start as its file means; and after the last one `env -0` writes what it wrote at the start.
+Random trees of modulefiles, of which each uses variables as it likes, and of which some read variables and leave what
+these say, some ask, undo nothing or are refused; a random environment that agrees with some of what the certified
+modules of the site use (`standings.py` says which these are, and which starts agree), and mostly has the values of
+the audit; and random lists of loads, unloads, switches and purges, in which each accepted load is of a certified
+module with whose uses the start agrees and whose reads have in it the values of the audit, and each unload of one
+that the session loaded. Between them changes by hand, by the uses and reads of the modules that are live then
+(`hands.py`): so a variable that none of them uses or reads is changed freely, and the start by which the next load is
+judged is what the changes have made of it. After each command and each change the exported variables of the shell are
+those that a model makes (`sentence.py`, `runs.py`), in which what is loaded stands over the start as its file means;
+and after the last one `env -0` writes what it wrote at the start.
 
 The program `modaudit` has to say the same of each site: how its modules stand, in which order, their certificate, and
 where the start doesn't agree with it.
@@ -36,11 +38,12 @@ MOST_SITES = 20_000
 
 
 class Site:
-    """A tree, a MODULEPATH where its site begins, and what is certified there."""
+    """A tree, a MODULEPATH where its site begins, the other variables of its audit, and what is certified there."""
 
-    def __init__(self, tree, modulepath):
+    def __init__(self, tree, modulepath, others):
         self.tree = tree
         self.modulepath = modulepath
+        self.at_hand = {**others, MODULEPATH: modulepath}
         self.directories = standings.site_directories(modulepath, self.modules_in)
         self.modules = standings.site_modules(modulepath, self.modules_in)
         self.certified = standings.certified(self.modules)
@@ -53,7 +56,7 @@ class Site:
 
     def site_module(self, name, path):
         module = self.tree.modules[path]
-        return SiteModule(name, path, module.records, module.asks, module.fault)
+        return SiteModule(name, path, *module.evaluated(name, self.at_hand), module.fault)
 
 
 # Random sites: most modules use a variable in one way, and those of some folders exclude each other.
@@ -62,10 +65,16 @@ class Site:
 ODD_LINES = [
     ("asks", "module-info mode load"),
     ("asks", "if {[is-loaded nothing]} {}"),
-    ("asks", "info exists env(HOME)"),
+    ("asks", "info exists env(PWD)"),
     ("asks", "module-info shell"),
     *[("exits",)] * 3,
 ]
+# What may be read besides what modules use: what hands change too, and what is the tool's own.
+READ = ("HOME", "OTHER", "HOME", "OTHER", "EDITOR")
+OWN = (model.NAMES, model.FILES)
+# What HOME and OTHER are, and what conditions on a variable have.
+HOME = "/home/x y"
+TEXTS = (HOME, "v", "a b", "")
 OTHERS = ("m", "k", "z", "z/1", "n", "w", "w_1", "m/1", "c", "a")
 
 
@@ -73,6 +82,23 @@ def odd_lines(variables):
     """What keeps a module from being certified."""
     unset = [("unsetenv", name, None) for name in variables]
     return st.sampled_from(ODD_LINES + unset + [("remove-path", ":", name, ["/opt/b"]) for name in variables])
+
+
+def added_value(name, way):
+    """The kinds of records that have the value of another variable in them, and use a variable in this way."""
+    if way[0] == "path":
+        return [(kind, way[1], name) for kind in ("prepend-path", "append-path")]
+    return [("pushenv", name)] if way == ("stack",) else [("setenv", name)] if way == ("fixed", None) else []
+
+
+@st.composite
+def readers(draw, names, records, values):
+    """Lines that read one of these variables, with some of these records, or with its value in one of these kinds."""
+    name = draw(names)
+    if values and not draw(st.integers(0, 3)):
+        return "takes", name, draw(st.sampled_from(values))
+    how, text = draw(st.sampled_from(list(sentence.CONDITIONS))), draw(st.sampled_from(TEXTS))
+    return "reads", name, how, text, draw(records), draw(records)
 
 
 def added_directories(dirs):
@@ -104,17 +130,24 @@ def sites(draw, shell, dirs):
     strays = draw(st.lists(st.tuples(st.sampled_from(variables), sentence.ways(shell)), max_size=2))
     exclusive = {folder: draw(st.sampled_from(["", "some", "all", "first"])) for folder in sentence.FOLDERS}
     found = {(name, way): sentence.records(name, way, dirs) for name, way in ways + strays}
-    every = [*found.values(), added_directories(dirs), odd_lines(variables), sentence.QUIET]
+    some = [*found.values(), added_directories(dirs)]
+    needs = model.needs(OTHERS, ("conflict", "conflict", "prereq"))
+    read = st.sampled_from([*READ * 5, *OWN, MODULEPATH, *variables])
+    values = [kind for name, way in ways for kind in added_value(name, way)]
+    # (hypothesis takes a strategy that stands there twice for one)
+    reading = [readers(read, st.one_of(*some, needs), values) for _ in range(6)]
+    every = [*some, odd_lines(variables), sentence.QUIET, *reading]
     shared = [found[name, way] for name, way in ways if way[0] != "fixed"] * 4
-    shared += [*every, model.needs(OTHERS, ("conflict", "conflict", "prereq"))]
+    shared += [*every, needs]
     kinds = {"": st.one_of(*shared)}
     for folder, way in exclusive.items():
         kinds[folder] = st.one_of(*every, *[conflicts(folder)] * 4 * (way == "some")) if way else kinds[""]
-    first = {folder: [f"{folder}/{versions[0]}"] for folder, versions in sentence.FOLDERS.items()}
-    in_all = {folder: {"all": [folder], "first": first[folder]}.get(way) for folder, way in exclusive.items()}
+    oldest = {folder: [f"{folder}/{versions[0]}"] for folder, versions in sentence.FOLDERS.items()}
+    in_all = {folder: {"all": [folder], "first": oldest[folder]}.get(way) for folder, way in exclusive.items()}
     tree = draw(sentence.trees(dirs, lines(dirs, kinds), in_all))
-    start = draw(st.lists(st.sampled_from(dirs), min_size=1, max_size=3, unique=True))
-    return Site(tree, ":".join(start))
+    first = draw(st.lists(st.sampled_from(dirs), min_size=1, max_size=3, unique=True))
+    others = {"HOME": HOME, "OTHER": draw(st.sampled_from([*TEXTS, *sentence.startable(shell)]))}
+    return Site(tree, ":".join(first), others)
 
 
 # Starts.
@@ -125,8 +158,11 @@ OLD = (*model.OLD, "m/1", "n")
 
 @st.composite
 def starts(draw, site, shell):
-    """An environment that agrees with a use of most variables of the certificate. Its MODULEPATH may lead elsewhere too."""
-    env = {"HOME": "/home/x y", "OTHER": draw(st.sampled_from(sentence.startable(shell))), "__MODULES_ELSE": "x"}
+    """An environment that agrees with a use of most variables of the certificate, and mostly has the values of the
+    audit. Its MODULEPATH may lead elsewhere too."""
+    env = {"HOME": HOME, "OTHER": site.at_hand["OTHER"], "__MODULES_ELSE": "x"}
+    if not draw(st.integers(0, 3)):
+        env["OTHER"] = draw(st.sampled_from(sentence.startable(shell)))
     entries = draw(model.old_entries(OLD, CONFLICTS, sentence.GROUPS))
     model.write_loaded(env, entries)
     owners = tuple(entry[0] for entry in entries)
@@ -160,6 +196,9 @@ class Session(hands.ByHand):
 
     def live_modules(self):
         return [(one.name, one.path, one.records) for one in (self.places[place] for place in self.live())]
+
+    def is_read(self, name):
+        return not standings.may_be_changed(name, [self.places[place] for place in self.live()])
 
     def is_fit(self, before, step):
         mine = {(name, path) for name, path, *_ in model.loaded_in(before)[len(self.old) :]}
@@ -198,9 +237,9 @@ def sessions(draw, shell, top, product="", folders=("one", "two", "three", "four
     sure = sorted({module.name for module in site.certified})
     sure += [name.rpartition("/")[0] or name for name in sure]
     names = st.sampled_from(sure * 12 + site.tree.names() + sentence.ODD_NAMES)
-    commands = sentence.commands(names, not model.loaded_in(start))
+    commands = [sentence.commands(names, not model.loaded_in(start)) for _ in range(2)]
     changes = hands.hands(dict(site.uses), sentence.variables(shell))
-    words = draw(several(st.one_of(commands, commands, changes), 40))
+    words = draw(several(st.one_of(*commands, changes), 40))
     return Session(site, product, shell, site.tree, start, words, draw(sentence.ENDS))
 
 
@@ -208,7 +247,7 @@ def sessions(draw, shell, top, product="", folders=("one", "two", "three", "four
 
 
 def audit_of(program, site, env):
-    """The document that the program writes of a site in an environment, whose MODULEPATH is the site's."""
+    """The document that the program writes of a site in an environment, whose MODULEPATH is made the site's."""
     done = subprocess.run([program, "--json"], env=judged(site, env), capture_output=True, timeout=60, check=False)
     if done.stderr or done.returncode not in (0, 1):
         raise Lost(f"modaudit ends with status {done.returncode}, and {done.stderr!r}")
@@ -233,12 +272,33 @@ def uses_in(values):
     return {(value["variable"], use_of(value)) for value in values if value["use"] != "loaded"}
 
 
+def standing_in(value):
+    """A module of the document: its place and its standing, with what a certified one reads, or which of the variables
+    that it reads another module uses."""
+    stands, other = value["standing"], value.get("other", {})
+    used = (value["variable"], other["name"], other["path"]) if stands == "reads-used" else None
+    return value["name"], value["path"], stands, value.get("reads", []), used
+
+
+def standing_by(module, modules):
+    """The same by the model, which has the modules in the order of the document."""
+    stands = standings.standing_of(module, modules)
+    used = standings.used_read(module, modules) if stands == "reads-used" else None
+    reads = list(module.reads) if stands == "certified" else []
+    return module.name, module.path, stands, reads, used and (used[0], used[1].name, used[1].path)
+
+
+def in_order_of(found, modules):
+    """The modules as they stand in a document; those that it hasn't stand last."""
+    places = [(one["name"], one["path"]) for one in found["modules"]]
+    return sorted(modules, key=lambda one: [*places, (one.name, one.path)].index((one.name, one.path)))
+
+
 def differs(found, site):
-    """In what a document of a site, judged in an environment without variables, differs from the model, or none."""
-    modules = [(one["name"], one["path"], one["standing"]) for one in found["modules"]]
-    wanted = [(one.name, one.path, standings.standing_of(one, site.modules)) for one in site.modules]
+    """In what a document of a site, judged in the environment of its audit, differs from the model, or none."""
+    modules = in_order_of(found, site.modules)
     pairs = {
-        "the modules": (sorted(modules), sorted(wanted)),
+        "the modules": (list(map(standing_in, found["modules"])), [standing_by(one, modules) for one in modules]),
         "the certificate": (uses_in(found["certificate"]), set(site.uses)),
         "the missing directories": (found["missing_directories"], standings.missing(site.directories, os.path.isdir)),
         "the files that are no modulefiles": (found["no_modulefiles"], []),
@@ -258,7 +318,7 @@ def disagrees(found, site, env):
 def audited(program, session):
     """modaudit says the same as the model of the site of a session, and of its start."""
     site, start = session.site, session.start
-    same(differs(audit_of(program, site, {}), site), None, "what differs from the model")
+    same(differs(audit_of(program, site, site.at_hand), site), None, "what differs from the model")
     same(disagrees(audit_of(program, site, start), site, start), None, "what differs of the start")
 
 

@@ -235,7 +235,9 @@ class ByHand(sentence.Session):
             return
         change, live = self.meets(words.name, Spelling(words.number)), self.live_modules()
         named = change.name, change.value
-        if change.value == self.env.get(change.name) or not model.may_change(self.ways, live, self.env, *named):
+        if change.value == self.env.get(change.name) or self.is_read(change.name):
+            return
+        if not model.may_change(self.ways, live, self.env, *named):
             return
         before, self.start = self.start, model.start_after(self.ways, self.start, live, self.env, *named)
         self.env = model.by_hand(self.env, *named)
@@ -243,6 +245,10 @@ class ByHand(sentence.Session):
         if not model.WITHOUT:
             self.begins_anew(before, live, change)
         self.commands.append((change, self.env, change.said, 0))
+
+    def is_read(self, _):
+        """A live module reads the variable."""
+        return False
 
     def meets(self, name, spelling):
         """What a change by hand makes of what it meets."""

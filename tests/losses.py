@@ -1,5 +1,6 @@
-"""Why modules aren't certified: for each standing but that of a module that asks, and for each rule of clashes, a session
-of the built program in which the start is lost, or an unload takes what another loaded module has set.
+"""Why modules aren't certified: for each standing, each rule of clashes and each rule of what modules read, a session
+of the built program in which the start is lost, or an unload takes what another loaded module has set. And of certified
+modules, sessions in which what they read isn't as it was in the audit.
 
 Each row has its modulefiles, the standing of each by the rules in the crates' pages (and so by the model in
 `standings.py`, where the records stand in the row), the variables of the start, the commands, and what is there after
@@ -8,6 +9,7 @@ modulefile(5).
 """
 
 import os
+import re
 import shutil
 import subprocess
 
@@ -35,7 +37,8 @@ class Row:
         self.reads = reads or {}
 
 
-# By what is lost. `found` has the variables after the commands that differ from the start, None for one that is unset.
+# By what is lost. A command `V=x` is a change by hand. `found` has the variables after the commands that differ from the
+# start, None for one that is unset.
 ROWS = {
     # Standings of one module: the start is lost where it is unloaded again.
     "a value that no unload knows": Row(
@@ -67,6 +70,72 @@ ROWS = {
         ["out-of-step"],
         ["load a", "unload a/1"],
         {"MODULEPATH": "/m:/x"},
+    ),
+    # Questions whose answers don't stay, and variables that are read and used: the unload undoes other records.
+    "an answer that the mode gives": Row(
+        {"a/1": "append-path V /[module-info mode load]\n"},
+        ["asks"],
+        ["load a", "unload a"],
+        {"V": "/a:/1"},
+        {"V": "/a"},
+    ),
+    "an answer that another module gives": Row(
+        {"a/1": "append-path V /[is-loaded b]\n", "b/1": "setenv W x\n"},
+        ["asks", "certified"],
+        ["load b", "load a", "unload b", "unload a"],
+        {"V": "/a:/1"},
+        {"V": "/a"},
+    ),
+    "an answer that the load gives": Row(
+        {"a/1": "append-path V /[getenv W]\nsetenv W x\n"},
+        ["asks"],
+        ["load a", "unload a"],
+        {"V": "/a:/"},
+        {"V": "/a"},
+    ),
+    "an answer that the unload takes": Row(
+        {"a/1": "setenv W x\nappend-path V /[getenv W]\n"},
+        ["asks"],
+        ["load a", "unload a"],
+        {"V": "/a:/x"},
+        {"V": "/a"},
+    ),
+    "an answer of the tool": Row(
+        {"a/1": "append-path V /[getenv LOADEDMODULES]\n", "b/1": "setenv W x\n"},
+        ["asks", "certified"],
+        ["load a", "load b", "unload a", "unload b"],
+        {"V": "/a:/"},
+        {"V": "/a"},
+    ),
+    "a variable that is read here and set there": Row(
+        {"a/1": "append-path V /[getenv W]\n", "b/1": "setenv W x\n"},
+        ["reads-used", "certified"],
+        ["load b", "load a", "unload b", "unload a"],
+        {"V": "/a:/x"},
+        {"V": "/a"},
+    ),
+    "a variable that is read here, and set where the other is in conflict": Row(
+        {"a/1": "append-path V /[getenv W]\nconflict c[getenv W]\n", "c/1": "setenv W x\n"},
+        ["reads-used", "certified"],
+        ["load c", "load a", "unload c", "unload a"],
+        {"V": "/a:/x"},
+        {"V": "/a"},
+    ),
+    # Certified modules, and another value of what they read than that of the audit.
+    "a change by hand of what is read": Row(
+        {"a/1": "append-path V /[getenv W]\n"},
+        ["certified"],
+        ["load a", "W=x", "unload a"],
+        {"V": "/a:/", "W": "x"},
+        {"V": "/a"},
+    ),
+    "a start with another value": Row(
+        {"a/1": "append-path V b\n", "b/1": "append-path -d [getenv W :] V c\n"},
+        ["certified", "certified"],
+        ["load a", "load b", "unload a", "unload b"],
+        {"V": "a:b"},
+        {"V": "a"},
+        reads={"W": ","},
     ),
     # Clashes of modules that may be loaded at once: an unload takes what another has set.
     "a variable that both set": Row(
@@ -153,7 +222,10 @@ class Session:
         return text.replace("/m", os.fsdecode(self.folder.modules))
 
     def does(self, words):
-        """Runs a command, and has sh evaluate what it prints."""
+        """Runs a command, and has sh evaluate what it prints; or changes a variable by hand."""
+        if "=" in words:
+            self.env.update([words.split("=")])
+            return
         done = subprocess.run(
             [SH, "-c", f'text=$("$0" sh {words}) || exit 1; eval "$text"; exec {ENV} -0', os.fsdecode(self.folder.program)],
             env=self.env,
@@ -180,10 +252,26 @@ def test_the_start_or_what_is_loaded_is_lost(folder, row):
     true(session.env != {name: session.real(value) for name, value in session.start.items()}, "something is lost")
 
 
+# What the rows ask, and the answer where no variable is set, no module is loaded, and one is to be loaded.
+QUESTIONS = re.compile(r"\[((?:getenv|is-loaded|module-info) [^]]*)\]")
+
+
+def asked_of(text):
+    """What the modulefiles of the rows ask, as `standings.py` has it."""
+    words = [question.split() for question in QUESTIONS.findall(text)]
+    return [(one[1], None) if one[0] == "getenv" else None for one in words]
+
+
+def answer_of(question):
+    """What stands in place of a question where modules are judged."""
+    kind, *words = question[1].split()
+    return {"getenv": "".join(words[1:]), "is-loaded": "0", "module-info": "1"}[kind]
+
+
 def records_of(text):
     """What the modulefiles of the rows leave; a refused one leaves nothing."""
     records = []
-    for line in text.splitlines():
+    for line in QUESTIONS.sub(answer_of, text).splitlines():
         kind, *words = line.split()
         if kind in ("append-path", "remove-path"):
             delim = words[1] if words[0] == "-d" else ":"
@@ -198,7 +286,7 @@ def records_of(text):
 @each_row
 def test_modules_stand_as_the_row_says(row):
     modules = [
-        SiteModule(name, f"/m/{name}", records_of(text), fault="unset" if "$env" in text else None)
+        SiteModule(name, f"/m/{name}", records_of(text), asked_of(text), "unset" if "$env" in text else None)
         for name, text in row.files.items()
     ]
     same([standings.standing_of(module, modules) for module in modules], row.stand, "how the modules stand")
@@ -206,4 +294,5 @@ def test_modules_stand_as_the_row_says(row):
 
 def test_each_standing_has_a_row():
     standing = {word for row in ROWS.values() for word in row.stand}
-    same(sorted(standing), ["certified", "clashes", "one-way", "out-of-step", "refused"], "the standings of the rows")
+    words = ["asks", "certified", "clashes", "one-way", "out-of-step", "reads-used", "refused"]
+    same(sorted(standing), words, "the standings of the rows")

@@ -89,9 +89,153 @@ ROWS = {
         [("a/1", "certified", "")],
     ),
     "an empty file": ({"/m/a/1": ""}, [("a/1", "certified", "")]),
-    "a question": ({"/m/a/1": "getenv HOME\nis-loaded b\n"}, [("a/1", "asks", "getenv HOME")]),
+    # Questions: the first that doesn't keep its answer is the reason.
+    "a question to what is loaded": ({"/m/a/1": "getenv HOME\nis-loaded b\n"}, [("a/1", "asks", "is-loaded b")]),
     "a question to the mode": ({"/m/a/1": "if {[module-info mode load]} {}\n"}, [("a/1", "asks", "module-info mode load")]),
-    "a question and a one-way record": ({"/m/a/1": "unsetenv V\ngetenv HOME\n"}, [("a/1", "asks", "getenv HOME")]),
+    "a question to the shell": (
+        {"/m/a/1": "setenv V [getenv HOME][module-info shelltype]\nmodule-info shell\n"},
+        [("a/1", "asks", "module-info shelltype")],
+    ),
+    "a question to the typed name": ({"/m/a/1": "module-info specified\n"}, [("a/1", "asks", "module-info specified")]),
+    "a question and a one-way record": ({"/m/a/1": "unsetenv V\nis-loaded\n"}, [("a/1", "asks", "is-loaded")]),
+    "a variable that the file sets before": ({"/m/a/1": "setenv V x\ngetenv V\n"}, [("a/1", "asks", "getenv V")]),
+    "a variable that the file sets then": (
+        {"/m/a/1": "getenv W\ngetenv V z\nsetenv V x\n"},
+        [("a/1", "asks", "getenv V z")],
+    ),
+    "a path that the file looks at": (
+        {"/m/a/1": "info exists env(V)\nappend-path V x\n"},
+        [("a/1", "asks", "$env(V)")],
+    ),
+    "a stack that the file looks at": (
+        {"/m/a/1": "catch {set x $env(V)}\npushenv V x\n"},
+        [("a/1", "asks", "$env(V)")],
+    ),
+    "a value that the file looks at and unsets": (
+        {"/m/a/1": "info exists ::env(V)\nunsetenv V x\n"},
+        [("a/1", "asks", "$env(V)")],
+    ),
+    "a variable that is read and named by what no unload undoes": (
+        {"/m/a/1": "getenv V\nremove-path V /b\n", "/m/b/1": "getenv W\nunsetenv W\n"},
+        [("a/1", "asks", "getenv V"), ("b/1", "asks", "getenv W")],
+    ),
+    "variables that shells change": (
+        {"/m/a/1": "getenv HOME\ngetenv PWD\n", "/m/b/1": "info exists env(SHLVL)\n", "/m/c/1": "getenv SHLVL2\n"},
+        [("a/1", "asks", "getenv PWD"), ("b/1", "asks", "$env(SHLVL)"), ("c/1", "certified", "reads SHLVL2")],
+    ),
+    "variables of the tool": (
+        {
+            "/m/a/1": "getenv LOADEDMODULES\n",
+            "/m/b/1": "getenv _LMFILES_\n",
+            "/m/c/1": "info exists env(__MODULES_ELSE)\n",
+            "/m/d/1": "getenv MODULEPATH\ngetenv _MODULES_ELSE\n",
+        },
+        [
+            ("a/1", "asks", "getenv LOADEDMODULES"),
+            ("b/1", "asks", "getenv _LMFILES_"),
+            ("c/1", "asks", "$env(__MODULES_ELSE)"),
+            ("d/1", "certified", "reads MODULEPATH, _MODULES_ELSE"),
+        ],
+    ),
+    # Variables that are read.
+    "a variable that is read": ({"/m/a/1": "setenv V /s/[getenv USER]\n"}, [("a/1", "certified", "reads USER")]),
+    "variables that are read, each once": (
+        {"/m/a/1": "getenv B\ngetenv A\ngetenv B x\ncatch {set x $env(C)}\ninfo exists env(D)\ngetenv C\n"},
+        [("a/1", "certified", "reads B, A, C, D")],
+    ),
+    "what isn't evaluated reads nothing": (
+        {"/m/a/1": "if {0} {getenv A}\nproc p {} {getenv B}\n"},
+        [("a/1", "certified", "")],
+    ),
+    "two that read a variable": (
+        {"/m/a/1": "getenv V\nsetenv A x\n", "/m/b/1": "getenv V\nsetenv B x\n"},
+        [("a/1", "certified", "reads V"), ("b/1", "certified", "reads V")],
+    ),
+    "a variable that is read, and a value that no unload knows": (
+        {"/m/a/1": "getenv V\nunsetenv W\n"},
+        [("a/1", "one-way", "unsetenv W")],
+    ),
+    "a variable that is read, and a refusal": (
+        {"/m/a/1": "prepend-path P $env(V)\n"},
+        [("a/1", "refused", 'can\'t read "env(V)": no such variable (line 2)')],
+    ),
+    "a variable that is read and used elsewhere": (
+        {"/m/a/1": "getenv V\n", "/m/b/1": "setenv V x\n"},
+        [("a/1", "reads-used", "V: read here, used in b/1 (/m/b/1)"), ("b/1", "certified", "")],
+    ),
+    "each use is one": (
+        {
+            "/m/a/1": "getenv A\n",
+            "/m/b/1": "getenv B\n",
+            "/m/c/1": "getenv C\n",
+            "/m/d/1": "append-path -d , A x\npushenv B x\nunsetenv C x\n",
+        },
+        [
+            ("a/1", "reads-used", "A: read here, used in d/1 (/m/d/1)"),
+            ("b/1", "reads-used", "B: read here, used in d/1 (/m/d/1)"),
+            ("c/1", "reads-used", "C: read here, used in d/1 (/m/d/1)"),
+            ("d/1", "certified", ""),
+        ],
+        ["# environment: C isn't 'x'"],
+    ),
+    "no conflict makes a read free": (
+        {
+            "/m/a/1": "conflict a b\ngetenv V\n",
+            "/m/a/2": "conflict a\nsetenv V x\n",
+            "/m/b/1": "conflict a\nsetenv V x\n",
+        },
+        [
+            ("a/1", "reads-used", "V: read here, used in a/2 (/m/a/2)"),
+            ("a/2", "certified", ""),
+            ("b/1", "certified", ""),
+        ],
+    ),
+    "the first variable that is read, and the first module": (
+        {
+            "/m/a/1": "getenv W\ngetenv V\ngetenv U\n",
+            "/m/b/1": "setenv U x\n",
+            "/m/c/1": "setenv V x\n",
+            "/m/c/2": "setenv V x\n",
+        },
+        [
+            ("a/1", "reads-used", "V: read here, used in c/1 (/m/c/1)"),
+            ("b/1", "certified", ""),
+            ("c/1", "certified", ""),
+            ("c/2", "clashes", "V: set here, set in c/1 (/m/c/1); used so by 2"),
+        ],
+    ),
+    "what modules use that aren't settled": (
+        {"/m/a/1": "getenv V\n", "/m/b/1": "setenv V x\nis-loaded z\n", "/m/c/1": "setenv V x\nunsetenv W\n"},
+        [("a/1", "certified", "reads V"), ("b/1", "asks", "is-loaded z"), ("c/1", "one-way", "unsetenv W")],
+    ),
+    "what modules use that aren't certified": (
+        {"/m/a/1": "getenv V\n", "/m/b/1": "setenv V x\npushenv V y\n"},
+        [("a/1", "reads-used", "V: read here, used in b/1 (/m/b/1)"), ("b/1", "out-of-step", "V: set, and stack")],
+    ),
+    "two that read what the other uses": (
+        {"/m/a/1": "getenv V\nsetenv W x\n", "/m/b/1": "getenv W\nsetenv V x\n"},
+        [
+            ("a/1", "reads-used", "V: read here, used in b/1 (/m/b/1)"),
+            ("b/1", "reads-used", "W: read here, used in a/1 (/m/a/1)"),
+        ],
+    ),
+    "one whose reads aren't free keeps no other from being certified": (
+        {"/m/a/1": "getenv V\nsetenv W x\n", "/m/b/1": "setenv V x\n", "/m/c/1": "setenv W y\n"},
+        [
+            ("a/1", "reads-used", "V: read here, used in b/1 (/m/b/1)"),
+            ("b/1", "certified", ""),
+            ("c/1", "certified", ""),
+        ],
+    ),
+    "a variable that is read, and two uses": (
+        {"/m/a/1": "getenv W\nsetenv V x\npushenv V y\n", "/m/b/1": "getenv X\nunsetenv X2 x\n"},
+        [("a/1", "out-of-step", "V: set, and stack"), ("b/1", "certified", "reads X")],
+        ["# environment: X2 isn't 'x'"],
+    ),
+    "a variable that is read, and a clash": (
+        {"/m/a/1": "getenv W\nsetenv V x\n", "/m/b/1": "getenv W\nsetenv V y\n"},
+        [("a/1", "certified", "reads W"), ("b/1", "clashes", "V: set here, set in a/1 (/m/a/1); used so by 2")],
+    ),
     "a value that no unload knows": ({"/m/a/1": "unsetenv V\n"}, [("a/1", "one-way", "unsetenv V")]),
     "an element that no unload puts back": (
         {"/m/a/1": "setenv V x\nremove-path P /b\nunsetenv W\n"},
@@ -238,12 +382,28 @@ ROWS = {
         [("a/1", "one-way", "unsetenv W")],
     ),
     "a directory that a module adds which asks": (
+        {"/m/a/1": "append-path MODULEPATH /n\nis-loaded b\n", "/n/b/1": "setenv V y\n"},
+        [("a/1", "asks", "is-loaded b")],
+    ),
+    "a directory that a module adds which reads": (
         {"/m/a/1": "append-path MODULEPATH /n\ngetenv HOME\n", "/n/b/1": "setenv V y\n"},
-        [("a/1", "asks", "getenv HOME")],
+        [("a/1", "certified", "reads HOME"), ("b/1", "certified", "")],
+    ),
+    "a directory that a module adds which reads what is used there": (
+        {"/m/a/1": "append-path MODULEPATH /n\ngetenv V\n", "/n/b/1": "setenv V y\n"},
+        [("a/1", "reads-used", "V: read here, used in b/1 (/n/b/1)"), ("b/1", "certified", "")],
+    ),
+    "a directory that is added where a variable isn't set": (
+        {
+            "/m/a/1": "if {[getenv V] eq {}} {append-path MODULEPATH /n} else {append-path MODULEPATH /o}\n",
+            "/n/b/1": "",
+            "/o/c/1": "",
+        },
+        [("a/1", "certified", "reads V"), ("b/1", "certified", "")],
     ),
     "a directory behind a directory": (
         {"/m/a/1": "prepend-path MODULEPATH /n\n", "/n/b/1": "prepend-path MODULEPATH /o:/m\n", "/o/c/1": "getenv X\n"},
-        [("a/1", "certified", ""), ("b/1", "certified", ""), ("c/1", "asks", "getenv X")],
+        [("a/1", "certified", ""), ("b/1", "certified", ""), ("c/1", "certified", "reads X")],
     ),
     "a directory that isn't there": (
         {"/m/a/1": "append-path MODULEPATH /o\n"},
@@ -264,7 +424,7 @@ def place_of(name, files):
 
 
 # The standings of which a report has the sums, in its order (modaudit(1), How modules stand).
-OTHERS = ("asks", "one-way", "out-of-step", "clashes", "refused")
+OTHERS = ("asks", "one-way", "reads-used", "out-of-step", "clashes", "refused")
 
 
 def counts_of(words):
@@ -287,7 +447,7 @@ def test_the_standing_of_each_row(folder, files, rows, remarks):
 
 def test_each_standing_has_a_row():
     words = {word for _, rows, *_ in ROWS.values() for _, word, _ in rows}
-    same(sorted(words), ["asks", "certified", "clashes", "one-way", "out-of-step", "refused"], "the standings of the rows")
+    same(sorted(words), sorted(["certified", *OTHERS]), "the standings of the rows")
 
 
 @each_row
@@ -328,14 +488,14 @@ def test_remarks_on_default_files_and_names(folder):
         "/m/a/1": "",
         "/m/a/.version": "nope\n",
         "/m/b/1": "conflict a z\nprereq a q\nprereq y x\n",
-        "/m/c/1": "conflict c/1 c/2 {}\ngetenv HOME\nconflict w\n",
+        "/m/c/1": "conflict c/1 c/2 {}\nis-loaded\nconflict w\n",
         "/m/d/1": "conflict v\nnope\n",
         "/m/e/f/.modulerc": "nope\n",
     }
     lines = [
         "a/1\tcertified\t\t/m/a/1",
         "b/1\tcertified\t\t/m/b/1",
-        "c/1\tasks\tgetenv HOME\t/m/c/1",
+        "c/1\tasks\tis-loaded\t/m/c/1",
         "d/1\trefused\tinvalid command name \"nope\" (line 3)\t/m/d/1",
         "# 2 certified of 4",
         "# 1 asks",
@@ -355,13 +515,13 @@ def test_remarks_on_directories_that_are_not_there(folder):
     files = {
         "/m/a/1": "append-path MODULEPATH /o:/n:/o/p\n",
         "/m/a/2": "append-path MODULEPATH /m/a/1\nprepend-path MODULEPATH /m/q\n",
-        "/m/b/1": "append-path MODULEPATH /r\ngetenv HOME\n",
+        "/m/b/1": "append-path MODULEPATH /r\nis-loaded\n",
         "/n/c/1": "prepend-path MODULEPATH /o/p:/m/none\n",
     }
     missing = ["/m/none", "/o", "/o/p", "/m/a/1", "/m/q"]
     site = Site(folder, files, "/m/none:/m:/m/b")
     lines = [f"a/{number}\tcertified\t\t/m/a/{number}" for number in (1, 2)]
-    lines += ["b/1\tasks\tgetenv HOME\t/m/b/1", "1\tasks\tgetenv HOME\t/m/b/1", "c/1\tcertified\t\t/n/c/1"]
+    lines += ["b/1\tasks\tis-loaded\t/m/b/1", "1\tasks\tis-loaded\t/m/b/1", "c/1\tcertified\t\t/n/c/1"]
     site.says([*lines, "# 3 certified of 5", "# 2 asks", *[f"# no directory: {path}" for path in missing]])
     same(site.document()["missing_directories"], [os.fsdecode(real(folder, path)) for path in missing], "the document")
     site.clear()
@@ -581,17 +741,19 @@ def test_names_in_conflicts_of_many_files(folder):
 
 def test_sums_by_standing(folder):
     files = {
-        "/m/a/1": "getenv HOME\n",
-        "/m/a/2": "getenv HOME\n",
+        "/m/a/1": "is-loaded\n",
+        "/m/a/2": "is-loaded\n",
         "/m/b/1": "unsetenv V\n",
         "/m/c/1": "setenv V x\npushenv V y\n",
         "/m/d/1": "setenv W x\n",
         "/m/d/2": "setenv W y\n",
         "/m/e/1": "nope\n",
+        "/m/f/1": "getenv W\n",
     }
-    lines = ["# 1 certified of 7", "# 2 asks", "# 1 one-way", "# 1 out-of-step", "# 1 clashes", "# 1 refused"]
+    others = ["# 2 asks", "# 1 one-way", "# 1 reads-used", "# 1 out-of-step", "# 1 clashes", "# 1 refused"]
     done = Site(folder, files).run("--quiet")
-    same([line for line in done.stdout.decode().splitlines() if line.startswith("#")], lines, "the sums")
+    sums = [line for line in done.stdout.decode().splitlines() if line.startswith("#")]
+    same(sums, ["# 1 certified of 8", *others], "the sums")
 
 
 def test_remarks_come_once(folder):
@@ -609,19 +771,21 @@ def test_the_document_says_the_same(folder):
     files = {
         "/m/a/1": "setenv V x\nunsetenv W y\nappend-path -d , P /b\npushenv S z\nconflict q\n",
         "/m/a/.version": "nope\n",
-        "/m/b/1": "getenv HOME\n",
+        "/m/b/1": "getenv HOME\nmodule-info mode load\n",
         "/m/c/1": "unsetenv V\n",
         "/m/d/1": "setenv D 1\npushenv D 2\n",
         "/m/e/1": "setenv E 1\n",
         "/m/f/1": "pushenv E 1\nprereq y z\n",
         "/m/g/1": "nope\n",
+        "/m/h/1": "getenv HOME\ngetenv USER\ngetenv HOME\n",
+        "/m/i/1": "getenv HOME\ngetenv E\n",
     }
     found = Site(folder, files, V="1").document()
     there = os.fsdecode(folder.modules)
     wanted = {
         "modules": [
             {"name": "a/1", "standing": "certified"},
-            {"name": "b/1", "standing": "asks", "question": "getenv HOME"},
+            {"name": "b/1", "standing": "asks", "question": "module-info mode load"},
             {"name": "c/1", "standing": "one-way", "record": "unsetenv V"},
             {"name": "d/1", "standing": "out-of-step", "variable": "D", "uses": [{"use": "set"}, {"use": "stack"}]},
             {
@@ -634,9 +798,16 @@ def test_the_document_says_the_same(folder):
             },
             {"name": "f/1", "standing": "certified"},
             {"name": "g/1", "standing": "refused", "refusal": 'invalid command name "nope" (line 2)'},
+            {"name": "h/1", "standing": "certified", "reads": ["HOME", "USER"]},
+            {
+                "name": "i/1",
+                "standing": "reads-used",
+                "variable": "E",
+                "other": {"name": "e/1", "path": f"{there}/e/1"},
+            },
         ],
-        "certified": 2,
-        "count": 7,
+        "certified": 3,
+        "count": 9,
         "certificate": [
             {"variable": "V", "use": "set"},
             {"variable": "W", "use": "unset", "value": "y"},
@@ -757,7 +928,7 @@ def test_the_most_directories_of_a_site(folder):
 
 
 def test_a_standard_output_that_takes_nothing(folder):
-    site = Site(folder, {"/m/a/1": "", "/m/b/1": "getenv HOME\n"})
+    site = Site(folder, {"/m/a/1": "getenv HOME\n", "/m/b/1": "is-loaded\n"})
     with open("/dev/full", "wb", buffering=0) as full:
         for streams in ({"stdout": full}, {"close": (1,)}):
             for words in ((), ("--json",), ("--quiet",)):
@@ -768,7 +939,7 @@ def test_a_standard_output_that_takes_nothing(folder):
 
 
 def test_a_standard_output_that_fails_at_each_byte(folder):
-    site = Site(folder, {"/m/a/1": "", "/m/b/1": "getenv HOME\n"})
+    site = Site(folder, {"/m/a/1": "getenv HOME\n", "/m/b/1": "is-loaded\n"})
     path = os.path.join(folder.path, b"taken")
     text = site.run().stdout
     for most in range(0, len(text), 7):
@@ -792,6 +963,8 @@ def is_lost_by(said):
 
 def answers_or_loses(folder, shim, said):
     files = {"/m/a/1": "setenv V x\n", "/m/b/1": "setenv V y\nconflict q\n", "/m/b/.version": "nope\n", "/m/c/1": "pushenv S 1\n"}
+    readers = {"d": "getenv HOME\ngetenv USER\n", "e": "getenv HOME\ngetenv V\n", "f": "getenv HOME\nis-loaded\n"}
+    files.update({f"/m/{name}/1": text for name, text in readers.items()})
     site = Site(folder, files)
     for words in ((), ("--json",)):
         plain = site.run(*words)
@@ -912,7 +1085,7 @@ OF_SITES = {
     "python/3.11.6": "one-way",
     "solver/2024": "certified",
     "toolbox/5.0": "certified",
-    "workdir/1": "asks",
+    "workdir/1": "certified",
 }
 
 

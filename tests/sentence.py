@@ -100,25 +100,75 @@ def command(spelling, words):
 
 
 class Module:
-    """A modulefile: what it records, what it says, and its text. Each record comes with how it is spelled."""
+    """A modulefile: its lines, what they record where no variable is set, what it says, and its text. Each line comes
+    with how it is spelled."""
 
     def __init__(self, lines):
-        self.records = [record for record, _ in lines if record[0] not in OTHER_LINES]
-        self.said = "".join(f"{record[1]}\n" for record, _ in lines if record[0] == "says")
-        self.asks = any(record[0] == "asks" for record, _ in lines)
-        self.fault = "Stopped by the modulefile" if any(record[0] == "exits" for record, _ in lines) else None
-        self.text = "#%Module\n" + "".join(text_of(record, Spelling(number)) for record, number in lines)
+        self.lines = [line for line, _ in lines]
+        self.records = [record for line in self.lines if (record := record_of(line, {}))]
+        self.said = "".join(f"{line[1]}\n" for line in self.lines if line[0] == "says")
+        self.fault = "Stopped by the modulefile" if any(line[0] == "exits" for line in self.lines) else None
+        self.text = "#%Module\n" + "".join(text_of(line, Spelling(number)) for line, number in lines)
         self.text += "exit\n" if self.fault else ""
+
+    def evaluated(self, name, env):
+        """What a load in an environment records, and what it asks: each variable that it reads with its value, and none
+        for what isn't about a variable."""
+        env, records, asked = dict(env), [], []
+        for line in self.lines:
+            if line[0] == "asks":
+                asked.append(None)
+            if read_by(line):
+                asked.append((read_by(line), env.get(read_by(line))))
+            record = record_of(line, env)
+            if record:
+                model.load_record(env, name, record)
+                records.append(record)
+        return records, asked
 
 
 # Lines that record nothing, and how they are written. A modulefile exits at its end.
 OTHER_LINES = {"says": "puts stderr {{{}}}\n", "asks": "{}\n", "exits": "", "nothing": ""}
 
+# Lines that read a variable: `reads` has one record where the variable is so, and else another one; `takes` has one
+# with its value in it. The conditions are written over the name and a word.
+CONDITIONS = {
+    "is": ("[getenv {}] eq {{{}}}", lambda value, text: (value or "") == text),
+    "is there": ("[info exists env({})]", lambda value, _: value is not None),
+    "isn't there": ("[catch {{set found $env({})}}]", lambda value, _: value is None),
+    "is none": ("[getenv {} none] eq {{none}}", lambda value, _: value in (None, "none")),
+}
 
-def text_of(record, spelling):
-    if record[0] in OTHER_LINES:
-        return OTHER_LINES[record[0]].format(*record[1:])
-    return command(spelling, words_of(spelling, record))
+
+def read_by(line):
+    """The variable that a line reads, or none."""
+    return line[1] if line[0] in ("reads", "takes") else None
+
+
+def record_of(line, env):
+    """What a line records in an environment, or none."""
+    if line[0] == "reads":
+        _, name, how, text, one, other = line
+        return one if CONDITIONS[how][1](env.get(name), text) else other
+    if line[0] == "takes":
+        _, name, (kind, *rest) = line
+        value = env.get(name, "")
+        return (kind, *rest, f"{value}/bin".split(rest[0])) if kind.endswith("path") else (kind, *rest, value)
+    return None if line[0] in OTHER_LINES else line
+
+
+def text_of(line, spelling):
+    if line[0] == "reads":
+        _, name, how, text, *records = line
+        one, other = (text_of(record, spelling) for record in records)
+        return f"if {{{CONDITIONS[how][0].format(name, text)}}} {{\n{one}}} else {{\n{other}}}\n"
+    if line[0] == "takes":
+        _, name, (kind, *rest) = line
+        words = [kind, *(option(spelling, rest[0]) if kind.endswith("path") else []), rest[-1]]
+        return f"{' '.join(word(spelling, one) for one in words)} [getenv {name}]{'/bin' * kind.endswith('path')}\n"
+    if line[0] in OTHER_LINES:
+        return OTHER_LINES[line[0]].format(*line[1:])
+    return command(spelling, words_of(spelling, line))
 
 
 # Search.
@@ -270,8 +320,12 @@ class Step:
         return [entry[0] for entry in model.loaded_in(self.env)]
 
     def edited(self, kind, name, path):
-        module = self.tree.modules[path]
-        for record in module.records:
+        """Loads or unloads a module, and gives what it records."""
+        module, records = self.tree.modules[path], []
+        for record in (record_of(line, self.env) for line in module.lines):
+            if record is None:
+                continue
+            records.append(record)
             try:
                 (model.load_record if kind == "load" else model.unload_record)(self.env, name, record)
             except model.Refused as refused:
@@ -281,7 +335,7 @@ class Step:
         if module.fault:
             raise Refusal(module.fault)
         self.moves.append((kind, name, path))
-        return module
+        return records
 
     def load(self, name):
         needs_name(name)
@@ -294,9 +348,9 @@ class Step:
         name, path = found
         if name in loaded:
             return
-        module = self.edited("load", name, path)
+        records = self.edited("load", name, path)
         entries = model.loaded_in(self.env)
-        entry = model.entry_of((name, path, module.records))
+        entry = model.entry_of((name, path, records))
         for other in entries:
             if any(matches(one, name) for one in other[2]):
                 raise Refusal(f"Conflict with '{other[0]}'")

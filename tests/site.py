@@ -1,9 +1,11 @@
-"""A whole site, as sites write them (site.txt, whose head says how to read it): what `modaudit` says of each of its
-modulefiles, sessions of those that are certified, and what the others leave or how they are refused.
+"""Two whole sites, as sites write them (site.txt, whose head says how to read it, and sitefiles.txt): what `modaudit`
+says of each of their modulefiles, sessions of those that are certified, and what the others leave or how they are
+refused.
 
 The standings, the reasons and what is left are typed by hand from modaudit(1) and modulefile(5).
 """
 
+import functools
 import json
 import os
 import random
@@ -14,11 +16,7 @@ import pytest
 
 from tests.harness import ENV, HERE, SECONDS, SH, same, true
 
-# Where the site is in its own words, and the directories of its MODULEPATH.
-ROOT = "/sw/modulefiles"
-STARTS = ("core", "apps", "easybuild", "spack")
 START = {"PATH": "/usr/bin:/bin", "HOME": "/home/u", "USER": "u"}
-MODULEPATH = ":".join(f"{ROOT}/{name}" for name in STARTS)
 
 COOKIE = "#%Module"
 PLACE = re.compile(r"((?:compiler|mpi)/[^/]+|[^/]+)/(.+)")
@@ -26,6 +24,10 @@ COUNTS = re.compile(
     r"Of these (\d+) modulefiles the profile admits (\d+), "
     r".* and of these (\d+) are certified\. (\d+) of the others do no harm"
 )
+
+# What is said of a module, besides what comes of it, and that.
+TOLD = {"reads", "asks", "used", "why", "needs", "where", "beside", "does"}
+OUTCOMES = {"left", "at load", "at unload"}
 
 # What sh sets by itself.
 OWN = ("PWD", "OLDPWD", "_")
@@ -77,74 +79,95 @@ class File:
         return next(iter(self.each(word)), "")
 
 
-def read_site():
-    with open(os.path.join(HERE, "site.txt"), encoding="utf-8") as file:
-        head, *parts = re.split(r"^=== ", file.read(), flags=re.MULTILINE)
-    return head, [File(part) for part in parts]
+class Written:
+    """A site as it is written: where it is in its own words, the directories of its MODULEPATH, and its files."""
+
+    def __init__(self, name, root, starts):
+        self.name = name
+        self.root = root
+        self.modulepath = ":".join(f"{root}/{start}" for start in starts)
+        with open(os.path.join(HERE, name), encoding="utf-8") as file:
+            self.head, *parts = re.split(r"^=== ", file.read(), flags=re.MULTILINE)
+        self.files = [File(part) for part in parts]
+        self.defaults = [file for file in self.files if file.standing.startswith("default ")]
+        self.modules = [file for file in self.files if file not in self.defaults]
+        self.certified = [file for file in self.modules if file.standing == "certified"]
+        self.outside = [file for file in self.modules if file.standing == "outside"]
+        self.others = [file for file in self.modules if file not in self.certified + self.outside]
+        self.harmless = [file for file in self.others if file.only("why").startswith("harmless")]
+        self.named = {file.name: file for file in reversed(self.modules)}
+
+    def needed(self, file):
+        """The names of what is loaded before a module, each once and behind what it needs."""
+        names = file.only("needs").split()
+        return list(dict.fromkeys(one for name in names for one in (*self.needed(self.named[name]), name)))
 
 
-HEAD, FILES = read_site()
-DEFAULTS = [file for file in FILES if file.standing.startswith("default ")]
-MODULES = [file for file in FILES if file not in DEFAULTS]
-CERTIFIED = [file for file in MODULES if file.standing == "certified"]
-OUTSIDE = [file for file in MODULES if file.standing == "outside"]
-OTHERS = [file for file in MODULES if file not in CERTIFIED + OUTSIDE]
-HARMLESS = [file for file in OTHERS if file.only("why").startswith("harmless")]
-NAMED = {file.name: file for file in reversed(MODULES)}
+SITES = [
+    Written("site.txt", "/sw/modulefiles", ("core", "apps", "easybuild", "spack")),
+    Written("sitefiles.txt", "/apps/modules", ("base", "licensed", "eb", "stack")),
+]
+
+each_site = pytest.mark.parametrize("written", SITES, ids=lambda written: written.name)
 
 
-def needed(file):
-    """The names of what is loaded before a module, each once and behind what it needs."""
-    names = file.only("needs").split()
-    return list(dict.fromkeys(one for name in names for one in (*needed(NAMED[name]), name)))
+def each(kind):
+    """Each file of a kind, with its site."""
+    pairs = [(written, file) for written in SITES for file in getattr(written, kind)]
+    ids = [f"{written.name}: {file.path}" for written, file in pairs]
+    return pytest.mark.parametrize("written, file", pairs, ids=ids)
 
 
-# What site.txt says.
+# What the sites say of themselves.
 
 
-def test_the_counts():
+@each_site
+def test_the_counts(written):
     """Those of the head are those of the files."""
-    said = COUNTS.search(" ".join(HEAD.split()))
-    admitted = len(MODULES) - len(OUTSIDE)
-    found = (len(MODULES), admitted, len(CERTIFIED), len(HARMLESS))
+    said = COUNTS.search(" ".join(written.head.split()))
+    admitted = len(written.modules) - len(written.outside)
+    found = (len(written.modules), admitted, len(written.certified), len(written.harmless))
     same(tuple(map(int, said.groups())), found, "the counts of the head")
-    same(len({file.path for file in FILES}), len(FILES), "files of different paths")
+    same(len({file.path for file in written.files}), len(written.files), "files of different paths")
 
 
-@pytest.mark.parametrize("file", MODULES, ids=lambda file: file.path)
-def test_what_is_said_of_a_module(file):
+@each("modules")
+def test_what_is_said_of_a_module(written, file):
     """Each that isn't certified has a reason, and what comes of it; a certified one has neither."""
     words = {word for word, _ in file.told}
-    true(words <= {"why", "needs", "where", "beside", "does", "left", "at load", "at unload"}, f"{words} are known")
+    true(words <= TOLD | OUTCOMES, f"{words} are known")
     same(len(file.each("why")), int(file.standing != "certified"), "how many reasons there are")
-    outcomes = words & {"left", "at load", "at unload"}
+    outcomes = words & OUTCOMES
     same(len(outcomes), int(file.standing != "certified"), f"how many outcomes there are: {outcomes}")
     if file.standing in ("outside", "refused"):
         same(outcomes, {"at load"}, "the outcome of a refused evaluation")
+    for word, standing in (("asks", "asks"), ("used", "reads-used")):
+        same(len(file.each(word)), int(file.standing == standing), f"how often {word} stands there")
 
 
-# The site as it is laid out.
+# A site as it is laid out.
 
 
 class Site:
-    """The files of the site in a folder, and the programs."""
+    """The files of a site in a folder, and the programs."""
 
-    def __init__(self, place, built):
+    def __init__(self, written, place, built):
+        self.written = written
         self.place = str(place)
         self.program, self.auditor = built("modulecmd"), built("modaudit")
-        for file in FILES:
-            path = self.real(f"{ROOT}/{file.path}")
+        for file in written.files:
+            path = self.real(f"{written.root}/{file.path}")
             os.makedirs(os.path.dirname(path), exist_ok=True)
             with open(path, "w", encoding="utf-8") as written:
                 written.write(self.real(file.text))
 
     def real(self, text):
-        return text.replace(ROOT, self.place)
+        return text.replace(self.written.root, self.place)
 
     def start(self, *others):
         """The variables of the start, with others of the form NAME=VALUE."""
         given = dict(other.split("=", 1) for other in others)
-        return {"MODULEPATH": self.real(MODULEPATH), **START, **given}
+        return {"MODULEPATH": self.real(self.written.modulepath), **START, **given}
 
     def audit(self):
         command = [self.auditor, "--json"]
@@ -176,36 +199,53 @@ def pairs_of(text):
 
 @pytest.fixture(scope="module")
 def site(built, tmp_path_factory):
-    return Site(tmp_path_factory.mktemp("site"), built)
+    """Gives a site as it is laid out."""
+    return functools.cache(lambda written: Site(written, tmp_path_factory.mktemp("site"), built))
 
 
 # What modaudit says.
 
 
-def test_how_the_modules_stand(site, note):
-    found = site.audit()
-    stand = {module["path"]: module["standing"] for module in found["modules"]}
-    words = {"outside": "refused", "unseen": None}
-    wanted = {site.real(f"{ROOT}/{file.path}"): words.get(file.standing, file.standing) for file in MODULES}
+def said_of(module):
+    """The standing of a module in the document, and what it reads, asks, or reads of what another one uses."""
+    used = f"{module['variable']} in {module['other']['name']}" if module["standing"] == "reads-used" else ""
+    return module["standing"], ", ".join(module.get("reads", [])), module.get("question", ""), used
+
+
+def wanted_of(file):
+    """The same by what is written, or none of one that isn't seen."""
+    standing = {"outside": "refused", "unseen": None}.get(file.standing, file.standing)
+    return standing and (standing, *map(file.only, ("reads", "asks", "used")))
+
+
+@each_site
+def test_how_the_modules_stand(site, written, note):
+    laid = site(written)
+    found = laid.audit()
+    stand = {module["path"]: said_of(module) for module in found["modules"]}
+    wanted = {laid.real(f"{written.root}/{file.path}"): wanted_of(file) for file in written.modules}
     wrong = {path: (stand.get(path), word) for path, word in wanted.items() if stand.get(path) != word}
     same(wrong, {}, "modules that stand otherwise, as they are found and as they are wanted")
     seen = [path for path in wanted if wanted[path]]
     same(sorted(stand), sorted(seen), "the modules that are found")
-    same((found["certified"], found["count"]), (len(CERTIFIED), len(seen)), "how many are certified, and how many are there")
+    counts = (len(written.certified), len(seen))
+    same((found["certified"], found["count"]), counts, "how many are certified, and how many are there")
     same(found["disagreements"], [], "what the start has against the certificate")
-    note(f"{len(CERTIFIED)} certified of {len(MODULES) - len(OUTSIDE)} that the profile admits")
+    admitted = len(written.modules) - len(written.outside)
+    note(f"{written.name}: {len(written.certified)} certified of {admitted} that the profile admits")
 
 
 # Sessions of certified modules, and with others of which it is said that they do no harm.
 
 
-def drawn(files, rng):
+def drawn(written, files, rng):
     """Lines of a session: loads of modules with what they need, some unloads between, and an order in which what is loaded
     is unloaded at the end."""
     names, loads, seen = [file.name for file in files], [], []
     for file in rng.sample(files, len(files)):
-        seen += [*needed(file), file.name]
-        loads.append(" ".join(["load", *needed(file), file.name]))
+        named = [*written.needed(file), file.name]
+        seen += named
+        loads.append(" ".join(["load", *named]))
         if rng.random() < UNLOADS:
             loads.append(f"unload {rng.choice(seen)}")
     return loads, rng.sample(names, len(names))
@@ -213,7 +253,7 @@ def drawn(files, rng):
 
 def returns(site, files, number):
     """A session of some of these modules gives back its start."""
-    loads, order = drawn(files, random.Random(number))
+    loads, order = drawn(site.written, files, random.Random(number))
     words = [site.program, "\n".join(loads), " ".join(order), str(LOADED), str(ROUNDS)]
     command = [SH, "-c", SESSION, "sh", *words]
     done = subprocess.run(command, env=site.start(), capture_output=True, timeout=SECONDS, check=True)
@@ -223,14 +263,16 @@ def returns(site, files, number):
     same(after, before, f"the variables after {loaded}")
 
 
+@each_site
 @pytest.mark.parametrize("number", range(SESSIONS))
-def test_sessions_of_certified_modules(site, number):
-    returns(site, CERTIFIED, number)
+def test_sessions_of_certified_modules(site, written, number):
+    returns(site(written), written.certified, number)
 
 
+@each_site
 @pytest.mark.parametrize("number", range(SESSIONS))
-def test_sessions_with_those_that_do_no_harm(site, number):
-    returns(site, CERTIFIED + HARMLESS, number)
+def test_sessions_with_those_that_do_no_harm(site, written, number):
+    returns(site(written), written.certified + written.harmless, number)
 
 
 # The others.
@@ -242,34 +284,36 @@ def left(env, before):
     return sorted(changed + [f"{name} is unset" for name in before if name not in env]) or ["nothing"]
 
 
-@pytest.mark.parametrize("file", OTHERS, ids=lambda file: file.path)
-def test_what_others_leave(site, file):
-    env = site.start(*file.each("where"))
-    first = " ".join([*needed(file), *file.each("beside")])
-    before = env = site.accepts(f"load {first}", env) if first else env
+@each("others")
+def test_what_others_leave(site, written, file):
+    laid = site(written)
+    env = laid.start(*file.each("where"))
+    first = " ".join([*written.needed(file), *file.each("beside")])
+    before = env = laid.accepts(f"load {first}", env) if first else env
     commands = file.only("does").split(", ") if file.only("does") else [f"load {file.name}", f"unload {file.name}"]
     for words in commands:
-        env, refused = site.does(words, env)
+        env, refused = laid.does(words, env)
         if refused is not None:
             same(refused, f"ERROR: {file.only(f'at {words.split()[0]}')}", f"how {words!r} is refused")
             return
     same(left(env, before), sorted(file.each("left")), f"what is left after {commands}")
 
 
-@pytest.mark.parametrize("file", OUTSIDE, ids=lambda file: file.path)
-def test_how_those_outside_are_refused(site, file):
-    env = site.start()
-    first = " ".join(needed(file))
-    env = site.accepts(f"load {first}", env) if first else env
-    _, refused = site.does(f"load {file.name}", env)
+@each("outside")
+def test_how_those_outside_are_refused(site, written, file):
+    laid = site(written)
+    env = laid.start()
+    first = " ".join(written.needed(file))
+    env = laid.accepts(f"load {first}", env) if first else env
+    _, refused = laid.does(f"load {file.name}", env)
     same(refused, f"ERROR: {file.only('at load')}", "how its load is refused")
 
 
 # Default files.
 
 
-@pytest.mark.parametrize("file", DEFAULTS, ids=lambda file: file.path)
-def test_the_version_without_a_version(site, file):
-    folder = os.path.dirname(file.name)
-    env = site.accepts(f"load {folder}", site.start())
+@each("defaults")
+def test_the_version_without_a_version(site, written, file):
+    laid, folder = site(written), os.path.dirname(file.name)
+    env = laid.accepts(f"load {folder}", laid.start())
     same(env["LOADEDMODULES"], f"{folder}/{file.standing.removeprefix('default ')}", f"what `load {folder}` loads")

@@ -12,6 +12,12 @@ from tests import runs as model
 MODULEPATH = "MODULEPATH"
 COLONS = ("path", ":")
 
+# What shells change by themselves.
+OF_SHELLS = set(
+    """PWD OLDPWD SHLVL _ RANDOM SRANDOM SECONDS EPOCHSECONDS EPOCHREALTIME LINENO LINES COLUMNS PPID BASHPID PIPESTATUS
+    OPTIND OPTARG REPLY HISTCMD""".split()
+)
+
 # What is left out of the definition, in the runs that have to lose a law.
 WITHOUT = ""
 
@@ -21,8 +27,13 @@ CLAUSES = (
     "clashes",
     "that versions of one name may be loaded at once",
     "that names match by their parts",
-    "plainness",
+    "that modules are settled",
+    "that a reader's own records don't name it",
+    "that the tool's own variables aren't read",
+    "that nobody uses what is read",
     "that the start agrees with what is loaded",
+    "that the start has the value of the audit",
+    "that hands leave what is read",
 )
 
 # Of the choice among modules that clash, each with what it is for.
@@ -38,14 +49,20 @@ def is_without(clause):
 
 
 class SiteModule:
-    """A module of a site: its name, its file, what that leaves, whether it asks, and why it is refused, if it is."""
+    """A module of a site: its name, its file, what that leaves, what it asks (each variable that it reads with its
+    value, and none for anything else), and why it is refused, if it is."""
 
-    def __init__(self, name, path, records, asks=False, fault=None):
+    def __init__(self, name, path, records, asked=(), fault=None):
         self.name = name
         self.path = path
         self.records = records
-        self.asks = asks
+        self.asked = asked
         self.fault = fault
+
+    @property
+    def reads(self):
+        """The variables that it reads, each with its value."""
+        return dict(filter(None, self.asked))
 
 
 # One module.
@@ -74,10 +91,35 @@ def uses_of(module):
     return [use for use in map(use_of, filter(undone, module.records)) if use]
 
 
-def is_plain(module):
+def is_of_tool(name):
+    """The variable holds the tool's own state."""
+    if is_without("that the tool's own variables aren't read"):
+        return False
+    return name in (model.NAMES, model.FILES) or name.startswith("__MODULES_")
+
+
+def is_named(name, records):
+    """A record names the variable."""
+    return not is_without("that a reader's own records don't name it") and name in map(model.named, records)
+
+
+def keeps_answer(question, records):
+    """It reads a variable that is none of the tool's, none that shells change, and none that the records name."""
+    if question is None:
+        return False
+    name, _ = question
+    return not is_of_tool(name) and name not in OF_SHELLS and not is_named(name, records)
+
+
+def asks(module):
+    """A question of its file doesn't keep its answer."""
+    return not all(keeps_answer(question, module.records) for question in module.asked)
+
+
+def is_settled(module):
     if module.fault is not None:
         return False
-    return is_without("plainness") or (not module.asks and all(map(undone, module.records)))
+    return is_without("that modules are settled") or (not asks(module) and all(map(undone, module.records)))
 
 
 def steps_out(module):
@@ -124,11 +166,32 @@ def agree_at_start(one, other):
 
 def clashes_of(one, other):
     """Each variable that two modules clash in, with both uses."""
-    if is_without("clashes") or (one.name, one.path) == (other.name, other.path):
+    if is_without("clashes") or is_same(one, other):
         return []
     pairs = [(name, own, its) for name, own in uses_of(one) for theirs, its in uses_of(other) if name == theirs]
     is_fine = exclude(one, other)
     return [it for it in pairs if not (is_fine or go_together(*it[1:])) or not agree_at_start(*it[1:])]
+
+
+def is_same(one, other):
+    return (one.name, one.path) == (other.name, other.path)
+
+
+def uses(module, name):
+    return any(name == used for used, _ in uses_of(module))
+
+
+def used_read(module, modules):
+    """The first variable that a module reads and another settled one uses, and the first such one, or none."""
+    if is_without("that nobody uses what is read"):
+        return None
+    others = [other for other in modules if is_settled(other) and not is_same(module, other)]
+    return next(((name, other) for name in module.reads for other in others if uses(other, name)), None)
+
+
+def candidates(modules):
+    """The settled modules, of which no other uses what one reads."""
+    return [module for module in modules if is_settled(module) and not used_read(module, modules)]
 
 
 # Which of the modules in step are certified, where some clash.
@@ -165,7 +228,7 @@ def in_rank(modules):
 
 
 def in_step(modules):
-    return [module for module in modules if is_plain(module) and not steps_out(module)]
+    return [module for module in candidates(modules) if not steps_out(module)]
 
 
 def certified(modules):
@@ -193,7 +256,7 @@ def site_directories(modulepath, modules_in):
     """The directories of a site, in the order in which they are found. `modules_in` gives the modules of one."""
     found = list(dict.fromkeys(directories(modulepath)))
     for directory in found:
-        for module in filter(is_plain, modules_in(directory)):
+        for module in filter(is_settled, modules_in(directory)):
             found += [one for one in dict.fromkeys(added_directories(module)) if one not in found]
     return found
 
@@ -227,10 +290,12 @@ def standing_of(module, modules):
     """How a module of a site stands, in one word."""
     if module.fault is not None:
         return "refused"
-    if module.asks and not is_without("plainness"):
+    if asks(module):
         return "asks"
-    if not is_plain(module):
+    if not is_settled(module):
         return "one-way"
+    if used_read(module, modules):
+        return "reads-used"
     if steps_out(module):
         return "out-of-step"
     return "certified" if module in certified(modules) else "clashes"
@@ -255,9 +320,22 @@ def agrees(env, uses):
     return model.in_order({}, env) and all(agrees_with_use(env, name, use) for name, use in uses)
 
 
+def has_values(start, reads):
+    """The start has the values of what was read."""
+    if is_without("that the start has the value of the audit"):
+        return True
+    return all(start.get(name) == value for name, value in reads.items())
+
+
 def may_be_loaded(module, start):
-    """The start agrees with what a module uses."""
-    return is_without("that the start agrees with what is loaded") or agrees(start, uses_of(module))
+    """The start agrees with what a module uses, and has the values of what it reads."""
+    is_agreed = is_without("that the start agrees with what is loaded") or agrees(start, uses_of(module))
+    return is_agreed and has_values(start, module.reads)
+
+
+def may_be_changed(name, live):
+    """None of the modules that are live reads the variable."""
+    return is_without("that hands leave what is read") or not any(name in module.reads for module in live)
 
 
 def uses_by(live):
