@@ -75,6 +75,7 @@ OWN = (model.NAMES, model.FILES)
 # What HOME and OTHER are, and what conditions on a variable have.
 HOME = "/home/x y"
 TEXTS = (HOME, "v", "a b", "")
+CONDITIONS = st.sampled_from(list(sentence.CONDITIONS))
 OTHERS = ("m", "k", "z", "z/1", "n", "w", "w_1", "m/1", "c", "a")
 
 
@@ -93,12 +94,13 @@ def added_value(name, way):
 
 @st.composite
 def readers(draw, names, records, values):
-    """Lines that read one of these variables, with some of these records, or with its value in one of these kinds."""
+    """Lines that read one of these variables, with some of these records, or with its value in one of these kinds. Some
+    read what they change."""
     name = draw(names)
     if values and not draw(st.integers(0, 3)):
         return "takes", name, draw(st.sampled_from(values))
-    how, text = draw(st.sampled_from(list(sentence.CONDITIONS))), draw(st.sampled_from(TEXTS))
-    return "reads", name, how, text, draw(records), draw(records)
+    how, text, one, other = draw(CONDITIONS), draw(st.sampled_from(TEXTS)), draw(records), draw(records)
+    return "reads", name if draw(st.integers(0, 7)) else model.named(one) or name, how, text, one, other
 
 
 def added_directories(dirs):
@@ -141,7 +143,8 @@ def sites(draw, shell, dirs):
     shared += [*every, needs]
     kinds = {"": st.one_of(*shared)}
     for folder, way in exclusive.items():
-        kinds[folder] = st.one_of(*every, *[conflicts(folder)] * 4 * (way == "some")) if way else kinds[""]
+        own = [conflicts(folder) for _ in range(4)] if way == "some" else []
+        kinds[folder] = st.one_of(*every, *own) if way else kinds[""]
     oldest = {folder: [f"{folder}/{versions[0]}"] for folder, versions in sentence.FOLDERS.items()}
     in_all = {folder: {"all": [folder], "first": oldest[folder]}.get(way) for folder, way in exclusive.items()}
     tree = draw(sentence.trees(dirs, lines(dirs, kinds), in_all))
