@@ -395,7 +395,7 @@ ROWS = {
     ),
     "a directory that is added where a variable isn't set": (
         {
-            "/m/a/1": "if {[getenv V] eq {}} {append-path MODULEPATH /n} else {append-path MODULEPATH /o}\n",
+            "/m/a/1": "if {[getenv V] eq {}} {set at /n\n} else {set at /o\n}\nappend-path MODULEPATH $at\n",
             "/n/b/1": "",
             "/o/c/1": "",
         },

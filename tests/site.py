@@ -158,8 +158,8 @@ class Site:
         for file in written.files:
             path = self.real(f"{written.root}/{file.path}")
             os.makedirs(os.path.dirname(path), exist_ok=True)
-            with open(path, "w", encoding="utf-8") as written:
-                written.write(self.real(file.text))
+            with open(path, "w", encoding="utf-8") as opened:
+                opened.write(self.real(file.text))
 
     def real(self, text):
         return text.replace(self.written.root, self.place)
