@@ -20,7 +20,8 @@ use Rattle.modules.specs.declared.refusal.Refusal.{Refusal}
 use Rattle.modules.proofs.FailureLemmas.{unfailed}
 use Rattle.sitelaws.specs.Sites.{Site, AreNamesBelow, module_below}
 use Rattle.siteaudit.specs.WalkLooked.{DirectoryLooksAt}
-use Rattle.siteaudit.specs.WalkParts.{ComesTo, is_given_up}
+use Rattle.givenup.specs.Causes.{is_given_up}
+use Rattle.siteaudit.specs.WalkParts.{ComesTo}
 use Rattle.siteaudit.proofs.AmongSites.{among_at, in_map}
 
 -- ---- the file of a module

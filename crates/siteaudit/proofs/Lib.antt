@@ -3,6 +3,7 @@ mod DirectoryLemmas
 mod OutcomeLemmas
 mod ListingLemmas
 mod FailureLemmas
+mod SettledFiles
 mod WalkLemmas
 mod AmongLemmas
 mod FolderLemmas

@@ -20,6 +20,7 @@ use Rattle.sitecertificate.specs.UseViews.{use_view, used_view}
 use Rattle.sitecertificate.specs.Disagreements.{AreDisagreements}
 use Rattle.sitecertificate.specs.DisagreementViews.{disagreement_view}
 use Rattle.sitecertificate.specs.EachOnce.{each_once}
+use Rattle.settled.specs.Ways.{same_by}
 use Rattle.sitelaws.specs.Sites.{Site, SiteModule, Evaluated, file_of, HasSettledRecords, AreCandidates}
 use Rattle.sitelaws.specs.Sites.{candidates_among, reads_of}
 use Rattle.sitelaws.specs.Standings as standings
@@ -107,17 +108,10 @@ means_one outcomes name = list_any (λ outcome. means name outcome.0.name) outco
 abbrev pub unknown_conflicts : (Text → Bool) → List Record → List Text
 unknown_conflicts known rs = without_repeats (filter (λ name. not (known name)) (conflict_names rs))
 
--- they are the same names in the same order
-abbrev pub same_names : List Text → List Text → Bool
-same_names [] [] = true
-same_names [] (y ∷ ys) = false
-same_names (x ∷ xs) [] = false
-same_names (x ∷ xs) (y ∷ ys) = bytes_eq x y && same_names xs ys
-
 -- the prereqs of records of which no name is known, each once
 abbrev pub unknown_prereqs : (Text → Bool) → List Record → List (List Text)
 unknown_prereqs known rs =
-    insert_all same_names [] (filter (λ names. not (list_any known names)) (prereq_groups rs))
+    insert_all (same_by bytes_eq) [] (filter (λ names. not (list_any known names)) (prereq_groups rs))
 
 -- the module has the name in a conflict
 abbrev pub conflict_mention : SiteModule → Text → Mention
@@ -134,7 +128,7 @@ unknown_in known m rs =
 
 -- the same of an evaluated module
 abbrev pub unknown_of : (Text → Bool) → Evaluated → List Mention
-unknown_of known (m, Ok ran) = unknown_in known m ran.records
+unknown_of known (m, Ok runs) = unknown_in known m runs.first.records
 unknown_of known (m, Err reason) = []
 
 -- what these modules mention in turn that means none of them
@@ -144,7 +138,7 @@ unknown_names outcomes = flat_map (unknown_of (means_one outcomes)) outcomes
 -- ---- the whole
 
 -- What was found is an audit of the site: a walk over it has these directories and these outcomes. It has each module
--- of the walk, in its order, with the variables that its evaluation reads, each once, and how it stands; the certificate
+-- of the walk, in its order, with the variables that its evaluations read, each once, and how it stands; the certificate
 -- of its candidates, each use once; those of its directories that aren't there, in their order; the files in the places
 -- of modules that are no modulefiles; the bad default files of the modules in turn, each once; the names that mean no
 -- module; and the reasons for which the environment at hand doesn't agree with the certificate, use after use.

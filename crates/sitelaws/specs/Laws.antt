@@ -1,14 +1,17 @@
--- The laws of sites (own): loads are admitted, settled modules have one list of records, sessions of certified modules
+-- The laws of sites (own): loads are admitted, settled modules do alike wherever they are evaluated, sessions of certified modules
 -- return to their start, and changes by hand keep its agreement with what a module uses.
 use Rattle.std.specs.Prelude.{◌≡◌, ◌↔◌, ℕ, true, List, [], ◌∷◌, ◌++◌, Some, Ok}
+use Rattle.std.specs.List.{list_all}
 use Rattle.envvars.specs.Texts.{Text}
 use Rattle.envvars.specs.Environment.{Environment}
 use Rattle.envloaded.specs.Loaded.{AreLoadedInOrder}
 use Rattle.shelltext.specs.declared.shell.Shell.{Shell}
-use Rattle.modulefile.specs.Records.{Record}
+use Rattle.modulefile.specs.Records.{Record, conflict_names}
+use Rattle.modulefile.specs.Effects.{load}
 use Rattle.modulefile.specs.Moves.{Module, Move, Loads, Unloads}
 use Rattle.modulefile.specs.Files.{Ran}
-use Rattle.reversal.specs.VariableUses.{VariableUse, Pathed}
+use Rattle.reversal.specs.VariableUses.{VariableUse, Pathed, is_reversible}
+use Rattle.reversal.specs.Undone.{UndoAlike}
 use Rattle.reversal.specs.Runs.{live_after}
 use Rattle.reversal.specs.Laws.{Holds}
 use Rattle.lookup.specs.DefaultFileResults.{HasResult}
@@ -66,13 +69,20 @@ SettledModulesFound =
     (site : Site) (outcomes : List Evaluated) → AreEvaluated site outcomes
     → AreSettledModules site (settled_among outcomes) × AreCandidates site (candidates_among outcomes)
 
--- The records of a settled module are those that every accepted evaluation of its file for loading or unloading leaves,
--- in whatever shell and half of a switch, where the variables that it reads have the values of the environment at hand.
+-- What is loaded so: the records are of kinds that unloading undoes, and in conflict with the same names as these.
+pub record LoadAlike (rs loaded : List Record) : Type 0 where
+  pub reversible : list_all is_reversible loaded ≡ true
+  pub conflicts : conflict_names loaded ≡ conflict_names rs
+
+-- Every accepted evaluation of the file of a settled module, for loading or unloading, in whatever shell and half of a
+-- switch, where the variables that it reads have the values of the environment at hand, leaves records that undo what its
+-- own do, and load so.
 abbrev pub SettledRecordsAreAll : Type 0
 SettledRecordsAreAll =
     (site : Site) (m : SiteModule) (rs : List Record) (ran : Ran)
     (left : HasEvaluatedTo (over_site site) m.name m.path ran) → HasSettledRecords site m rs
-    → is_changing left.context.mode ≡ true → ReadsAlike site left.context.before m → ran.records ≡ rs
+    → is_changing left.context.mode ≡ true → ReadsAlike site left.context.before m
+    → UndoAlike ran.records rs × (left.context.mode ≡ load → LoadAlike rs ran.records)
 
 -- A module stands as certified where it is, with its records, one of the certified modules among the candidates of the
 -- site.

@@ -11,7 +11,7 @@ use Rattle.siteaudit.proofs.names.is_there.Goals as goal
 
 pub returns : goal.returns
 returns c =
-    let is = spec.same_names (map string_bytes c.args.names.now) in
+    let is = same_by bytes_eq (map string_bytes c.args.names.now) in
     any_from_yields_List (λ (x : Vec (String Global) Global). is (texts_in x)) _ _ c.any.result
     c.any.ensures.ran (YieldsList-from_slice c.args.all.now cc) (λ x b q k. search (rules, tests))
     ∙ any_seen is texts_in c.args.all.now

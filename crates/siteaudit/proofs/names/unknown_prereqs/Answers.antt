@@ -13,5 +13,5 @@ loop-recorded-preserved c =
     let known = known_in c.args.meaning.now.keys in
     let of : List code.Record → List (List Text) = λ xs. unknown_groups known (prereq_groups (map record_view xs)) in
     let x = c.recorded-item.result in
-    inserted_turn spec.same_names of (groups_parts record_view known) [] (map texts_in c.loop-recorded.unknown.items) (map texts_in c.add_prereq.new.unknown.items)
+    inserted_turn (same_by bytes_eq) of (groups_parts record_view known) [] (map texts_in c.loop-recorded.unknown.items) (map texts_in c.add_prereq.new.unknown.items)
     (of (x ∷ [])) c.args.records.now c.loop-recorded.recorded-index x c.loop-recorded-test.true c.recorded-item.is refl c.loop-recorded.invariant c.in_ok-add_prereq.ensures

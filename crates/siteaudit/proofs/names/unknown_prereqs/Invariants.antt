@@ -10,4 +10,4 @@ use Rattle.siteaudit.proofs.names.unknown_prereqs.Given as goal
 abbrev pub invariant-loop-recorded : goal.invariant-loop-recorded
 invariant-loop-recorded l =
     map texts_in l.unknown.items
-    ≡ insert_all spec.same_names [] (unknown_groups (known_in l.meaning.keys) (prereq_groups (map record_view (take l.recorded-index l.records))))
+    ≡ insert_all (same_by bytes_eq) [] (unknown_groups (known_in l.meaning.keys) (prereq_groups (map record_view (take l.recorded-index l.records))))
