@@ -117,6 +117,6 @@ parts_are_audits laws site walk found (outs, w, h) parts =
           (λ a. subst (IsAmong p) (sym right.uses) (in_once p (certificate ms) a)),
           (λ a. of_once p (certificate ms) (subst (IsAmong p) right.uses a)),
         );
-        holds = laws.audits site ms (certified ms) ((laws.settled site outs all).1) (λ m a. ones.is_certified ms m a);
+        holds = laws.audits site ms (certified ms) (λ m a. ((laws.settled site outs all).1 m).0 a) (λ m a. ones.is_certified ms m a);
       },
     )

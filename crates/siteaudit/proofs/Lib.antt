@@ -4,6 +4,7 @@ mod OutcomeLemmas
 mod ListingLemmas
 mod FailureLemmas
 mod SettledFiles
+mod ScriptLemmas
 mod WalkLemmas
 mod AmongLemmas
 mod FolderLemmas

@@ -32,7 +32,7 @@ use Rattle.sitecertificate.specs.Laws.{AreCertifiedTogether, CertifiedMovesPrese
 use Rattle.sitecertificate.proofs.UsedLemmas.{by_cases, first_or_none, user_of}
 use Rattle.sitecertificate.proofs.AsCertified.{certain_use, used_alike}
 use Rattle.sitelaws.specs.Sites.{Site, SiteModule, over_site, HasSettledRecords, Reads, ReadsAlike, file_of, HasFreeReads}
-use Rattle.sitelaws.specs.Sites.{IsCandidate, AreCandidates}
+use Rattle.sitelaws.specs.Sites.{IsCandidate, AreAmongCandidates}
 use Rattle.sitelaws.specs.Admitted.{IsAdmitted}
 use Rattle.sitelaws.specs.Laws.{LoadAlike, SettledRecordsAreAll, LoadsAreOf, SiteSessionsReturn, AuditsHold, AreReadAlike}
 use Rattle.sitelaws.specs.Laws.{SiteCommandsReturn}
@@ -65,8 +65,8 @@ live_certified ms [] l t a = absurd a
 live_certified ms (m ∷ live) l t (inl e) = subst (IsAsCertified ms) (sym e) t.0
 live_certified ms (m ∷ live) l t (inr a) = live_certified ms live l t.2 a
 
-certain_candidate : (site : Site) (ms : List Module) (l : Module) (c : IsAsCertified ms l) → AreCandidates site ms → IsCandidate site c.certain
-certain_candidate site ms l c all = (all c.certain).0 c.certified.listed
+certain_candidate : (site : Site) (ms : List Module) (l : Module) (c : IsAsCertified ms l) → AreAmongCandidates site ms → IsCandidate site c.certain
+certain_candidate site ms l c all = all c.certain c.certified.listed
 
 -- ---- what is read has the values of the environment at hand
 
@@ -91,7 +91,7 @@ alike_after site cs start live (Unloads m ∷ todo) loads alike =
     alike_after site cs start (without_live m.name live) todo loads (left_alike site start live m.name alike)
 
 -- no live module uses it
-not_used : (site : Site) (ms live : List Module) (m : SiteModule) (v : Text) → AreCandidates site ms → AreCertifiedTogether ms live → HasFreeReads site m
+not_used : (site : Site) (ms live : List Module) (m : SiteModule) (v : Text) → AreAmongCandidates site ms → AreCertifiedTogether ms live → HasFreeReads site m
     → Reads site m v → uses_by live v ≡ Untouched
 not_used site ms live m v all together free r = by_cases (first_or_none v (used_by_modules live))
     (λ i. let x = first_use v (used_by_modules live) in
@@ -104,7 +104,7 @@ value_untouched : (start e : Environment) (v : Text) (live : List Module) (u : V
 value_untouched start e v live u same h = (subst (λ (x : VariableUse). HasVariable x start v live e) same h).value
 
 -- so it has the value of the start while certified modules are live
-reads_as_start : files.OneOutcome → (site : Site) (ms live : List Module) (start old : Environment) (c : Module) → AreCandidates site ms → AreLayered ms start live old
+reads_as_start : files.OneOutcome → (site : Site) (ms live : List Module) (start old : Environment) (c : Module) → AreAmongCandidates site ms → AreLayered ms start live old
     → IsCandidate site c → ReadsAlike site start (file_of c) → ReadsAlike site old (file_of c)
 reads_as_start one site ms live start old c all layered k alike v r =
     by_cases (of_user one site (file_of c) c.records v k.settled.records r)
@@ -123,7 +123,7 @@ pub record IsMoveOf (c : Module) (m : Move) : Type 0 where
   pub undoes : UndoAlike (module_of_move m).records c.records
   pub loads : mode_of m ≡ load → LoadAlike c.records (module_of_move m).records
 
-move_records : files.OneOutcome → SettledRecordsAreAll → (site : Site) (ms live : List Module) (start old : Environment) (m : Move) (c : Module) → AreCandidates site ms
+move_records : files.OneOutcome → SettledRecordsAreAll → (site : Site) (ms live : List Module) (start old : Environment) (m : Move) (c : Module) → AreAmongCandidates site ms
     → AreLayered ms start live old → IsCandidate site c → ReadsAlike site start (file_of c) → c.name ≡ (module_of_move m).name → c.path ≡ (module_of_move m).path
     → IsFrom (over_site site) m old → IsMoveOf c m
 move_records one law site ms live start old m c all layered k alike name path (ran, left, is, before, mode) =
@@ -149,7 +149,7 @@ none_in_conflict conflicts start old live m first begin over (xs, read, none) =
 
 -- ---- moves
 
-undone : files.OneOutcome → SettledRecordsAreAll → (site : Site) (ms live : List Module) (start old : Environment) (m : Module) → AreCandidates site ms
+undone : files.OneOutcome → SettledRecordsAreAll → (site : Site) (ms live : List Module) (start old : Environment) (m : Module) → AreAmongCandidates site ms
     → AreLayered ms start live old → AreReadAlike site start live → IsFrom (over_site site) (Unloads m) old → IsNew start (Unloads m) → Fits (Unloads m) old → Undoes live m
 undone one law site ms live start old m all layered alike from new fits =
     let l = of_live (uses_by live) start old live m layered.begins.order.loaded layered.order layered.start_with_live new fits in
@@ -168,7 +168,7 @@ same_env : (m : Move) (old a b : Environment) → moved m old ≡ Ok a → moved
 same_env m old a b h k = let q : Ok b ≡ Ok a = sym k ∙ h in cc
 
 are_certified : files.OneOutcome → CertifiedAreExact → EntriesHaveConflicts → CertifiedMovesPreserve → SettledRecordsAreAll
-    → (site : Site) (ms live : List Module) (start old new : Environment) (todo : List Move) → AreCandidates site ms
+    → (site : Site) (ms live : List Module) (start old new : Environment) (todo : List Move) → AreAmongCandidates site ms
     → AreLayered ms start live old → AreReadAlike site start live → AreNew start todo
     → LoadsAreOf site (certified ms) start todo → TracedReach (over_site site) todo old new → MovesReach todo old new
     → AreCertified ms start live todo
@@ -177,7 +177,7 @@ are_certified one exact conflicts preserve law site ms live start old new (Loads
     news ((c, among, name, path, agrees, reads), loads) ((admitted, from), (other, made, traces)) (fits, (mid, move, reach)) =
     let first = list_in_order start layered.begins.order.loaded in
     let certain : IsCertified ms c = (exact ms c).0 among in
-    let now = move_records one law site ms live start old (Loads m) c all layered ((all c).0 certain.listed) reads name path from in
+    let now = move_records one law site ms live start old (Loads m) c all layered (all c certain.listed) reads name path from in
     let is_certain : IsAsCertified ms m = record {
       certain = c;
       certified = certain;

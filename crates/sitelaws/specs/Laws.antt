@@ -1,5 +1,5 @@
--- The laws of sites (own): loads are admitted, settled modules do alike wherever they are evaluated, sessions of certified modules
--- return to their start, and changes by hand keep its agreement with what a module uses.
+-- The laws of sites (own): loads are admitted, settled modules do alike wherever they are evaluated, sessions of
+-- certified modules return to their start, and changes by hand keep its agreement with what a module uses.
 use Rattle.std.specs.Prelude.{◌≡◌, ◌↔◌, ℕ, true, List, [], ◌∷◌, ◌++◌, Some, Ok}
 use Rattle.std.specs.List.{list_all}
 use Rattle.envvars.specs.Texts.{Text}
@@ -27,9 +27,9 @@ use Rattle.sitecertificate.specs.Certificates.{IsCertified, certified, AgreesWit
 use Rattle.sitecertificate.specs.Laws.{AreLayered}
 use Rattle.settled.specs.Resting.{is_changing}
 use Rattle.sitelaws.specs.Sites.{Site, SiteModule, over_site, HasSettledRecords, Reads, ReadsAlike, IsDirectory}
-use Rattle.sitelaws.specs.Sites.{IsOfSite, file_of, AreSettledModules, AreCandidates, IsClosed, AreDirectories}
-use Rattle.sitelaws.specs.Sites.{AreNamesBelow, AreModulesIn, Evaluated, settled_among, candidates_among, with_records}
-use Rattle.sitelaws.specs.Sites.{AreEvaluated}
+use Rattle.sitelaws.specs.Sites.{IsOfSite, file_of, AreSettledModules, AreCandidates, AreAmongCandidates, IsClosed}
+use Rattle.sitelaws.specs.Sites.{AreDirectories, AreNamesBelow, AreModulesIn, Evaluated, settled_among}
+use Rattle.sitelaws.specs.Sites.{candidates_among, with_records, AreEvaluated}
 use Rattle.sitelaws.specs.Standings.{Standing, Certified, standing_word, HasStanding}
 use Rattle.sitelaws.specs.Admitted.{AdmittedMovesReach}
 
@@ -133,16 +133,16 @@ CertificateHolds site certain =
     → Holds (uses_by (live_after [] (session_moves before))) start (live_after [] (session_moves before))
     (end_environment start before)
 
--- The theorem of sites: so it is for the certified modules among the candidates of a site. Nothing is asked of the
--- records of loads and unloads, of their kinds, or of how the modules go together, and nothing of what modules use that
--- the session doesn't load.
+-- The theorem of sites: so it is for the certified modules among candidates of a site, be it all of them or some.
+-- Nothing is asked of the records of loads and unloads, of their kinds, or of how the modules go together, and nothing of
+-- what modules use that the session doesn't load.
 abbrev pub SiteSessionsReturn : Type 0
-SiteSessionsReturn = (site : Site) (ms : List Module) → AreCandidates site ms → CertificateHolds site (certified ms)
+SiteSessionsReturn = (site : Site) (ms : List Module) → AreAmongCandidates site ms → CertificateHolds site (certified ms)
 
 -- The same for any modules that are certified: in whatever order an audit has them.
 abbrev pub AuditsHold : Type 0
 AuditsHold =
-    (site : Site) (ms certain : List Module) → AreCandidates site ms
+    (site : Site) (ms certain : List Module) → AreAmongCandidates site ms
     → ((m : Module) → IsAmong m certain → IsCertified ms m) → CertificateHolds site certain
 
 -- what each of the modules reads has in the start the values of the environment at hand
@@ -155,7 +155,7 @@ abbrev pub SiteCommandsReturn : Type 0
 SiteCommandsReturn =
     (site : Site) (ms : List Module) (shell : Shell) (start e : Environment) (live : List Module)
     (action : RequestedAction) (d : Done)
-    → AreCandidates site ms → AreLayered ms start live e → AreReadAlike site start live
+    → AreAmongCandidates site ms → AreLayered ms start live e → AreReadAlike site start live
     → RequestStep (in_shell (over_site site) shell) e action (Ok d) → AreNew start d.moves
     → LoadsAreOf site (certified ms) start d.moves
     → AreLayered ms start (live_after live d.moves) d.env × AreReadAlike site start (live_after live d.moves)

@@ -165,6 +165,10 @@ pub record IsCandidate (site : Site) (m : Module) : Type 0 where
 abbrev pub AreCandidates : Site → List Module → Type 0
 AreCandidates site ms = (m : Module) → IsAmong m ms ↔ IsCandidate site m
 
+-- each of the list is a candidate of the site, which may have others
+abbrev pub AreAmongCandidates : Site → List Module → Type 0
+AreAmongCandidates site ms = (m : Module) → IsAmong m ms → IsCandidate site m
+
 -- The list of directories is closed: it has those of MODULEPATH, and each that a settled module adds which is in one of
 -- the list.
 pub record IsClosed (site : Site) (dirs : List Text) : Type 0 where
