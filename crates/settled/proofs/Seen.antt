@@ -55,10 +55,10 @@ all_more q xs i x l e h k =
 -- ---- one list beside another
 
 pub unlike_lengths : {X : Type 0} (same : X → X → Bool) (xs ys : List X) → (length xs ≡ length ys → ⊥) → same_by same xs ys ≡ false
-unlike_lengths same [] [] no = absurd (no refl)
-unlike_lengths same [] (y ∷ ys) no = refl
-unlike_lengths same (x ∷ xs) [] no = refl
-unlike_lengths same (x ∷ xs) (y ∷ ys) no = second_false (same x y) (same_by same xs ys) (unlike_lengths same xs ys (λ e. no (ap suc e)))
+unlike_lengths same [] [] h = absurd (h refl)
+unlike_lengths same [] (y ∷ ys) h = refl
+unlike_lengths same (x ∷ xs) [] h = refl
+unlike_lengths same (x ∷ xs) (y ∷ ys) h = second_false (same x y) (same_by same xs ys) (unlike_lengths same xs ys (λ e. h (ap suc e)))
   where
     second_false : (a b : Bool) → b ≡ false → (a && b) ≡ false
     second_false true b h = h
@@ -71,9 +71,9 @@ all_seen p view [] = refl
 all_seen p view (x ∷ xs) = ap (λ (b : Bool). p (view x) && b) (all_seen p view xs)
 
 pub fails_here : {X : Type 0} (q : X → Bool) (xs : List X) (i : ℕ) (x : X) → i < length xs → x ≡ get_or xs i x → q x ≡ false → list_all q xs ≡ false
-fails_here q [] i x l e no = absurd (omega arith)
-fails_here q (y ∷ xs) zero x l e no = rw (ap q (sym e) ∙ no) refl
-fails_here q (y ∷ xs) (suc i) x l e no = either (q y) (list_all q xs) (fails_here q xs i x (omega arith) e no)
+fails_here q [] i x l e f = absurd (omega arith)
+fails_here q (y ∷ xs) zero x l e f = rw (ap q (sym e) ∙ f) refl
+fails_here q (y ∷ xs) (suc i) x l e f = either (q y) (list_all q xs) (fails_here q xs i x (omega arith) e f)
   where
     either : (a b : Bool) → b ≡ false → (a && b) ≡ false
     either true b h = h

@@ -1,43 +1,24 @@
 //! Whether what an evaluation in another way leaves is like what the first leaves.
-ghost use Rattle.std.specs.Prelude.{◌≡◌, ◌++◌, [], bytes_eq, map, IfOk, OnOk};
+ghost use Rattle.std.specs.Prelude.{◌≡◌, ◌&&◌, ◌++◌, bytes_eq, map, IfOk, OnOk};
 ghost use Rattle.envvars.specs.Environment.{Environment};
 ghost use Rattle.envvars.specs.Texts.{slice_texts};
-ghost use Rattle.modulefile.specs.Records as records;
+ghost use Rattle.modulefile.specs.Records as modulefiles;
 ghost use Rattle.modulefile.specs.Records.{conflicts_of};
 ghost use Rattle.modulefile.specs.RecordViews.{mode_view, record_view};
 ghost use Rattle.modulerun.specs.Questions.{questions_in};
 ghost use Rattle.modulerun.specs.Running.{ran_view};
 ghost use Rattle.std.specs.List.{list_all};
-ghost use Rattle.reversal.specs.VariableUses as uses;
+ghost use Rattle.reversal.specs.VariableUses.{is_reversible};
 ghost use Rattle.settled.specs.Ways as spec;
 ghost use Rattle.settled.specs.Ways.{same_by};
 
 use crate::asking::asked_of_way;
 use crate::resting::all_rest;
 use crate::undone::do_undo_alike;
-use modulefile::{Mode, PathEdit, Record};
+use modulefile::{Mode, Record};
 use modulerun::{FileRun, Question};
+use modules::are_reversible;
 use std::alloc::{AllocError, Global};
-
-// TEMPORARY
-fn is_reversible(recorded: &Record) -> bool
-    ensures { result ≡ uses.is_reversible (record_view recorded.now) }
-{
-    !matches!(
-        recorded,
-        Record::Unset { value: None, .. }
-            | Record::Path {
-                edit: PathEdit::Remove,
-                ..
-            }
-    )
-}
-fn are_reversible(records: &[Record]) -> bool
-    ensures { result ≡ list_all (λ r. uses.is_reversible (record_view r)) records.now }
-{
-    records.iter().all(|record| is_reversible(record))
-}
-// END
 
 /// Adds the names of a `conflict`.
 fn push_names<'r>(names: &mut Vec<&'r str>, recorded: &'r Record) -> Result<(), AllocError>
@@ -53,7 +34,7 @@ fn push_names<'r>(names: &mut Vec<&'r str>, recorded: &'r Record) -> Result<(), 
 /// The names that records are in conflict with, in the order of their mention.
 fn conflict_names(alloc: Global, records: &[Record]) -> Result<Vec<&str>, AllocError>
     ensures { IfOk result (λ names. slice_texts names.items
-        ≡ records.conflict_names (map record_view records.entry.now)) }
+        ≡ modulefiles.conflict_names (map record_view records.entry.now)) }
 {
     let mut names = Vec::new(alloc);
     for recorded in records {
@@ -77,8 +58,22 @@ fn same_names(one: &[&str], other: &[&str]) -> bool
     true
 }
 
-/// Whether the records of an evaluation for this mode are what is asked of loading, where it is that: of kinds that
-/// unloading undoes, and in conflict with the same names as those of the first.
+/// Whether records are of kinds that unloading undoes, and in conflict with the same names as those of the first
+/// evaluation.
+fn do_load_alike(alloc: Global, first: &[Record], records: &[Record]) -> Result<bool, AllocError>
+    ensures { IfOk result (λ alike. alike ≡ (list_all is_reversible (map record_view records.now) && same_by bytes_eq
+        (modulefiles.conflict_names (map record_view first.now))
+        (modulefiles.conflict_names (map record_view records.now)))) }
+{
+    if !are_reversible(records) {
+        return Ok(false);
+    }
+    let one = conflict_names(alloc, first)?;
+    let other = conflict_names(alloc, records)?;
+    Ok(same_names(one.as_slice(), other.as_slice()))
+}
+
+/// The same where the evaluation is for loading; nothing is asked of one for unloading.
 fn load_alike(
     alloc: Global,
     mode: Mode,
@@ -88,15 +83,10 @@ fn load_alike(
     ensures { IfOk result (λ alike. alike
         ≡ spec.loads_alike (mode_view mode) (map record_view first.now) (map record_view records.now)) }
 {
-    if mode != Mode::Load {
-        return Ok(true);
+    match mode {
+        Mode::Load => do_load_alike(alloc, first, records),
+        Mode::Unload | Mode::Display | Mode::Whatis => Ok(true),
     }
-    if !are_reversible(records) {
-        return Ok(false);
-    }
-    let one = conflict_names(alloc, first)?;
-    let other = conflict_names(alloc, records)?;
-    Ok(same_names(one.as_slice(), other.as_slice()))
 }
 
 /// Whether questions ask nothing of the way that the first ones don't ask.

@@ -70,8 +70,8 @@ pub(crate) fn asked_of_way(
     let mut shell = false;
     for question in questions {
         let field = field_of(alloc, question)?;
-        mode = mode || is_mode(field);
-        shell = shell || is_shell(field);
+        mode |= is_mode(field);
+        shell |= is_shell(field);
     }
     Ok(AskedOfWay { mode, shell })
 }

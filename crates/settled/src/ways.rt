@@ -45,7 +45,8 @@ fn push_way(
         mode,
         in_switch,
         shell,
-    })
+    })?;
+    Ok(())
 }
 
 /// Adds the ways of one shell beside its first, where the mode is asked for.

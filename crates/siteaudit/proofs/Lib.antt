@@ -14,6 +14,7 @@ mod StandingLemmas
 mod Evaluations
 mod UsedReads
 mod Judged
+mod FirstReads
 mod OnceEach
 mod Unknown
 mod BadFiles

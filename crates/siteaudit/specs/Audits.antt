@@ -22,7 +22,8 @@ use Rattle.sitecertificate.specs.DisagreementViews.{disagreement_view}
 use Rattle.sitecertificate.specs.EachOnce.{each_once}
 use Rattle.settled.specs.Ways.{same_by}
 use Rattle.sitelaws.specs.Sites.{Site, SiteModule, Evaluated, file_of, HasSettledRecords, AreCandidates}
-use Rattle.sitelaws.specs.Sites.{candidates_among, reads_of}
+use Rattle.sitereads.specs.Answers.{IsUsedRead}
+use Rattle.sitelaws.specs.Sites.{settled_among, candidates_among, reads_of}
 use Rattle.sitelaws.specs.Standings as standings
 use Rattle.sitelaws.specs.Standings.{HasStanding}
 use Rattle.sitelaws.specs.Laws.{CertificateHolds}
@@ -68,6 +69,22 @@ audited_file m = record { name = string_bytes m.name; path = string_bytes m.path
 abbrev pub AllStand : Site → List Module → List AuditedModule → Type 0
 AllStand site ms [] = Unit {0}
 AllStand site ms (m ∷ audited) = StandsAs site ms (audited_file m) m.standing × AllStand site ms audited
+
+-- A module of these reads that stands as one of whose reads a settled module uses one names the first such read, and the
+-- first of the settled modules that uses it.
+abbrev pub IsFirstRead : List Module → List Text → Standing → Type 0
+IsFirstRead settled reads (ReadsUsed used) = IsUsedRead settled reads used
+IsFirstRead settled reads Certified = Unit {0}
+IsFirstRead settled reads (Asks first) = Unit {0}
+IsFirstRead settled reads (OneWay first) = Unit {0}
+IsFirstRead settled reads (OutOfStep variable one other) = Unit {0}
+IsFirstRead settled reads (Clashes clash) = Unit {0}
+IsFirstRead settled reads (Refused refusal) = Unit {0}
+
+-- so does each of them
+abbrev pub AreFirstReads : List Module → List AuditedModule → Type 0
+AreFirstReads settled [] = Unit {0}
+AreFirstReads settled (m ∷ audited) = IsFirstRead settled (texts_in m.reads) m.standing × AreFirstReads settled audited
 
 -- it stands as certified
 abbrev pub is_certified : Standing → Bool
@@ -138,7 +155,7 @@ unknown_names outcomes = flat_map (unknown_of (means_one outcomes)) outcomes
 -- ---- the whole
 
 -- What was found is an audit of the site: a walk over it has these directories and these outcomes. It has each module
--- of the walk, in its order, with the variables that its evaluations read, each once, and how it stands; the certificate
+-- of the walk, in its order, with the variables that its evaluations read, each once, and how it stands, with the first of its reads that a settled module uses; the certificate
 -- of its candidates, each use once; those of its directories that aren't there, in their order; the files in the places
 -- of modules that are no modulefiles; the bad default files of the modules in turn, each once; the names that mean no
 -- module; and the reasons for which the environment at hand doesn't agree with the certificate, use after use.
@@ -150,6 +167,7 @@ pub record IsAudit (site : Site) (found : SiteAudit) : Type 0 where
   pub modules : map audited_file found.modules.items ≡ map (λ outcome. outcome.0) outcomes
   pub reads : map (λ m. texts_in m.reads) found.modules.items ≡ map (λ o. without_repeats (reads_of o)) outcomes
   pub standing : AllStand site (candidates_among outcomes) found.modules.items
+  pub used : AreFirstReads (settled_among outcomes) found.modules.items
   pub certificate : map used_view found.certificate.items ≡ each_once (certificate (candidates_among outcomes))
   pub missing_directories : texts_in found.missing_directories ≡ missing_among site.listings dirs
   pub no_modulefiles : AreNoModulefiles site.files site.listings dirs (texts_in found.no_modulefiles)

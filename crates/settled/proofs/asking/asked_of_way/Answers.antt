@@ -6,7 +6,12 @@ use Rattle.settled.proofs.Seen.{any_more}
 use Rattle.settled.proofs.asking.asked_of_way.Goals as goal
 
 pub loop-question-preserved : goal.loop-question-preserved
-loop-question-preserved c = (?1, ?2)
+loop-question-preserved c = (
+  any_more (λ q. is_mode (field_of q)) question_view c.args.questions.now c.loop-question.question-index c.question-item.result c.loop-question.mode _
+      c.loop-question-test.true c.question-item.is c.loop-question.invariant.0 (ap (λ (b : Bool). c.loop-question.mode || b) (c.is_mode-mode.ensures ∙ ap is_mode c.in_ok-field.ensures)),
+  any_more (λ q. is_shell (field_of q)) question_view c.args.questions.now c.loop-question.question-index c.question-item.result c.loop-question.shell _
+      c.loop-question-test.true c.question-item.is c.loop-question.invariant.1 (ap (λ (b : Bool). c.loop-question.shell || b) (c.is_shell-shell.ensures ∙ ap is_shell c.in_ok-field.ensures)),
+)
 
 pub returns-clause-mode : goal.returns-clause-mode
 returns-clause-mode c =
