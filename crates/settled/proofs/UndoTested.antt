@@ -1,6 +1,6 @@
 -- The test whether records undo alike says so exactly where they do.
-use Rattle.std.proofs.Common.{◌≡◌, Bool, true, false, ◌&&◌, ◌==◌, ℕ, List, [], ◌∷◌, Option, Some, None, refl, ap, sym, subst, ◌∙◌}
-use Rattle.std.specs.Prelude.{bytes_eq, filter_map}
+use Rattle.std.proofs.Common.{◌≡◌, Bool, true, ◌&&◌, ◌==◌, ℕ, List, [], ◌∷◌, Option, Some, None, refl, ap, subst}
+use Rattle.std.specs.Prelude.{bytes_eq}
 use Rattle.std.specs.List.{list_all, cons_option}
 use Rattle.std.specs.Option.{option_eq}
 use Rattle.std.proofs.lemmas.Bool.{false≢true, and_parts, and_from, eqb-true, eq-eqb}
@@ -9,8 +9,8 @@ use Rattle.envvars.proofs.TextLemmas.{same_text, bytes_eq-same}
 use Rattle.modulefile.specs.Records.{Record, Set, Unset, Push, Path, Conflict, Prereq, Whatis}
 use Rattle.modulefile.specs.declared.records.PathEdit.{PathEdit}
 use Rattle.modulefile.specs.declared.records.PathEdit.TheVariants.{Front, Back, Remove}
-use Rattle.reversal.specs.Undone.{undone_as, undo_of, UndoAlike}
-use Rattle.settled.specs.Ways.{same_by, same_edit, same_record, do_undo_alike}
+use Rattle.reversal.specs.Undone.{undone_as, undo_of}
+use Rattle.settled.specs.Ways.{same_by, same_edit, same_record}
 use Rattle.settled.specs.Laws.{UndoIsTested}
 
 -- ---- lists

@@ -139,5 +139,10 @@ pub fn is_ran_alike(
     if !ask_no_more(alloc, first.asked.as_slice(), ran.asked.as_slice())? {
         return Ok(false);
     }
-    records_alike(alloc, mode, first.records.as_slice(), ran.records.as_slice())
+    records_alike(
+        alloc,
+        mode,
+        first.records.as_slice(),
+        ran.records.as_slice(),
+    )
 }

@@ -59,10 +59,7 @@ fn is_shell(field: Option<InfoField>) -> bool
 }
 
 /// What questions ask of the way.
-pub(crate) fn asked_of_way(
-    alloc: Global,
-    questions: &[Question],
-) -> Result<AskedOfWay, AllocError>
+pub(crate) fn asked_of_way(alloc: Global, questions: &[Question]) -> Result<AskedOfWay, AllocError>
     ensures mode { IfOk result (λ asked. asked.mode ≡ resting.asks_mode (questions_in questions.now)) }
     ensures shell { IfOk result (λ asked. asked.shell ≡ resting.asks_shell (questions_in questions.now)) }
 {

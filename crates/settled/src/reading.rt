@@ -18,11 +18,7 @@ use std::alloc::{AllocError, Global};
 /// ways that it asks for are alike or not; `None` where each keeps it.
 ///
 /// The only error is want of memory.
-pub fn first_unkept(
-    alloc: Global,
-    alike: bool,
-    ran: &FileRun,
-) -> Result<Option<usize>, AllocError>
+pub fn first_unkept(alloc: Global, alike: bool, ran: &FileRun) -> Result<Option<usize>, AllocError>
     ensures { IfOk result (λ place. place ≡ position (λ q. not (keeps_answer alike
         (map record_view ran.now.records.items) (question_view q))) ran.now.asked.items) }
 {

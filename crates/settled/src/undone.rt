@@ -68,10 +68,7 @@ fn undone_as(recorded: &Record) -> Option<Undone<'_>>
 }
 
 /// Adds the record as its unload sees it, where the unload does something.
-fn push_undone<'r>(
-    undone: &mut Vec<Undone<'r>>,
-    recorded: &'r Record,
-) -> Result<(), AllocError>
+fn push_undone<'r>(undone: &mut Vec<Undone<'r>>, recorded: &'r Record) -> Result<(), AllocError>
     ensures { OnOk result (map undone_view undone.new.items ≡ map undone_view undone.old.items
         ++ cons_option (reversal.undone_as (record_view recorded.entry.now)) []) }
 {

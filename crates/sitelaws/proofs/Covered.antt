@@ -78,38 +78,50 @@ pub record Matches (a b : Bool) (m : Mode) (s : Bool) (h : Shell) (way : Way) : 
   pub loads : m ≡ load → way.mode ≡ load
 
 pub matched : (a b : Bool) (m : Mode) (s : Bool) (h : Shell) → is_changing m ≡ true → (way : Way) × Matches a b m s h way
-matched false false m s h c = (first_way, record {
-  asked = inl refl;
-  changing = refl;
-  mode = λ t. absurd (false≢true t);
-  in_switch = λ t. absurd (false≢true t);
-  shell = λ t. absurd (false≢true t);
-  loads = λ e. refl;
-})
-matched true false m s h c = (way_of m s Sh, record {
-  asked = in_sh true false (way_of m s Sh) (each_in m s Sh c);
-  changing = c;
-  mode = λ t. refl;
-  in_switch = λ t. refl;
-  shell = λ t. absurd (false≢true t);
-  loads = λ e. e;
-})
-matched false true m s h c = (loading_in h, record {
-  asked = elsewhere false h (loading_in h) (each_shell h) (inl refl);
-  changing = refl;
-  mode = λ t. absurd (false≢true t);
-  in_switch = λ t. absurd (false≢true t);
-  shell = λ t. refl;
-  loads = λ e. refl;
-})
-matched true true m s h c = (way_of m s h, record {
-  asked = elsewhere true h (way_of m s h) (each_shell h) (each_in m s h c);
-  changing = c;
-  mode = λ t. refl;
-  in_switch = λ t. refl;
-  shell = λ t. refl;
-  loads = λ e. e;
-})
+matched false false m s h c = (
+  first_way,
+  record {
+    asked = inl refl;
+    changing = refl;
+    mode = λ t. absurd (false≢true t);
+    in_switch = λ t. absurd (false≢true t);
+    shell = λ t. absurd (false≢true t);
+    loads = λ e. refl;
+  },
+)
+matched true false m s h c = (
+  way_of m s Sh,
+  record {
+    asked = in_sh true false (way_of m s Sh) (each_in m s Sh c);
+    changing = c;
+    mode = λ t. refl;
+    in_switch = λ t. refl;
+    shell = λ t. absurd (false≢true t);
+    loads = λ e. e;
+  },
+)
+matched false true m s h c = (
+  loading_in h,
+  record {
+    asked = elsewhere false h (loading_in h) (each_shell h) (inl refl);
+    changing = refl;
+    mode = λ t. absurd (false≢true t);
+    in_switch = λ t. absurd (false≢true t);
+    shell = λ t. refl;
+    loads = λ e. refl;
+  },
+)
+matched true true m s h c = (
+  way_of m s h,
+  record {
+    asked = elsewhere true h (way_of m s h) (each_shell h) (each_in m s h c);
+    changing = c;
+    mode = λ t. refl;
+    in_switch = λ t. refl;
+    shell = λ t. refl;
+    loads = λ e. e;
+  },
+)
 
 -- ---- settled evaluations
 

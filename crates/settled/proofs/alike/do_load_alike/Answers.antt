@@ -1,7 +1,6 @@
-use Rattle.std.proofs.Common.{◌≡◌, true, false, ◌&&◌, Bool, map, ap, sym, ◌∙◌, List}
+use Rattle.std.proofs.Common.{◌&&◌, Bool, map, ap, sym, ◌∙◌}
 use Rattle.std.specs.Prelude.{bytes_eq}
-use Rattle.std.specs.List.{list_all}
-use Rattle.envvars.specs.Texts.{Text, slice_texts}
+use Rattle.envvars.specs.Texts.{slice_texts}
 use Rattle.modulefile.specs.Records.{conflict_names}
 use Rattle.modulefile.specs.RecordViews.{record_view}
 use Rattle.reversal.specs.VariableUses.{is_reversible}

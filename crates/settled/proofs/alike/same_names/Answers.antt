@@ -1,4 +1,4 @@
-use Rattle.std.proofs.Common.{◌≡◌, length, map, sym, ◌∙◌, arith, Bor}
+use Rattle.std.proofs.Common.{◌≡◌, length, sym, ◌∙◌, arith, Bor}
 use Rattle.std.specs.Prelude.{bytes_eq}
 use Rattle.std.proofs.lemmas.List.{length-map}
 use Rattle.envvars.specs.Texts.{Text, slice_texts}

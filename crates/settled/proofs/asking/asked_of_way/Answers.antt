@@ -1,4 +1,4 @@
-use Rattle.std.proofs.Common.{map, ap, sym, ◌∙◌, take_all, List, ◌||◌, Bool}
+use Rattle.std.proofs.Common.{map, ap, ◌∙◌, take_all, List, ◌||◌, Bool}
 use Rattle.modulerun.specs.Questions.{question_view}
 use Rattle.modulerun.specs.declared.question.Question.{Question}
 use Rattle.settled.specs.Resting.{field_of, is_mode, is_shell, asks_mode, asks_shell}
