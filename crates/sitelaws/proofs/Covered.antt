@@ -1,16 +1,15 @@
 -- The ways that a file asks for are all ways, as far as it asks; and what evaluations that are alike leave in them.
-use Rattle.std.proofs.Common.{◌≡◌, ◌⊎◌, inl, inr, Bool, true, false, ◌&&◌, ◌||◌, not, List, [], ◌∷◌, ◌++◌, Result, Ok, Err, refl, ap, sym}
+use Rattle.std.proofs.Common.{◌≡◌, ◌⊎◌, inl, inr, Bool, true, false, ◌&&◌, ◌||◌, not, List, [], ◌∷◌, ◌++◌, Result, Ok, Err, refl, sym}
 use Rattle.std.proofs.Common.{◌∙◌, subst, Option, Some, None}
 use Rattle.std.specs.Prelude.{flat_map, is_none, bytes_eq}
-use Rattle.std.specs.List.{list_all, list_any}
+use Rattle.std.specs.List.{list_all}
 use Rattle.std.proofs.lemmas.Bool.{false≢true, and_parts, or_from}
 use Rattle.std.proofs.lemmas.List.Folds.{list_any-append}
 use Rattle.envvars.specs.Texts.{Text, has}
-use Rattle.envvars.proofs.TextLemmas.{same_text}
 use Rattle.shelltext.specs.declared.shell.Shell.{Shell}
 use Rattle.shelltext.specs.declared.shell.Shell.TheVariants.{Sh, Bash, Ksh, Zsh, Csh, Tcsh, Fish}
 use Rattle.tclrules.specs.Oracle.{Question}
-use Rattle.modulefile.specs.Calls.{InfoField, mode, shell, shell_type}
+use Rattle.modulefile.specs.Calls.{InfoField}
 use Rattle.modulefile.specs.Effects.{Mode, load, unload, display, whatis}
 use Rattle.modulefile.specs.Files.{Ran}
 use Rattle.modulefile.specs.Records.{Record, conflict_names}
@@ -24,7 +23,7 @@ use Rattle.settled.specs.Ways.{are_runs_alike, keeps_answer, keep_answers, is_se
 use Rattle.settled.specs.Laws.{UndoIsTested}
 use Rattle.settled.proofs.UndoTested.{texts_sound}
 use Rattle.sitecertificate.specs.RecordUses.{IsAmong}
-use Rattle.sitecertificate.proofs.UsedLemmas.{by_test, by_cases, among_left, among_right, among_either}
+use Rattle.sitecertificate.proofs.UsedLemmas.{by_test, by_cases, among_left, among_right}
 use Rattle.sitelaws.specs.Sites.{Site, SiteModule, EvaluatesBy, EvaluateBy, EvaluatesTo}
 use Rattle.sitelaws.specs.Laws.{LoadAlike}
 

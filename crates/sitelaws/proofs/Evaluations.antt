@@ -1,8 +1,6 @@
 -- The evaluations of a module's file have one outcome: so its records are one list, and what it reads is one set.
-use Rattle.std.proofs.Common.{◌≡◌, Bool, true, false, List, [], ◌∷◌, Result, Ok, Err, refl, ap, sym, ◌∙◌, subst}
+use Rattle.std.proofs.Common.{◌≡◌, true, List, [], ◌∷◌, Result, Ok, Err, refl, ap, sym, ◌∙◌, subst}
 use Rattle.envvars.specs.Texts.{Text, has}
-use Rattle.shelltext.specs.declared.shell.Shell.{Shell}
-use Rattle.tclrules.specs.Oracle.{Question}
 use Rattle.filetree.specs.Modulefiles.{script, modulefile}
 use Rattle.filetree.specs.Relations.{Is, Then, IsOne, ◌>>◌}
 use Rattle.filetree.proofs.OneOutcome.{one_is, one_then}

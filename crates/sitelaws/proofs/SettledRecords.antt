@@ -1,21 +1,19 @@
 -- A settled module leaves records that undo alike wherever the variables that it reads have the values of the environment
 -- at hand. What it reads is a variable of the user's.
-use Rattle.std.proofs.Common.{◌≡◌, inl, inr, true, List, Ok, Err, refl, ap, sym, ◌∙◌, subst}
+use Rattle.std.proofs.Common.{◌≡◌, inl, inr, List, Ok, Err, ap, sym, ◌∙◌, subst}
 use Rattle.envvars.specs.Texts.{Text}
 use Rattle.envvars.specs.Environment.{Environment}
 use Rattle.filetree.specs.Modulefiles.{script, modulefile}
-use Rattle.modulefile.specs.Effects.{load}
 use Rattle.modulefile.specs.Records.{Record}
 use Rattle.modulefile.specs.Files.{Ran, refused_by, RunsFile, IsSameOrRefused}
 use Rattle.modulefile.specs.Laws as files
 use Rattle.reversal.specs.Undone.{UndoAlike}
 use Rattle.requests.specs.Steps.{RequestContext}
-use Rattle.requests.specs.PlainRuns.{HasEvaluatedTo}
-use Rattle.settled.specs.Resting.{is_changing, asks_mode, asks_shell, variables_read, IsSameWay, AreAlike}
+use Rattle.settled.specs.Resting.{asks_mode, asks_shell, variables_read, IsSameWay, AreAlike}
 use Rattle.settled.specs.Laws.{SettledFilesAgree, UndoIsTested}
 use Rattle.settled.proofs.Rests.{IsOfUser, resting_parts}
 use Rattle.settled.proofs.ReadVariables.{read_rests}
-use Rattle.sitelaws.specs.Sites.{Site, SiteModule, over_site, HasSettledRecords, Reads, ReadsAlike}
+use Rattle.sitelaws.specs.Sites.{Site, SiteModule, over_site, HasSettledRecords, Reads}
 use Rattle.sitelaws.specs.Laws.{LoadAlike, SettledRecordsAreAll}
 use Rattle.sitelaws.proofs.Covered.{matched, in_way, read_at_rest}
 use Rattle.sitelaws.proofs.Evaluations.{evaluated, read_by_runs}
@@ -33,30 +31,24 @@ agreed ran other (inl (again, same, records)) = let q : other ≡ again = (let r
 agreed ran other (inr (n, refusal, same)) = absurd (let r : Ok other ≡ Err (refused_by n refusal) = same in cc)
 
 pub settled_records : SettledFilesAgree → UndoIsTested → SettledRecordsAreAll
-settled_records law tested site m rs ran left p changing alike = (
-  subst (λ (xs : List Record). UndoAlike xs rs) (sym records) (subst (λ (xs : List Record). UndoAlike there.ran.records xs) (sym p.records) there.undoes),
-  (λ l. subst (λ (xs : List Record). LoadAlike rs xs) (sym records)
-      (subst (λ (xs : List Record). LoadAlike xs there.ran.records) (sym p.records) (there.loads (way.loads l)))),
-)
-  where
-    found = matched (asks_mode p.runs.first.asked) (asks_shell p.runs.first.asked) left.context.mode left.context.in_switch left.context.shell changing
-    way = found.1
-    there = in_way tested site m p.runs found.0 p.evaluated p.settled way.asked
-    a = evaluated site found.0 m there.ran there.evaluated
-
-    same_way : IsSameWay there.ran.asked a.context left.context
-    same_way = record {
+settled_records law tested site m rs ran left p changing alike =
+    let found = matched (asks_mode p.runs.first.asked) (asks_shell p.runs.first.asked) left.context.mode left.context.in_switch left.context.shell changing in
+    let way = found.1 in
+    let there = in_way tested site m p.runs found.0 p.evaluated p.settled way.asked in
+    let a = evaluated site found.0 m there.ran there.evaluated in
+    let same_way : IsSameWay there.ran.asked a.context left.context = record {
       mode = λ t. sym (a.mode ∙ way.mode (there.of_mode t));
       in_switch = λ t. sym (a.in_switch ∙ way.in_switch (there.of_mode t));
       shell = λ t. sym (a.shell ∙ way.shell (there.of_shell t));
-    }
-
-    values : AreAlike (variables_read there.ran.asked) a.context.before left.context.before
-    values = subst (λ (e : Environment). AreAlike (variables_read there.ran.asked) e left.context.before) (sym a.before)
-        (λ v h. alike v (record { runs = p.runs; evaluated = p.evaluated; read = there.reads v h }))
-
-    records : ran.records ≡ there.ran.records
-    records = agreed there.ran ran
-        (law site.limits a.context left.context a.text there.ran (Ok ran) a.runs there.rested (rw a.mode way.changing) changing same_way values
-        (left.named ∙ sym a.named) (left.at_path ∙ sym a.at_path)
-        (subst (λ (t : Text). RunsFile site.limits left.context t (Ok ran)) (one_text (over_site site) m.path left.text a.text left.file a.file) left.runs))
+    } in
+    let values : AreAlike (variables_read there.ran.asked) a.context.before left.context.before =
+    subst (λ (e : Environment). AreAlike (variables_read there.ran.asked) e left.context.before) (sym a.before)
+    (λ v h. alike v (record { runs = p.runs; evaluated = p.evaluated; read = there.reads v h })) in
+    let records : ran.records ≡ there.ran.records = agreed there.ran ran
+    (law site.limits a.context left.context a.text there.ran (Ok ran) a.runs there.rested (rw a.mode way.changing) changing same_way values
+    (left.named ∙ sym a.named) (left.at_path ∙ sym a.at_path)
+    (subst (λ (t : Text). RunsFile site.limits left.context t (Ok ran)) (one_text (over_site site) m.path left.text a.text left.file a.file) left.runs)) in (
+      subst (λ (xs : List Record). UndoAlike xs rs) (sym records) (subst (λ (xs : List Record). UndoAlike there.ran.records xs) (sym p.records) there.undoes),
+      (λ l. subst (λ (xs : List Record). LoadAlike rs xs) (sym records)
+          (subst (λ (xs : List Record). LoadAlike xs there.ran.records) (sym p.records) (there.loads (way.loads l)))),
+    )

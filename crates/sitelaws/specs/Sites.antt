@@ -1,5 +1,5 @@
 -- A whole site (own): its directories, its modules, and the records of those that are settled.
-use Rattle.std.specs.Prelude.{◌≡◌, ◌↔◌, Bool, true, false, not, List, [], ◌∷◌, ◌++◌, map, filter, filter_map, flat_map}
+use Rattle.std.specs.Prelude.{◌≡◌, ◌↔◌, Bool, true, not, List, [], ◌∷◌, ◌++◌, map, filter, filter_map, flat_map}
 use Rattle.std.specs.Prelude.{bytes_eq, if◌then◌else◌, Option, Some, None, Result, Ok, Err}
 use Rattle.std.specs.List.{list_any}
 use Rattle.std.specs.List.Sorted.{IsStrictlySortedBy}
