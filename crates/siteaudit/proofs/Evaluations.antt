@@ -1,5 +1,5 @@
 -- The evaluations of the code and the outcomes that they stand for: the same modules, in the same order.
-use Rattle.std.proofs.Common.{◌≡◌, inl, inr, false, List, [], ◌∷◌, map, Result, refl, ap, sym, ◌∙◌, subst}
+use Rattle.std.proofs.Common.{◌≡◌, inl, inr, List, [], ◌∷◌, map, refl, ap, sym, ◌∙◌, subst}
 use Rattle.sitecertificate.specs.RecordUses.{IsAmong}
 use Rattle.sitelaws.specs.Sites.{Site, SiteModule, IsOfSite, Evaluated, AreEvaluated}
 use Rattle.siteaudit.specs.declared.walk.Evaluation.{Evaluation}

@@ -10,14 +10,13 @@ use Rattle.modulerun.specs.declared.question.Question.{Question}
 use Rattle.modules.specs.declared.refusal.Refusal.{Refusal}
 use Rattle.requests.specs.Reasons.{RequestReason}
 use Rattle.settled.specs.Ways.{FileRuns, is_settled}
-use Rattle.sitereads.specs.Reads.{uses_variable, first_user, first_used}
+use Rattle.sitereads.specs.Reads.{uses_variable}
 use Rattle.sitereads.specs.Answers.{IsUsedRead}
 use Rattle.sitereads.specs.declared.readers.UsedRead.{UsedRead}
 use Rattle.sitelaws.specs.Sites.{SiteModule, Evaluated, with_records, settled_of, settled_among}
 use Rattle.sitecertificate.specs.declared.answers.Clash.{Clash}
 use Rattle.siteaudit.specs.declared.walk.EvaluatedFile.{EvaluatedFile}
 use Rattle.siteaudit.specs.declared.walk.Evaluation.{Evaluation}
-use Rattle.siteaudit.specs.declared.standing.Standing.{Standing}
 use Rattle.siteaudit.specs.declared.standing.Standing.TheVariants.{Certified, Asks, OneWay, ReadsUsed, OutOfStep}
 use Rattle.siteaudit.specs.declared.standing.Standing.TheVariants.{Clashes, Refused}
 use Rattle.siteaudit.specs.declared.standing.ModuleFinding.{ModuleFinding}

@@ -4,13 +4,13 @@ mod OutcomeLemmas
 mod ListingLemmas
 mod FailureLemmas
 mod SettledFiles
-mod ScriptLemmas
 mod WalkLemmas
 mod AmongLemmas
 mod FolderLemmas
 mod NameLemmas
 mod JudgedLemmas
 mod StandingLemmas
+mod ScriptLemmas
 mod Evaluations
 mod UsedReads
 mod Judged

@@ -1,6 +1,6 @@
 -- What is put together, each once, a piece at a time; and names that are compared one by one.
 use Rattle.std.proofs.Common.{◌≡◌, ℕ, ◌+◌, ◌<◌, Bool, true, false, cond, not, ◌&&◌, List, [], ◌∷◌, ◌++◌, length, get_or}
-use Rattle.std.proofs.Common.{take, map, filter, flat_map, filter_map, option_to_list, refl, sym, ap, ◌∙◌, subst, arith, suc}
+use Rattle.std.proofs.Common.{take, map, filter, refl, sym, ap, ◌∙◌, subst}
 use Rattle.std.proofs.Common.{string_bytes, String, Global, Option, Some, None}
 use Rattle.std.specs.Prelude.{bytes_eq}
 use Rattle.std.specs.List.{list_any, cons_option}
@@ -82,4 +82,3 @@ group_added known old new g false true e f h =
     subst (λ (t : Bool). new ≡ insert_all (same_by bytes_eq) old (cond (not t) (g ∷ []) [])) e (subst (λ (t : Bool). new ≡ cond t old (old ++ g ∷ [])) f h)
 group_added known old new g false false e f h =
     subst (λ (t : Bool). new ≡ insert_all (same_by bytes_eq) old (cond (not t) (g ∷ []) [])) e (subst (λ (t : Bool). new ≡ cond t old (old ++ g ∷ [])) f h)
-

@@ -1,7 +1,11 @@
 -- What the evaluations of a script show, way after way.
-use Rattle.std.proofs.Common.{◌≡◌, ℕ, ◌+◌, ◌<◌, take, length, get_or, Bool, true, false, ◌&&◌, List, [], ◌∷◌, ◌++◌, map, append-nil, refl, ap, sym}
-use Rattle.std.proofs.Common.{◌∙◌, subst, Option, Some, None, Result, Ok, Err, String, Global}
-use Rattle.std.specs.Prelude.{flat_map, find, not, string_bytes}
+use Rattle.std.proofs.Common.{◌≡◌, ℕ, ◌+◌, ◌<◌, take, length, get_or, Bool, true, false, ◌&&◌, List, [], ◌∷◌, ◌++◌, map, append-nil, refl, ap, sym, arith, zero, suc}
+use Rattle.std.proofs.Common.{◌∙◌, subst, Some, None, Result, Ok, Err, Global}
+use Rattle.std.specs.Prelude.{flat_map, find, not, position}
+use Rattle.std.specs.List.{list_all}
+use Rattle.std.proofs.lemmas.Bool.{and_parts}
+use Rattle.requests.proofs.ListLemmas.{all_seen}
+use Rattle.siteaudit.proofs.StandingLemmas.{none_fails, first_found, found_seen}
 use Rattle.std.specs.Option.{option_map}
 use Rattle.std.specs.declared.vec.Vec.{Vec}
 use Rattle.std.proofs.lemmas.List.{append_assoc, map-append, take_more}
@@ -19,13 +23,14 @@ use Rattle.modulerun.specs.declared.run.FileRun.{FileRun}
 use Rattle.modules.specs.declared.refusal.Refusal.{Refusal}
 use Rattle.requests.specs.Reasons.{RequestReason}
 use Rattle.settled.specs.Resting.{variables_read}
-use Rattle.settled.specs.Ways.{Way, first_way, other_ways, FileRuns, is_alike, are_alike, keeps_answer, read_in, reads_in}
+use Rattle.settled.specs.Ways.{Way, first_way, other_ways, is_ran_alike, is_alike, are_alike, keeps_answer, read_in}
 use Rattle.settled.specs.WayViews.{way_view}
 use Rattle.settled.specs.declared.ways.Way as code
-use Rattle.siteaudit.specs.Walks.{IsOfRuns}
-use Rattle.siteaudit.specs.WalkParts.{ScriptRuns, ScriptRunsIn, ShowsOne, ShowsAll, ShowsScript}
+use Rattle.filetree.specs.Causes.{Cause, Applies, memory, device, because}
+use Rattle.modules.specs.Answers.{cause_of}
+use Rattle.givenup.specs.Causes.{is_given_up}
+use Rattle.siteaudit.specs.WalkParts.{ComesTo, ScriptRuns, ScriptRunsIn, ShowsOne, ShowsAll, ShowsScript}
 use Rattle.siteaudit.specs.declared.scripts.FileEvaluation.{FileEvaluation}
-use Rattle.siteaudit.specs.declared.walk.EvaluatedFile.{EvaluatedFile}
 
 abbrev Outcome : Type 0
 Outcome = Result files.Ran RequestReason
@@ -70,7 +75,7 @@ shows_one_more limits context text first ways way before mid after a b all one =
       ∙ sym (flat_map-append read_in all.outcomes (one.outcome ∷ [])))));
 }
 
-pub shows_more : (limits : Limits) (context : Way → FileContext) (text : Text) (first : FileRun) (ways : List code.Way) (i : ℕ) (way : code.Way) (before mid after : List Text) (a b c : Bool)
+shows_more : (limits : Limits) (context : Way → FileContext) (text : Text) (first : FileRun) (ways : List code.Way) (i : ℕ) (way : code.Way) (before mid after : List Text) (a b c : Bool)
     → i < length ways → way ≡ get_or ways i way → ShowsAll limits context text first (map way_view (take i ways)) before mid a → ShowsOne limits context text first (way_view way) mid after b
     → c ≡ (a && b) → ShowsAll limits context text first (map way_view (take (i + 1) ways)) before after c
 shows_more limits context text first ways i way before mid after a b c l e all one same =
@@ -80,8 +85,41 @@ shows_more limits context text first ways i way before mid after a b c l e all o
     (subst (ShowsAll limits context text first (map way_view (take i ways) ++ way_view way ∷ []) before after) (sym same)
     (shows_one_more limits context text first (map way_view (take i ways)) (way_view way) before mid after a b all one))
 
+get_any : {X : Type 0} (xs : List X) (i : ℕ) (d : X) → i < length xs → get_or xs i d ≡ get_or xs i (get_or xs i d)
+get_any [] i d l = absurd (omega arith)
+get_any (x ∷ xs) zero d l = refl
+get_any (x ∷ xs) (suc i) d l = get_any xs i d (omega arith)
+
+-- the same of an element that is there, whatever stands for one that is not
+pub shows_next : (limits : Limits) (context : Way → FileContext) (text : Text) (first : FileRun) (ways : List code.Way) (i : ℕ) (d : code.Way) (before mid after : List Text) (a b c : Bool)
+    → i < length ways → ShowsAll limits context text first (map way_view (take i ways)) before mid a → ShowsOne limits context text first (way_view (get_or ways i d)) mid after b
+    → c ≡ (a && b) → ShowsAll limits context text first (map way_view (take (i + 1) ways)) before after c
+shows_next limits context text first ways i d before mid after a b c l all one same =
+    shows_more limits context text first ways i (get_or ways i d) before mid after a b c l (get_any ways i d l) all one same
+
 pub shows_none : (limits : Limits) (context : Way → FileContext) (text : Text) (first : FileRun) (before : List Text) → ShowsAll limits context text first [] before before true
 shows_none limits context text first before = record { outcomes = []; runs = tt; alike = λ e. refl; reads = sym (append-nil before) }
+
+-- one way
+
+pub shows_ok : (limits : Limits) (context : Way → FileContext) (text : Text) (first : FileRun) (way : Way) (before after : List Text) (alike : Bool) (o : Result FileRun Refusal) (ran : FileRun)
+    → ComesTo o (ScriptRuns limits (context way) text) → o ≡ Ok ran → after ≡ before ++ variables_read (questions_in ran.asked.items)
+    → ((e f : Environment) → alike ≡ is_ran_alike (ran_view first e) way.mode (ran_view ran f)) → ShowsOne limits context text first way before after alike
+shows_ok limits context text first way before after alike o ran comes is reads like =
+    let c = subst (λ (x : Result FileRun Refusal). ComesTo x (ScriptRuns limits (context way) text)) is comes in
+    record { outcome = Ok (ran_view ran c.0); runs = c.1; alike = λ e. like e c.0; reads = reads }
+
+with_reason : (c : Cause RequestReason) (P : RequestReason → Type 0) → is_given_up c ≡ false → Applies c ⊥ P → (reason : RequestReason) × P reason
+with_reason memory P k h = absurd (cc)
+with_reason device P k h = absurd h
+with_reason (because reason) P k h = (reason, h)
+
+pub shows_err : (limits : Limits) (context : Way → FileContext) (text : Text) (first : FileRun) (way : Way) (before : List Text) (o : Result FileRun Refusal) (refusal : Refusal)
+    → ComesTo o (ScriptRuns limits (context way) text) → o ≡ Err refusal → is_given_up (cause_of refusal) ≡ false → ShowsOne limits context text first way before before false
+shows_err limits context text first way before o refusal comes is kept =
+    let c = subst (λ (x : Result FileRun Refusal). ComesTo x (ScriptRuns limits (context way) text)) is comes in
+    let r = with_reason (cause_of refusal) (λ reason. ScriptRuns limits (context way) text (Err reason)) kept c in
+    record { outcome = Err r.0; runs = r.1; alike = λ e. refl; reads = sym (append-nil before) }
 
 -- the whole script
 
@@ -102,3 +140,16 @@ shows_script limits context text first e ways all alike shown ran same shows rec
   ran,
   subst (λ (ws : List Way). ScriptRunsIn limits context text ws shows.outcomes) same shows.runs,
 )
+
+-- ---- the first question that doesn't keep its answer
+
+pub first_kept : {X Y : Type 0} (q : Y → Bool) (view : X → Y) (xs : List X) (j : ℕ) (x : X) → position (λ y. not (q (view y))) xs ≡ Some j → x ≡ get_or xs j x
+    → Some (view x) ≡ find (λ y. not (q y)) (map view xs)
+first_kept q view xs j x at is = sym (found_seen q view xs x (first_found (λ y. q (view y)) xs j x at is))
+
+nothing_found : {X : Type 0} (q : X → Bool) (xs : List X) → list_all q xs ≡ true → find (λ x. not (q x)) xs ≡ None
+nothing_found q [] h = refl
+nothing_found q (x ∷ xs) h = let p = and_parts (q x) (list_all q xs) h in rw p.0 (nothing_found q xs p.1)
+
+pub none_unkept : {X Y : Type 0} (q : Y → Bool) (view : X → Y) (xs : List X) → position (λ y. not (q (view y))) xs ≡ None → None ≡ find (λ y. not (q y)) (map view xs)
+none_unkept q view xs at = sym (nothing_found q (map view xs) (sym (all_seen q view xs) ∙ none_fails (λ y. q (view y)) xs at))

@@ -1,5 +1,5 @@
 -- What the code has of evaluated files is settled where their evaluations are, and reads the same.
-use Rattle.std.proofs.Common.{◌≡◌, Bool, true, false, cond, not, ◌&&◌, ◌||◌, List, [], ◌∷◌, map, find, Option, Some, None, Ok, refl, ap, sym}
+use Rattle.std.proofs.Common.{◌≡◌, Bool, false, cond, not, ◌&&◌, ◌||◌, List, [], ◌∷◌, find, Option, Some, None, Ok, refl, ap, sym}
 use Rattle.std.proofs.Common.{◌∙◌}
 use Rattle.std.specs.Prelude.{bytes_eq, is_none}
 use Rattle.std.specs.List.{list_all}
@@ -7,8 +7,6 @@ use Rattle.std.specs.Option.{option_map}
 use Rattle.envvars.specs.Texts.{Text, has}
 use Rattle.envvars.specs.Fields.{without, without_repeats}
 use Rattle.envvars.proofs.TextLemmas.{same_text}
-use Rattle.modulefile.specs.Records.{Record}
-use Rattle.modulefile.specs.RecordViews.{record_view}
 use Rattle.modulerun.specs.Questions.{question_view}
 use Rattle.reversal.specs.VariableUses.{is_reversible}
 use Rattle.requests.specs.Reasons.{RequestReason}

@@ -1,7 +1,7 @@
 -- What of the reads of evaluated modules settled ones use, by the answers for them.
-use Rattle.std.proofs.Common.{◌≡◌, inl, inr, ℕ, ◌+◌, ◌<◌, take, length, get_or, Bool, true, false, cond, not, ◌||◌, List, [], ◌∷◌, ◌++◌, map, find, Option, Some}
+use Rattle.std.proofs.Common.{◌≡◌, inl, inr, ℕ, ◌+◌, ◌<◌, take, length, get_or, Bool, true, false, cond, List, [], ◌∷◌, ◌++◌, map, find, Option, Some}
 use Rattle.std.proofs.Common.{None, Result, Ok, Err, refl, ap, sym, ◌∙◌, subst}
-use Rattle.std.specs.Prelude.{bytes_eq, flat_map}
+use Rattle.std.specs.Prelude.{bytes_eq}
 use Rattle.std.specs.List.{list_any, cons_option, AllByRecursion}
 use Rattle.std.proofs.lemmas.Bool.{false≢true}
 use Rattle.std.proofs.lemmas.List.{map-append, take_more}
@@ -13,9 +13,9 @@ use Rattle.modules.specs.declared.refusal.Refusal.{Refusal}
 use Rattle.requests.specs.Reasons.{RequestReason}
 use Rattle.reversal.specs.VariableUses.{VariableUse, UsedVariable}
 use Rattle.sitecertificate.specs.RecordUses.{used_by, used_by_modules, IsAmong, Uses}
-use Rattle.sitecertificate.proofs.UsedLemmas.{by_test, by_cases, used_among, user_of}
+use Rattle.sitecertificate.proofs.UsedLemmas.{by_test, used_among, user_of}
 use Rattle.sitecertificate.proofs.Exact.{any_some, some_any}
-use Rattle.sitereads.specs.Reads.{uses_variable, first_user, first_used}
+use Rattle.sitereads.specs.Reads.{uses_variable, first_used}
 use Rattle.sitereads.specs.Answers as answers
 use Rattle.sitereads.specs.Answers.{IsAnswer}
 use Rattle.sitereads.specs.declared.readers.Reader.{Reader}
@@ -24,12 +24,11 @@ use Rattle.sitelaws.specs.Sites.{SiteModule, Evaluated, with_records, settled_of
 use Rattle.siteaudit.specs.declared.walk.EvaluatedFile.{EvaluatedFile}
 use Rattle.siteaudit.specs.declared.walk.Evaluation.{Evaluation}
 use Rattle.siteaudit.proofs.SettledFiles.{records_same}
-use Rattle.siteaudit.specs.declared.standing.ModuleFinding.{ModuleFinding}
 use Rattle.siteaudit.specs.Walks.{IsOutcome, AreEvaluations}
 use Rattle.settled.specs.Ways.{FileRuns, is_settled}
-use Rattle.siteaudit.specs.SettledRuns.{settled_records, settled_reads, settled_module, evaluated_file}
+use Rattle.siteaudit.specs.SettledRuns.{settled_records, settled_reads, settled_module}
 use Rattle.siteaudit.specs.SettledRuns.{AreUsedReads}
-use Rattle.siteaudit.specs.Findings.{Shown, first_read, reads_along}
+use Rattle.siteaudit.specs.Findings.{Shown, reads_along}
 use Rattle.siteaudit.proofs.AmongLemmas.{among_map, of_map}
 use Rattle.siteaudit.proofs.Evaluations.{same_file}
 

@@ -6,28 +6,18 @@ use Rattle.std.proofs.lemmas.List.{map-append, take_more}
 use Rattle.envvars.specs.Texts.{Text}
 use Rattle.envvars.specs.Fields.{without_repeats, are_distinct}
 use Rattle.envloaded.proofs.LoadedReadable.{distinct_firsts}
-use Rattle.filetree.specs.Modulefiles.{modulefile, path_of}
-use Rattle.filetree.specs.Relations.{IsOne}
-use Rattle.filetree.proofs.OneOutcome.{one_is, one_then}
-use Rattle.modulefile.specs.Files as files
-use Rattle.modulefile.specs.Files.{RunsFile}
+use Rattle.filetree.specs.Modulefiles.{path_of}
 use Rattle.modulefile.specs.Laws as laws
-use Rattle.modulefile.specs.RecordViews.{record_view}
-use Rattle.modulerun.specs.declared.run.FileRun.{FileRun}
-use Rattle.modulerun.specs.Running.{ran_view}
 use Rattle.search.specs.ListingEntries.{name_of}
 use Rattle.search.specs.declared.listing_entries.ListingEntry.{ListingEntry}
-use Rattle.modulefile.specs.Effects as modes
 use Rattle.modulefile.specs.Records.{Record}
-use Rattle.requests.specs.Reasons.{RequestReason, file_refused}
-use Rattle.requests.specs.Refusals.{refused_as, RefusedAs}
-use Rattle.requests.specs.Steps.{entries_of, script_at, context_of}
+use Rattle.requests.specs.Reasons.{RequestReason}
 use Rattle.settled.specs.Ways.{FileRuns, is_settled}
 use Rattle.modules.specs.declared.refusal.Refusal.{Refusal}
 use Rattle.sitecertificate.specs.RecordUses.{IsAmong}
 use Rattle.sitelaws.specs.Sites.{Site, SiteModule, Evaluated, EvaluatesTo, HasSettledRecords, IsIn, IsDirectory, first}
 use Rattle.sitelaws.specs.Sites.{added, IsClosed, AreNamesBelow, AreModulesIn, module_below, first_directories}
-use Rattle.sitelaws.specs.Sites.{added_directories, over_site, with_records}
+use Rattle.sitelaws.specs.Sites.{added_directories, with_records}
 use Rattle.sitelaws.specs.Laws.{DirectoriesFound}
 use Rattle.sitelaws.specs.DirectorySets.{with_directories}
 use Rattle.siteaudit.specs.declared.walk.Evaluation.{Evaluation}

@@ -1,5 +1,5 @@
 -- The parts of a walk over a site, for the contracts of this crate's private functions (own).
-use Rattle.std.specs.Prelude.{◌≡◌, Bool, List, [], ◌∷◌, ◌++◌, map, flat_map, Some, Result, Ok, Err, string_bytes}
+use Rattle.std.specs.Prelude.{◌≡◌, Bool, List, [], ◌∷◌, ◌++◌, map, flat_map, Some, None, Result, Ok, Err, string_bytes}
 use Rattle.std.specs.Option.{option_map}
 use Rattle.envvars.specs.Texts.{Text, texts_in}
 use Rattle.envvars.specs.Fields.{without_repeats}
@@ -69,18 +69,18 @@ ScriptRunsIn limits context text (way ∷ ways) (outcome ∷ outcomes) =
 
 -- what the evaluation of a script in one way more shows: whether it is like the first, and what it reads
 pub record ShowsOne (limits : Limits) (context : Way → FileContext) (text : Text) (first : FileRun) (way : Way)
-    (before after : List Text) (alike : Bool) : Type 0 where
+    (before after : List Text) (answer : Bool) : Type 0 where
   pub outcome : Result files.Ran RequestReason
   pub runs : ScriptRuns limits (context way) text outcome
-  pub alike : (e : Environment) → alike ≡ is_alike (ran_view first e) way outcome
+  pub alike : (e : Environment) → answer ≡ is_alike (ran_view first e) way outcome
   pub reads : after ≡ before ++ read_in outcome
 
 -- the same in each of these ways
 pub record ShowsAll (limits : Limits) (context : Way → FileContext) (text : Text) (first : FileRun) (ways : List Way)
-    (before after : List Text) (alike : Bool) : Type 0 where
+    (before after : List Text) (answer : Bool) : Type 0 where
   pub outcomes : List (Result files.Ran RequestReason)
   pub runs : ScriptRunsIn limits context text ways outcomes
-  pub alike : (e : Environment) → alike ≡ are_alike (ran_view first e) ways outcomes
+  pub alike : (e : Environment) → answer ≡ are_alike (ran_view first e) ways outcomes
   pub reads : after ≡ before ++ flat_map read_in outcomes
 
 -- What the evaluations of a script show: the first, and those in the other ways that it asks for. Or that one is refused,

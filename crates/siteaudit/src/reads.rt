@@ -14,13 +14,7 @@ fn settled_file(evaluation: &Evaluation) -> Option<&EvaluatedFile>
     ensures { is_settled_outcome evaluation.entry.now.outcome result }
 {
     match &evaluation.outcome {
-        Ok(file) => {
-            if is_settled(file) {
-                Some(file)
-            } else {
-                None
-            }
-        }
+        Ok(file) => { if is_settled(file) { Some(file) } else { None } }
         Err(_) => None,
     }
 }

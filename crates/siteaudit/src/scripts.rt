@@ -48,11 +48,7 @@ pub(crate) struct FileEvaluation {
 }
 
 /// What the evaluation of a script leaves in a way, over the environment at hand, which doesn't change.
-fn run_script(
-    settings: SiteSettings<'_>,
-    way: Way,
-    script: Script<'_>,
-) -> Result<FileRun, Refusal>
+fn run_script(settings: SiteSettings<'_>, way: Way, script: Script<'_>) -> Result<FileRun, Refusal>
     ensures { ComesTo result (ScriptRuns settings.entry.limits
         (site_context (way_view way) script.entry.name.now script.entry.path.now (map string_bytes settings.entry.loaded.now)
         settings.entry.env.now) script.entry.text.now) }
@@ -96,16 +92,16 @@ fn run_other(
     settings: SiteSettings<'_>,
     script: Script<'_>,
     first: &FileRun,
-    way: Way,
+    way: &Way,
     reads: &mut Vec<String>,
 ) -> Result<bool, Refusal>
     ensures shows { IfOk result (ShowsOne settings.entry.limits (λ w. site_context w script.entry.name.now
         script.entry.path.now (map string_bytes settings.entry.loaded.now) settings.entry.env.now) script.entry.text.now
-        first.now (way_view way) (texts_in reads.old) (texts_in reads.new)) }
+        first.now (way_view way.now) (texts_in reads.old) (texts_in reads.new)) }
     ensures cause { IfErr result (GivesUp ⊥) }
 {
     let alloc = settings.alloc;
-    match unless_given_up(run_script(settings, way, script))? {
+    match unless_given_up(run_script(settings, *way, script))? {
         Ok(ran) => {
             push_reads(alloc, reads, &ran)?;
             Ok(is_ran_alike(alloc, first, way.mode, &ran)?)
@@ -131,8 +127,8 @@ fn run_others(
 {
     let mut alike = true;
     for way in ways {
-        let is_alike = run_other(settings, script, first, *way, reads)?;
-        alike = alike && is_alike;
+        let is_alike = run_other(settings, script, first, way, reads)?;
+        alike &= is_alike;
     }
     Ok(alike)
 }
@@ -145,14 +141,17 @@ fn file_of(alloc: Global, alike: bool, ran: FileRun) -> Result<EvaluatedFile, Al
 {
     let place = first_unkept(alloc, alike, &ran)?;
     let FileRun { records, asked, .. } = ran;
-    let unkept = match place {
+    match place {
         Some(place) => {
             let mut asked = asked;
-            Some(asked.swap_remove(place))
+            let unkept = Some(asked.swap_remove(place));
+            Ok(EvaluatedFile { records, unkept })
         }
-        None => None,
-    };
-    Ok(EvaluatedFile { records, unkept })
+        None => Ok(EvaluatedFile {
+            records,
+            unkept: None,
+        }),
+    }
 }
 
 /// The same texts, each once, in the order of their first places.

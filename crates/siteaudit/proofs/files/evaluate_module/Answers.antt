@@ -1,4 +1,4 @@
-use Rattle.std.proofs.Common.{◌≡◌, ◌<◌, ℕ, List, Result, sym, ◌∙◌, subst}
+use Rattle.std.proofs.Common.{◌≡◌, ◌<◌, ℕ, List, Result, sym, ◌∙◌, subst, string_bytes}
 use Rattle.std.proofs.lemmas.Result.{err_from_is_err_and}
 use Rattle.envvars.specs.Texts.{Text}
 use Rattle.filetree.specs.Agreement.{FailsAt}
@@ -24,14 +24,14 @@ returns-clause-evaluated g c =
     (c.as_str.ensures.value ∙ c.in_ok-path.ensures) c.evaluate_file.ensures.over_tree in
     let comes = subst (λ (o : Result FileEvaluation Refusal). ComesToOverTree agrees failed o (λ files listings. EvaluatesTo (site_of a.limits a.env.now files listings) (module_below dir name)))
     (sym c.in_ok-outcome.ensures.same) here in
-    let with_name = subst (λ (n : Text). IsEvaluationWith n _ c.in_ok-outcome.outcome c.evaluation_of.result) c.in_ok-full_name.ensures.ok c.evaluation_of.ensures in
+    let with_name = subst (λ (n : Text). IsEvaluationWith n (string_bytes c.in_ok-path.path) c.in_ok-outcome.outcome c.evaluation_of.result) c.in_ok-full_name.ensures.ok c.evaluation_of.ensures in
     let with_path = subst (λ (p : Text). IsEvaluationWith name p c.in_ok-outcome.outcome c.evaluation_of.result) c.in_ok-path.ensures with_name in
     is_evaluation agrees failed (λ files listings. EvaluatesTo (site_of a.limits a.env.now files listings) (module_below dir name)) (module_below dir name)
     c.in_ok-outcome.outcome c.evaluation_of.result comes c.in_ok-outcome.ensures.kept with_path
 
 pub returns-in_err-outcome-clause-failed : goal.returns-in_err-outcome-clause-failed
 returns-in_err-outcome-clause-failed g c =
-    let p = err_from_is_err_and c.from_residual.result c.from_residual.ensures.1 in
+    let p = err_from_is_err_and c.from_residual-in_err-outcome.result c.from_residual-in_err-outcome.ensures.1 in
     let failed = rw (c.as_str.ensures.value ∙ c.in_ok-path.ensures) at c.evaluate_file.ensures.failed in
     rw (p.1, p.2) (given_up_failed c.evaluate_file.result c.in_err-outcome.field-0.0 (g.T.Tree.failed c.args.tree.now) (g.T.Tree.failed c.evaluate_file.new.tree)
     (λ at. at ≡ (module_below c.args.dir.now c.args.name.now).path) c.in_err-outcome.ensures.given_up.0 failed)

@@ -6,7 +6,8 @@ use Rattle.std.specs.declared.string.String.{String}
 use Rattle.std.specs.declared.vec.Vec.{Vec}
 use Rattle.envvars.specs.Texts.{texts_in}
 use Rattle.requests.proofs.ListLemmas.{any_seen}
-use Rattle.siteaudit.specs.Audits as spec
+use Rattle.std.specs.Prelude.{bytes_eq}
+use Rattle.settled.specs.Ways.{same_by}
 use Rattle.siteaudit.proofs.names.is_there.Goals as goal
 
 pub returns : goal.returns

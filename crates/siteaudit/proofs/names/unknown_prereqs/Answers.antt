@@ -3,7 +3,8 @@ use Rattle.envvars.specs.Texts.{Text, texts_in}
 use Rattle.modulefile.specs.Records.{prereq_groups}
 use Rattle.modulefile.specs.RecordViews.{record_view}
 use Rattle.modulefile.specs.declared.records.Record as code
-use Rattle.siteaudit.specs.Audits as spec
+use Rattle.std.specs.Prelude.{bytes_eq}
+use Rattle.settled.specs.Ways.{same_by}
 use Rattle.siteaudit.specs.Mentions.{known_in, unknown_groups}
 use Rattle.siteaudit.proofs.OnceEach.{inserted_turn, groups_parts}
 use Rattle.siteaudit.proofs.names.unknown_prereqs.Goals as goal

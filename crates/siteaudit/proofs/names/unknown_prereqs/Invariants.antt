@@ -3,7 +3,8 @@ use Rattle.indexmap.specs.IndexSet.{insert_all}
 use Rattle.envvars.specs.Texts.{texts_in}
 use Rattle.modulefile.specs.Records.{prereq_groups}
 use Rattle.modulefile.specs.RecordViews.{record_view}
-use Rattle.siteaudit.specs.Audits as spec
+use Rattle.std.specs.Prelude.{bytes_eq}
+use Rattle.settled.specs.Ways.{same_by}
 use Rattle.siteaudit.specs.Mentions.{known_in, unknown_groups}
 use Rattle.siteaudit.proofs.names.unknown_prereqs.Given as goal
 

@@ -1,9 +1,8 @@
-use Rattle.std.proofs.Common.{◌≡◌, map, ap, sym, ◌∙◌, List}
+use Rattle.std.proofs.Common.{map, ap, ◌∙◌, List}
 use Rattle.std.proofs.lemmas.List.{take_all}
 use Rattle.sitereads.specs.Answers.{module_of, reads_of}
 use Rattle.sitereads.specs.declared.readers.Reader.{Reader}
 use Rattle.siteaudit.specs.SettledRuns.{settled_module, settled_reads}
-use Rattle.siteaudit.specs.declared.walk.Evaluation.{Evaluation}
 use Rattle.siteaudit.proofs.UsedReads.{map_turn}
 use Rattle.siteaudit.proofs.reads.readers.Goals as goal
 

@@ -1,4 +1,4 @@
-use Rattle.std.proofs.Common.{◌≡◌, ◌++◌, map, take}
+use Rattle.std.proofs.Common.{◌≡◌, ◌++◌, take}
 use Rattle.envvars.specs.Texts.{texts_in, slice_texts}
 use Rattle.siteaudit.proofs.scripts.push_reads.Given as goal
 
