@@ -15,8 +15,8 @@ use Rattle.requests.specs.Returning.{AreNew}
 use Rattle.requests.specs.Steps.{Done, RequestStep, request_context_in}
 use Rattle.sitecertificate.specs.RecordUses.{IsAmong, uses_by}
 use Rattle.sitecertificate.specs.Certificates.{certified}
-use Rattle.sitecertificate.specs.Laws.{AreCertifiedTogether, AreLayered, NoneIsLayered}
-use Rattle.sitelaws.specs.Sites.{Site, Reads, file_of, IsCandidate, AreCandidates}
+use Rattle.sitecertificate.specs.Laws.{IsAsCertified, AreCertifiedTogether, AreLayered, NoneIsLayered}
+use Rattle.sitelaws.specs.Sites.{Site, SiteModule, Reads, ReadsAlike, file_of, AreAmongCandidates}
 use Rattle.sitelaws.specs.Laws.{LoadsAreOf, AreReadAlike, SiteCommandsReturn, ChangesLeaveReads}
 use Rattle.modulecmd.specs.Command.{CommandResult, CommandHasResult, standard, with_shell}
 use Rattle.handchanges.specs.HandChanges.{HandChange, changed, IsHandChange, start_after}
@@ -49,7 +49,7 @@ abbrev Stands : Site → List Module → List Module → Environment → Environ
 Stands site ms live start e = AreLayered ms start live e × AreReadAlike site start live × (live ≡ [] → e ≡ start)
 
 command_stands : SiteCommandsReturn → OneEffect → DifferenceMakes → (judged_in : Environment) (files : Files) (listings : Listings) (ms : List Module)
-    → AreCandidates (judged_site judged_in files listings) ms → (live : List Module) (start e next : Environment) (c : PrintedCommand)
+    → AreAmongCandidates (judged_site judged_in files listings) ms → (live : List Module) (start e next : Environment) (c : PrintedCommand)
     → Stands (judged_site judged_in files listings) ms live start e → AreNew start (command_moves c)
     → CommandLoads (judged_site judged_in files listings) (certified ms) start c → CommandMakes files listings c e next
     → Stands (judged_site judged_in files listings) ms (live_after live (command_moves c)) start next
@@ -59,26 +59,39 @@ command_stands returns one makes judged_in files listings ms all live start e ne
     let same : c.effect.1.env ≡ next = one c.effect.0 c.text e c.effect.1.env next (makes c.effect.0 c.text e c.effect.1.env says) made in
     subst (Stands (judged_site judged_in files listings) ms (live_after live (command_moves c)) start) same h
 
-live_candidate : (site : Site) (ms live : List Module) (m : Module) → AreCandidates site ms → AreCertifiedTogether ms live → IsAmong m live → IsCandidate site m
-live_candidate site ms [] m all t a = absurd a
-live_candidate site ms (l ∷ live) m all t (inl e) = subst (IsCandidate site) (sym e) ((all l).0 t.0.listed)
-live_candidate site ms (l ∷ live) m all t (inr a) = live_candidate site ms live m all t.2 a
+live_certified : (ms live : List Module) (m : Module) → AreCertifiedTogether ms live → IsAmong m live → IsAsCertified ms m
+live_certified ms [] m t a = absurd a
+live_certified ms (l ∷ live) m t (inl e) = subst (IsAsCertified ms) (sym e) t.0
+live_certified ms (l ∷ live) m t (inr a) = live_certified ms live m t.2 a
 
-change_stands : OneChangeHolds → ChangesLeaveReads → (site : Site) (ms : List Module) → AreCandidates site ms
+same_file : (m c : Module) → c.name ≡ m.name → c.path ≡ m.path → file_of c ≡ file_of m
+same_file m c name path = λ i. record { name = name i; path = path i }
+
+-- what a live module reads keeps its values
+reads_left : ChangesLeaveReads → (site : Site) (ms live : List Module) (start e : Environment) (c : HandChange) → AreAmongCandidates site ms → AreLayered ms start live e
+    → IsHandChange (uses_by live) live e c → IsUnread site live c.variable → AreReadAlike site start live → AreReadAlike site (start_after (uses_by live) live start e c) live
+reads_left leave site ms live start e c all layered may unread alike m a =
+    let k = live_certified ms live m layered.together a in
+    let same = same_file m k.certain k.name k.path in
+    subst (ReadsAlike site (start_after (uses_by live) live start e c)) same
+    (leave site ms live start e k.certain c (all k.certain k.certified.listed).settled.records
+    (subst (ReadsAlike site start) (sym same) (alike m a)) layered may
+    (λ r. unread m a (subst (λ (f : SiteModule). Reads site f c.variable) same r)))
+
+change_stands : OneChangeHolds → ChangesLeaveReads → (site : Site) (ms : List Module) → AreAmongCandidates site ms
     → (live : List Module) (start e : Environment) (c : HandChange) (more : List Move) → Stands site ms live start e → AreNew start more
     → IsHandChange (uses_by live) live e c → IsUnread site live c.variable
     → Stands site ms live (start_after (uses_by live) live start e c) (changed c e) × AreNew (start_after (uses_by live) live start e c) more
 change_stands change leave site ms all live start e c more stands news may unread =
     let s = stands.0 in
     let p = change (uses_by live) start e live c s.begins s.order s.start_with_live may in
-    let alike : AreReadAlike site (start_after (uses_by live) live start e c) live = (λ m a.
-    leave site ms live start e m c (live_candidate site ms live m all s.together a).settled.records (stands.1 m a) s may (unread m a)) in (
+    let alike = reads_left leave site ms live start e c all s may unread stands.1 in (
       (record { together = s.together; begins = p.begins; order = p.holds.order; start_with_live = p.holds.start_with_live }, alike, p.holds.returned),
       new_kept start (start_after (uses_by live) live start e c) more p.loaded news,
     )
 
 events_stand : SiteCommandsReturn → OneEffect → DifferenceMakes → OneChangeHolds → ChangesLeaveReads
-    → (judged_in : Environment) (files : Files) (listings : Listings) (ms : List Module) → AreCandidates (judged_site judged_in files listings) ms
+    → (judged_in : Environment) (files : Files) (listings : Listings) (ms : List Module) → AreAmongCandidates (judged_site judged_in files listings) ms
     → (events : List (Event PrintedCommand)) (live : List Module) (start e last_start last : Environment)
     → Stands (judged_site judged_in files listings) ms live start e → AreNew start (moves_of command_moves events)
     → HandsLeaveReads (judged_site judged_in files listings) live events

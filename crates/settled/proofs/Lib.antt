@@ -3,3 +3,4 @@ mod Noted
 pub mod Rests
 pub mod ReadVariables
 mod Settling
+pub mod UndoTested

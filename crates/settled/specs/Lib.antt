@@ -1,2 +1,4 @@
 pub mod Resting
+pub mod Ways
+pub mod WayViews
 pub mod Laws

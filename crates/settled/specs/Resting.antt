@@ -1,7 +1,7 @@
 -- What the answers to a modulefile's questions rest on (own; getenv, module-info and is-loaded of modulefile(5)).
 use Rattle.std.specs.Prelude.{◌≡◌, Bool, true, false, not, ◌&&◌, List, [], ◌∷◌, codes, bytes_eq, filter_map, Option}
 use Rattle.std.specs.Prelude.{Some, None, Ok}
-use Rattle.std.specs.List.{list_all, list_any}
+use Rattle.std.specs.List.{list_any}
 use Rattle.envvars.specs.Texts.{Text, has}
 use Rattle.envvars.specs.Names.{is_protected}
 use Rattle.envvars.specs.Environment.{Environment, lookup}
@@ -10,8 +10,6 @@ use Rattle.modulefile.specs.Records.{Record, variable_of}
 use Rattle.modulefile.specs.Effects.{Mode, load, unload, display, whatis}
 use Rattle.modulefile.specs.Calls.{InfoField, mode, shell, shell_type, CallForm, getenv, info, info_test, call_of}
 use Rattle.modulefile.specs.Answers.{FileContext}
-use Rattle.modulefile.specs.Files.{Ran}
-use Rattle.reversal.specs.VariableUses.{is_reversible}
 
 -- the variables that shells change by themselves
 unfoldable pub shell_variables : List Text
@@ -78,20 +76,20 @@ is_shell (Some mode) = false
 is_shell (Some shell) = true
 is_shell (Some shell_type) = true
 
--- A question keeps its answer: what it asks rests, and is nothing of the way of the evaluation.
-abbrev pub keeps_answer : List Record → Question → Bool
-keeps_answer records q = rests records q && (not (is_mode (field_of q)) && not (is_shell (field_of q)))
+-- a question asks for the mode, or whether the file is half of a switch
+abbrev pub asks_mode : List Question → Bool
+asks_mode asked = list_any (λ q. is_mode (field_of q)) asked
 
--- What an evaluation left is settled: each question keeps its answer, and unloading undoes each record.
-abbrev pub is_settled : Ran → Bool
-is_settled ran = list_all (keeps_answer ran.records) ran.asked && list_all is_reversible ran.records
+-- a question asks for the shell
+abbrev pub asks_shell : List Question → Bool
+asks_shell asked = list_any (λ q. is_shell (field_of q)) asked
 
 -- The second context is of the same way as the first, as far as the questions ask: where they ask for the mode, of the
 -- same mode and the same half of a switch, and where they ask for the shell, of the same shell.
 pub record IsSameWay (asked : List Question) (c d : FileContext) : Type 0 where
-  pub mode : list_any (λ q. is_mode (field_of q)) asked ≡ true → d.mode ≡ c.mode
-  pub in_switch : list_any (λ q. is_mode (field_of q)) asked ≡ true → d.in_switch ≡ c.in_switch
-  pub shell : list_any (λ q. is_shell (field_of q)) asked ≡ true → d.shell ≡ c.shell
+  pub mode : asks_mode asked ≡ true → d.mode ≡ c.mode
+  pub in_switch : asks_mode asked ≡ true → d.in_switch ≡ c.in_switch
+  pub shell : asks_shell asked ≡ true → d.shell ≡ c.shell
 
 -- the variables have the same values in both environments
 abbrev pub AreAlike : List Text → Environment → Environment → Type 0

@@ -1,5 +1,5 @@
-//! The law of settled files. The function does nothing: its contract is the law.
-ghost use Rattle.settled.specs.Laws.{SettledFilesAgree};
+//! Laws of settled files. Each function does nothing: its contract is the law.
+ghost use Rattle.settled.specs.Laws.{SettledFilesAgree, UndoIsTested};
 
 /// A file whose questions all rest leaves the same records wherever the way is the same and the variables that it read
 /// have the same values, or is refused there.
@@ -8,3 +8,8 @@ pub fn settled()
 {
     modulefile::laws::answered();
 }
+
+/// The test whether unloads by records do what unloads by others do says so exactly where they do.
+pub fn undone()
+    ensures { UndoIsTested }
+{}

@@ -2,9 +2,16 @@
 //! Takes memory and touches nothing else.
 #![tactic(auto)]
 
+mod alike;
+mod asking;
 pub mod laws;
 mod reading;
 mod resting;
+mod undone;
+mod ways;
 
+pub use alike::is_ran_alike;
+pub use asking::keeps_answer;
 pub use reading::{first_unkept, variables_read};
-pub use resting::keeps_answer;
+pub use undone::same_texts;
+pub use ways::{Way, other_ways};

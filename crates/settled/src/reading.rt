@@ -6,23 +6,24 @@ ghost use Rattle.envvars.specs.Texts.{slice_texts};
 ghost use Rattle.tclrules.specs.Oracle.{OracleAnswer, OfCommand};
 ghost use Rattle.modulefile.specs.RecordViews.{record_view};
 ghost use Rattle.modulerun.specs.Questions.{question_view, questions_in};
-ghost use Rattle.settled.specs.Resting.{keeps_answer, read_by, variables_read};
+ghost use Rattle.settled.specs.Resting.{read_by, variables_read};
+ghost use Rattle.settled.specs.Ways.{keeps_answer};
 
-use crate::resting::keeps_answer;
+use crate::asking::keeps_answer;
 use modulefile::{Call, CallFault, call_of};
 use modulerun::{FileRun, Question};
 use std::alloc::{AllocError, Global};
 
-/// The place of the first question that doesn't keep its answer beside the records of its file; `None` where each keeps
-/// it.
+/// The place of the first question that doesn't keep its answer beside the records of its file, whose evaluations in the
+/// ways that it asks for are alike or not; `None` where each keeps it.
 ///
 /// The only error is want of memory.
-pub fn first_unkept(alloc: Global, ran: &FileRun) -> Result<Option<usize>, AllocError>
-    ensures { IfOk result (λ place. place ≡ position (λ q. not (keeps_answer (map record_view ran.now.records.items)
-        (question_view q))) ran.now.asked.items) }
+pub fn first_unkept(alloc: Global, alike: bool, ran: &FileRun) -> Result<Option<usize>, AllocError>
+    ensures { IfOk result (λ place. place ≡ position (λ q. not (keeps_answer alike
+        (map record_view ran.now.records.items) (question_view q))) ran.now.asked.items) }
 {
     for (place, question) in ran.asked.iter().enumerate() {
-        if !keeps_answer(alloc, ran.records.as_slice(), question)? {
+        if !keeps_answer(alloc, alike, ran.records.as_slice(), question)? {
             return Ok(Some(place));
         }
     }

@@ -1,17 +1,18 @@
 //! On what the answers to a modulefile's questions rest.
 ghost use Rattle.std.specs.Prelude.{◌≡◌, map, string_bytes, IfOk};
-ghost use Rattle.std.specs.List.{list_any};
+ghost use Rattle.std.specs.List.{list_all, list_any};
 ghost use Rattle.std.specs.Option.{option_map};
 ghost use Rattle.envvars.specs.Texts.{has};
 ghost use Rattle.tclrules.specs.Oracle.{OracleAnswer, OfCommand};
 ghost use Rattle.modulefile.specs.Records.{variable_of};
 ghost use Rattle.modulefile.specs.RecordViews.{record_view};
-ghost use Rattle.modulerun.specs.Questions.{question_view};
-ghost use Rattle.settled.specs.Resting.{shell_variables, is_variable, is_resting, keeps_answer};
+ghost use Rattle.modulerun.specs.Questions.{question_view, questions_in};
+ghost use Rattle.settled.specs.Resting as spec;
+ghost use Rattle.settled.specs.Resting.{shell_variables, is_variable, is_resting};
 
 use envvars::is_protected;
 use modulefile::{Call, CallFault, Record, call_of};
-use modulerun::Question;
+use modulerun::{FileRun, Question};
 use std::alloc::{AllocError, Global};
 
 /// Whether the variable is one that shells change by themselves.
@@ -81,30 +82,42 @@ fn is_resting(records: &[Record], variable: &str) -> bool
     !is_protected(variable) && !is_of_shells(variable) && !is_named(records, variable)
 }
 
-/// Whether a question of these words keeps its answer.
-fn call_keeps(alloc: Global, records: &[Record], words: &[String]) -> Result<bool, AllocError>
-    ensures { IfOk result (λ kept. (answer : OracleAnswer)
-        → kept ≡ keeps_answer (map record_view records.now) (OfCommand (map string_bytes words.now) answer)) }
+/// Whether a question of these words rests.
+fn call_rests(alloc: Global, records: &[Record], words: &[String]) -> Result<bool, AllocError>
+    ensures { IfOk result (λ rested. (answer : OracleAnswer)
+        → rested ≡ spec.rests (map record_view records.now) (OfCommand (map string_bytes words.now) answer)) }
 {
     match call_of(alloc, words) {
         Ok(Call::Getenv { var, .. }) => Ok(is_resting(records, var)),
+        Ok(Call::Info(_)) | Ok(Call::InfoTest(_, _)) => Ok(true),
         Err(CallFault::OutOfMemory) => Err(AllocError),
         _ => Ok(false),
     }
 }
 
-/// Whether a question keeps its answer beside these records: it asks for a variable that rests.
-///
-/// The only error is want of memory.
-pub fn keeps_answer(
+/// Whether a question rests beside these records: it asks for a variable that does, or for the way of the evaluation.
+pub(crate) fn rests(
     alloc: Global,
     records: &[Record],
     question: &Question,
 ) -> Result<bool, AllocError>
-    ensures { IfOk result (λ kept. kept ≡ keeps_answer (map record_view records.now) (question_view question.now)) }
+    ensures { IfOk result (λ rested. rested ≡ spec.rests (map record_view records.now) (question_view question.now)) }
 {
     match question {
         Question::Variable(name, _) => Ok(is_resting(records, name.as_str())),
-        Question::Command(words, _) => call_keeps(alloc, records, words.as_slice()),
+        Question::Command(words, _) => call_rests(alloc, records, words.as_slice()),
     }
+}
+
+/// Whether each question of an evaluation rests beside the records that it left.
+pub(crate) fn all_rest(alloc: Global, ran: &FileRun) -> Result<bool, AllocError>
+    ensures { IfOk result (λ rested. rested ≡ list_all (spec.rests (map record_view ran.now.records.items))
+        (questions_in ran.now.asked.items)) }
+{
+    for question in &ran.asked {
+        if !rests(alloc, ran.records.as_slice(), question)? {
+            return Ok(false);
+        }
+    }
+    Ok(true)
 }

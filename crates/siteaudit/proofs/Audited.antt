@@ -19,13 +19,14 @@ use Rattle.sitecertificate.proofs.OnceLemmas.{in_once, of_once}
 use Rattle.siteaudit.specs.declared.walk.Evaluation.{Evaluation}
 use Rattle.siteaudit.specs.Walks.{IsWalk, AreEvaluations}
 use Rattle.siteaudit.specs.declared.auditing.AuditedModule.{AuditedModule}
-use Rattle.siteaudit.specs.Audits.{audited_file, AllStand, certified_files}
+use Rattle.siteaudit.specs.Audits.{audited_file, AllStand, certified_files, AreFirstReads}
 use Rattle.siteaudit.specs.SettledRuns.{settled_module, AreUsedReads}
 use Rattle.siteaudit.specs.Findings.{Shown, judged_of, steps_in, reads_along, modules_with, AreStandings}
 use Rattle.siteaudit.specs.Folders.{AreBadDefaultFiles}
 use Rattle.siteaudit.specs.Parts.{PartsAreAudits}
 use Rattle.siteaudit.proofs.Judged.{IsJudging, steps_are, certified_are, all_stand, files_are, reads_are, certified_files_are}
 use Rattle.siteaudit.proofs.Evaluations.{same_files}
+use Rattle.siteaudit.proofs.FirstReads.{first_reads}
 use Rattle.siteaudit.proofs.UsedReads.{same_used, user_settled, answers_shown}
 use Rattle.siteaudit.proofs.Unknown.{mentioned_alike}
 
@@ -45,6 +46,7 @@ record AreJudgedRight (site : Site) (ms : List Module) (outs : List Evaluated) (
   files : map audited_file modules ≡ map (λ (o : Evaluated). o.0) outs
   reads : map (λ (m : AuditedModule). texts_in m.reads) modules ≡ map (λ (o : Evaluated). without_repeats (reads_of o)) outs
   standing : AllStand site ms modules
+  used : AreFirstReads (settled_among outs) modules
   uses : found ≡ each_once (certificate ms)
   certain : certified_files modules ≡ map file_of (certified ms)
 
@@ -78,6 +80,7 @@ judged_right laws site es outs modules uses all h s =
       reads = ap (map (λ (m : AuditedModule). texts_in m.reads)) standings_are ∙ reads_are shown outs s.answers h';
       standing = subst (AllStand site ms) (sym standings_are)
           (all_stand site outs ms readers shown outs s.answers judging h' s.by_themselves.right answered shown_answers (λ o a. (all.evaluated o a, a)));
+      used = subst (AreFirstReads (settled_among outs)) (sym standings_are) (first_reads es outs shown s.answers h s.by_themselves.right answered);
       uses = s.certified ∙ ap (λ (l : List Module). each_once (used_by_modules l)) (ap (λ (l : List Module). without_clashes l s.answers) step ∙ sure);
       certain = ap certified_files standings_are ∙ (certified_files_are (filter is_in_step ms) shown s.answers s.by_themselves.right shown_answers
           ∙ ap (map file_of) (ap (λ (l : List Module). without_clashes l s.answers) steps ∙ sure));
@@ -100,6 +103,7 @@ parts_are_audits laws site walk found (outs, w, h) parts =
         modules = right.files;
         reads = right.reads;
         standing = right.standing;
+        used = right.used;
         certificate = right.uses;
         missing_directories = parts.missing_directories;
         no_modulefiles = parts.no_modulefiles;
@@ -117,6 +121,6 @@ parts_are_audits laws site walk found (outs, w, h) parts =
           (λ a. subst (IsAmong p) (sym right.uses) (in_once p (certificate ms) a)),
           (λ a. of_once p (certificate ms) (subst (IsAmong p) right.uses a)),
         );
-        holds = laws.audits site ms (certified ms) ((laws.settled site outs all).1) (λ m a. ones.is_certified ms m a);
+        holds = laws.audits site ms (certified ms) (λ m a. ((laws.settled site outs all).1 m).0 a) (λ m a. ones.is_certified ms m a);
       },
     )

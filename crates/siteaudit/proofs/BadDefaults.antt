@@ -1,7 +1,7 @@
 -- Bad default files of the folders in which modules are, module after module.
 use Rattle.std.proofs.Common.{◌≡◌, ◌⊎◌, inl, inr, ℕ, ◌+◌, ◌<◌, ◌≤◌, true, List, [], ◌∷◌, ◌++◌, Option, Some, None, map}
-use Rattle.std.proofs.Common.{take, take_all, length, get_or, option_to_list, option_map, refl, sym, ap, ◌∙◌, subst}
-use Rattle.std.proofs.Common.{append-nil, append_assoc, string_bytes}
+use Rattle.std.proofs.Common.{take, take_all, length, get_or, option_to_list, refl, sym, ap, ◌∙◌, subst}
+use Rattle.std.proofs.Common.{append-nil, append_assoc}
 use Rattle.std.specs.Prelude.{bytes_eq, cond, ◌↔◌}
 use Rattle.std.proofs.lemmas.List.{map-append}
 use Rattle.envvars.specs.Texts.{Text, has}
@@ -14,10 +14,9 @@ use Rattle.sitecertificate.proofs.Exact.{some_any}
 use Rattle.sitelaws.specs.Sites.{SiteModule}
 use Rattle.sitelaws.specs.DirectorySets.{with_directories}
 use Rattle.sitelaws.proofs.DirectorySetLemmas.{with-append}
-use Rattle.siteaudit.specs.declared.defaults.Folder.{Folder}
 use Rattle.siteaudit.specs.declared.walk.Evaluation.{Evaluation}
 use Rattle.siteaudit.specs.SettledRuns.{evaluated_file}
-use Rattle.siteaudit.specs.Folders.{FolderText, folder_view, HoldsModule, HoldsOneOf, IsBadIn, IsBadDefaultOf}
+use Rattle.siteaudit.specs.Folders.{FolderText, HoldsModule, HoldsOneOf, IsBadIn, IsBadDefaultOf}
 use Rattle.siteaudit.specs.Folders.{AreBadDefaultsOf, AreBadDefaultFiles, AddsNewAnswer, AddsBadDefault, AddsFolder}
 use Rattle.siteaudit.proofs.AmongLemmas.{among_map, taken}
 use Rattle.siteaudit.proofs.DirectoryLemmas.{once, comes}

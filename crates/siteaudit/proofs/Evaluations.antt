@@ -1,31 +1,11 @@
 -- The evaluations of the code and the outcomes that they stand for: the same modules, in the same order.
-use Rattle.std.proofs.Common.{◌≡◌, inl, inr, false, List, [], ◌∷◌, map, Result, refl, ap, sym, ◌∙◌, subst}
-use Rattle.filetree.specs.Modulefiles.{modulefile}
-use Rattle.filetree.specs.Relations.{IsOne}
-use Rattle.filetree.proofs.OneOutcome.{one_is, one_then}
-use Rattle.modulefile.specs.Effects as modes
-use Rattle.modulefile.specs.Files.{RunsFile}
-use Rattle.modulefile.specs.Laws as files
-use Rattle.requests.specs.Refusals.{refused_as, RefusedAs}
-use Rattle.requests.specs.Reasons.{file_refused}
-use Rattle.requests.specs.Steps.{entries_of, script_at, context_of}
+use Rattle.std.proofs.Common.{◌≡◌, inl, inr, List, [], ◌∷◌, map, refl, ap, sym, ◌∙◌, subst}
 use Rattle.sitecertificate.specs.RecordUses.{IsAmong}
-use Rattle.sitelaws.specs.Sites.{Site, SiteModule, over_site, EvaluatesTo, IsOfSite, Evaluated, AreEvaluated}
+use Rattle.sitelaws.specs.Sites.{Site, SiteModule, IsOfSite, Evaluated, AreEvaluated}
 use Rattle.siteaudit.specs.declared.walk.Evaluation.{Evaluation}
 use Rattle.siteaudit.specs.Walks.{IsEvaluation, AreEvaluations}
 use Rattle.siteaudit.specs.SettledRuns.{evaluated_file}
 use Rattle.siteaudit.proofs.AmongLemmas.{among_map, of_map}
-
--- an evaluation has one outcome
-
-one_refused_as : {A R S : Type 0} {f : R → S} {First : Result A R → Type 0} → IsOne First → IsOne (RefusedAs f First)
-one_refused_as {f = f} u o p h k = h.2 ∙ (ap (refused_as f) (u h.0 k.0 h.1 k.1) ∙ sym k.2)
-
-pub one_outcome : files.OneOutcome → (site : Site) (m : SiteModule) → IsOne (EvaluatesTo site m)
-one_outcome one site m =
-    one_then (one_is (entries_of site.env)) (λ xs. one_then (one_is (script_at m.path (modulefile (site.files m.path)))) (λ text.
-    one_refused_as {f = file_refused} {First = RunsFile site.limits (context_of (over_site site) modes.load false m.name m.name m.path xs site.env) text}
-    (one site.limits (context_of (over_site site) modes.load false m.name m.name m.path xs site.env) text)))
 
 -- the same modules
 

@@ -8,8 +8,9 @@ use Rattle.envvars.specs.Texts.{Text}
 use Rattle.filetree.specs.Agreement.{Files, Listings, FailsAt, FailsIf}
 use Rattle.filetree.specs.Causes.{Cause, memory, device, because}
 use Rattle.filetree.specs.Modulefiles.{directories}
-use Rattle.modulefile.specs.Files as files
-use Rattle.modulerun.specs.declared.run.FileRun.{FileRun}
+use Rattle.tclrules.specs.declared.limits.Limits.{Limits}
+use Rattle.modulefile.specs.Answers.{FileContext}
+use Rattle.settled.specs.Ways.{Way, first_way}
 use Rattle.requests.specs.Reasons.{RequestReason}
 use Rattle.search.specs.DefaultFiles.{DefaultFileResult}
 use Rattle.search.specs.ListingEntries.{name_of}
@@ -20,16 +21,18 @@ use Rattle.modules.specs.declared.refusal.Refusal.{Refusal}
 use Rattle.modules.proofs.FailureLemmas.{unfailed}
 use Rattle.sitelaws.specs.Sites.{Site, AreNamesBelow, module_below}
 use Rattle.siteaudit.specs.WalkLooked.{DirectoryLooksAt}
-use Rattle.siteaudit.specs.WalkParts.{ComesTo, is_given_up}
+use Rattle.givenup.specs.Causes.{is_given_up}
+use Rattle.siteaudit.specs.WalkParts.{ScriptRuns, ShowsScript}
+use Rattle.siteaudit.specs.declared.scripts.FileEvaluation.{FileEvaluation}
 use Rattle.siteaudit.proofs.AmongSites.{among_at, in_map}
 
 -- ---- the file of a module
 
--- what a script comes to is no failure of the device
-pub comes_unfailed : (o : Result FileRun Refusal) (Outcomes : Result files.Ran RequestReason → Type 0) (before now : List ℕ → Bool) (W : List ℕ → Type 0) → ComesTo o Outcomes → now ≡ before
-    → FailsAt is_failure before now o W
-comes_unfailed (Ok ran) Outcomes before now W h same = same
-comes_unfailed (Err refusal) Outcomes before now W h same = unfailed refusal (λ reason. Outcomes (Err reason)) before now W h same
+-- what a script shows is no failure of the device
+pub shows_unfailed : (limits : Limits) (context : Way → FileContext) (text : Text) (o : Result FileEvaluation Refusal) (before now : List ℕ → Bool) (W : List ℕ → Type 0)
+    → ShowsScript limits context text o → now ≡ before → FailsAt is_failure before now o W
+shows_unfailed limits context text (Ok shown) before now W h same = same
+shows_unfailed limits context text (Err refusal) before now W h same = unfailed refusal (λ reason. ScriptRuns limits (context first_way) text (Err reason)) before now W h same
 
 kept_cause : (c : Cause RequestReason) → is_given_up c ≡ false → is_of_device c ≡ false
 kept_cause memory h = refl
@@ -37,13 +40,13 @@ kept_cause device h = absurd (cc)
 kept_cause (because reason) h = refl
 
 -- an outcome that isn't given up is none either
-pub kept_unfailed : (o : Result FileRun Refusal) (before now : List ℕ → Bool) (W : List ℕ → Type 0) → IfErr o (λ refusal. is_given_up (cause_of refusal) ≡ false) → FailsAt is_failure before now o W
+pub kept_unfailed : (o : Result FileEvaluation Refusal) (before now : List ℕ → Bool) (W : List ℕ → Type 0) → IfErr o (λ refusal. is_given_up (cause_of refusal) ≡ false) → FailsAt is_failure before now o W
     → now ≡ before
 kept_unfailed (Ok ran) before now W kept h = h
 kept_unfailed (Err refusal) before now W kept h = subst (λ t. FailsIf t before now W) (kept_cause (cause_of refusal) kept) h
 
 -- and one that is given up failed where the evaluation did
-pub given_up_failed : (o : Result FileRun Refusal) (refusal : Refusal) (before now : List ℕ → Bool) (W : List ℕ → Type 0) → o ≡ Err refusal → FailsAt is_failure before now o W
+pub given_up_failed : (o : Result FileEvaluation Refusal) (refusal : Refusal) (before now : List ℕ → Bool) (W : List ℕ → Type 0) → o ≡ Err refusal → FailsAt is_failure before now o W
     → FailsIf (is_failure refusal) before now W
 given_up_failed o refusal before now W e h = subst (λ r. FailsAt is_failure before now r W) e h
 

@@ -1,7 +1,7 @@
 -- Names in folders, and paths below directories.
-use Rattle.std.proofs.Common.{Some, None, option_to_list, Option, Bor, subst, ◌+◌, ◌≡◌, ◌≢◌, ◌⊎◌, inl, inr, ℕ, ◌<◌, ◌≤◌}
+use Rattle.std.proofs.Common.{Some, None, Option, Bor, subst, ◌+◌, ◌≡◌, ◌≢◌, ◌⊎◌, inl, inr, ℕ, ◌<◌}
 use Rattle.std.proofs.Common.{◌==◌, Bool, true, false, not, ◌||◌, List, [], ◌∷◌, ◌++◌, length, get_or, take, drop}
-use Rattle.std.proofs.Common.{append_assoc, refl, sym, ap, ◌∙◌, arith, suc, string_bytes, map, cond, take_all}
+use Rattle.std.proofs.Common.{append_assoc, refl, sym, ap, ◌∙◌, arith, suc, string_bytes, map, cond}
 use Rattle.std.specs.List.{list_any}
 use Rattle.std.specs.Str.{NoCharPasses}
 use Rattle.std.specs.Str.Pattern.{RFindsChar, FindsTextSuffix, FindsCharSuffix, StripsSuffix}
@@ -20,9 +20,9 @@ use Rattle.siteaudit.specs.declared.defaults.Folder.{Folder}
 use Rattle.siteaudit.specs.contracts.defaults.FolderPartialEq.TheImpl as FolderPartialEq
 use Rattle.siteaudit.specs.declared.walk.Evaluation.{Evaluation}
 use Rattle.siteaudit.specs.Folders.{IsInFolder, FolderText, folder_view, HoldsModule, HoldsOneOf}
-use Rattle.sitecertificate.proofs.UsedLemmas.{by_cases, among_left, among_right, among_either}
+use Rattle.sitecertificate.proofs.UsedLemmas.{by_cases}
 use Rattle.sitecertificate.proofs.Exact.{any_some}
-use Rattle.siteaudit.proofs.AmongLemmas.{taken, among_one, among_map, one_more}
+use Rattle.siteaudit.proofs.AmongLemmas.{among_one, among_map, one_more}
 
 -- the last part of a name
 

@@ -1,26 +1,22 @@
 -- How modules stand by what each shows by itself, and by what is answered of clashes.
 use Rattle.std.proofs.Common.{◌≡◌, inl, inr, Bool, true, false, cond, not, ◌&&◌, List, [], ◌∷◌, ◌++◌, map, filter, find}
 use Rattle.std.proofs.Common.{Option, Some, None, Result, Ok, Err, refl, ap, sym, ◌∙◌, subst}
-use Rattle.std.specs.Prelude.{filter_map, flat_map, string_bytes}
+use Rattle.std.specs.Prelude.{filter_map, flat_map, is_none, string_bytes}
+use Rattle.std.specs.Option.{option_map}
 use Rattle.std.specs.List.{list_all, list_any, cons_option, AllByRecursion}
 use Rattle.std.proofs.lemmas.Bool.{false≢true, and_parts, and_from}
 use Rattle.envvars.specs.Texts.{Text, has, texts_in}
 use Rattle.envvars.specs.Fields.{colon, without_repeats}
-use Rattle.envvars.specs.Environment.{Environment}
 use Rattle.envvars.proofs.TextLemmas.{bytes_eq-same}
-use Rattle.modulefile.specs.Files.{Ran}
 use Rattle.modulefile.specs.RecordViews.{record_view}
 use Rattle.modulerun.specs.declared.question.Question.{Question}
-use Rattle.modulerun.specs.declared.run.FileRun as code
-use Rattle.modulerun.specs.Questions.{question_view, questions_in}
-use Rattle.modulerun.specs.Running.{ran_view}
+use Rattle.modulerun.specs.Questions.{question_view}
 use Rattle.modulefile.specs.Records.{Record}
 use Rattle.modulefile.specs.Moves.{Module}
 use Rattle.reversal.specs.VariableUses.{VariableUse, Pathed, is_reversible, UsedVariable}
 use Rattle.requests.specs.Reasons.{RequestReason}
-use Rattle.requests.proofs.ListLemmas.{all_seen}
 use Rattle.modules.specs.declared.refusal.Refusal.{Refusal}
-use Rattle.settled.specs.Resting.{keeps_answer, is_settled, variables_read}
+use Rattle.settled.specs.Ways.{FileRuns, keep_answers, is_settled, reads_in}
 use Rattle.sitereads.specs.Reads.{uses_variable}
 use Rattle.sitereads.specs.Answers.{IsUsedRead, IsAnswer}
 use Rattle.sitereads.specs.declared.readers.UsedRead.{UsedRead}
@@ -34,10 +30,10 @@ use Rattle.sitecertificate.proofs.Answered.{answered_none, answers_are}
 use Rattle.sitelaws.specs.Sites.{Site, SiteModule, file_of, with_records, EvaluatesTo, HasSettledRecords, HasFreeReads}
 use Rattle.sitelaws.specs.Sites.{AreSettledModules, AreCandidates, Evaluated, settled_of, settled_among, reads_none}
 use Rattle.sitelaws.specs.Sites.{candidates_among, reads_of}
-use Rattle.sitelaws.specs.Standings.{IsUsedTwice}
+use Rattle.sitelaws.specs.Standings.{IsFirstUnkept, IsUsedTwice}
 use Rattle.sitecertificate.specs.ClashAnswers.{AreAnswers, without_clashes}
 use Rattle.sitecertificate.specs.declared.answers.Clash.{Clash}
-use Rattle.siteaudit.specs.Walks.{IsOutcome, outcome_reads, AreEvaluations}
+use Rattle.siteaudit.specs.Walks.{IsOfRuns, IsOutcome, AreEvaluations}
 use Rattle.siteaudit.specs.declared.standing.Standing.{Standing}
 use Rattle.siteaudit.specs.declared.standing.Standing.TheVariants.{Certified, Asks, OneWay, ReadsUsed, OutOfStep}
 use Rattle.siteaudit.specs.declared.standing.Standing.TheVariants.{Clashes, Refused}
@@ -45,12 +41,13 @@ use Rattle.siteaudit.specs.declared.auditing.AuditedModule.{AuditedModule}
 use Rattle.siteaudit.specs.declared.standing.ModuleFinding.{ModuleFinding}
 use Rattle.siteaudit.specs.declared.standing.ModuleFinding.TheVariants.{Stands, InStep}
 use Rattle.siteaudit.specs.Audits.{StandsAs, audited_file, AllStand, is_certified, certified_files}
-use Rattle.siteaudit.specs.SettledRuns.{is_settled_ran, settled_reads, evaluated_file}
-use Rattle.siteaudit.specs.Findings.{IsUseFinding, IsSettledFinding, are_kept, IsFindingOf, IsFinding, standing_of, steps_of}
+use Rattle.siteaudit.specs.SettledRuns.{reads_where_settled, evaluated_file}
+use Rattle.siteaudit.specs.declared.walk.EvaluatedFile.{EvaluatedFile}
+use Rattle.siteaudit.specs.Findings.{IsUseFinding, IsSettledFinding, IsFindingOf, IsFinding, standing_of, steps_of}
 use Rattle.siteaudit.specs.Findings.{Shown, judged_of, steps_in, IsShown, standing_by, standing_with, answers_left}
 use Rattle.siteaudit.specs.Findings.{modules_with}
 use Rattle.siteaudit.proofs.Evaluations.{same_file}
-use Rattle.siteaudit.proofs.StandingLemmas.{found_seen}
+use Rattle.siteaudit.proofs.SettledFiles.{kept_same, settled_same, has_once}
 use Rattle.siteaudit.proofs.UsedReads.{found_passes, has_text, uses_some, none_used, some_used, AnswersShown}
 
 -- ---- tests
@@ -126,70 +123,100 @@ in_step_of_use m rs (InStep records) rest t f =
 no_steps : (m : SiteModule) (finding : ModuleFinding) (standing : Standing) (rest : List Module) → finding ≡ Stands standing → steps_of m finding ++ filter is_in_step rest ≡ filter is_in_step rest
 no_steps m finding standing rest e = ap (λ (k : ModuleFinding). steps_of m k ++ filter is_in_step rest) e
 
--- the questions of the code and of the definitions
-kept_seen : (rs : List Record) (qs : List Question) → are_kept rs qs ≡ list_all (keeps_answer rs) (questions_in qs)
-kept_seen rs qs = all_seen (keeps_answer rs) question_view qs
+abbrev Outcome : Type 0
+Outcome = Result (FileRuns RequestReason) RequestReason
+
+abbrev Runs : Type 0
+Runs = FileRuns RequestReason
 
 -- by what is answered of the reads of an evaluated module, whether they are free
 abbrev ReadsDecided : List UsedVariable → Evaluated → Option UsedRead → Type 0
 ReadsDecided used o None = reads_none used o ≡ true
 ReadsDecided used o (Some u) = reads_none used o ≡ false
 
-decided : (ms : List Module) (used : List UsedVariable) (reads : List Text) (m : SiteModule) (ran : Ran) (u : Option UsedRead) → used_by_modules ms ≡ used → IsAnswer ms reads u
-    → reads ≡ variables_read ran.asked → ReadsDecided used (m, Ok ran) u
-decided ms used reads m ran None same a e =
-    ap not (ap (λ (l : List Text). list_any (λ p. has p.0 l) used) (sym e) ∙ (ap (λ (l : List UsedVariable). list_any (λ p. has p.0 reads) l) (sym same) ∙ none_used ms reads a))
-decided ms used reads m ran (Some u) same a e =
-    ap not (ap (λ (l : List Text). list_any (λ p. has p.0 l) used) (sym e) ∙ (ap (λ (l : List UsedVariable). list_any (λ p. has p.0 reads) l) (sym same) ∙ some_used ms reads (string_bytes u.variable) a.variable))
+-- the same variables
+abbrev SameTexts : List Text → List Text → Type 0
+SameTexts xs ys = (v : Text) → has v xs ≡ has v ys
+
+one_used : (used : List UsedVariable) (xs ys : List Text) → SameTexts xs ys → list_any (λ (p : UsedVariable). has p.0 ys) used ≡ list_any (λ (p : UsedVariable). has p.0 xs) used
+one_used used xs ys same = λ i. list_any (λ (p : UsedVariable). sym (same p.0) i) used
+
+decided : (ms : List Module) (used : List UsedVariable) (reads : List Text) (m : SiteModule) (runs : Runs) (u : Option UsedRead) → used_by_modules ms ≡ used → IsAnswer ms reads u
+    → SameTexts reads (reads_in runs) → ReadsDecided used (m, Ok runs) u
+decided ms used reads m runs None same a e =
+    ap not (one_used used reads (reads_in runs) e ∙ (ap (λ (l : List UsedVariable). list_any (λ p. has p.0 reads) l) (sym same) ∙ none_used ms reads a))
+decided ms used reads m runs (Some u) same a e =
+    ap not (one_used used reads (reads_in runs) e ∙ (ap (λ (l : List UsedVariable). list_any (λ p. has p.0 reads) l) (sym same) ∙ some_used ms reads (string_bytes u.variable) a.variable))
 
 -- a settled module
-settled_step : (m : SiteModule) (ran : Ran) (used : List UsedVariable) (u : Option UsedRead) (finding : ModuleFinding) (outs : List Evaluated) → list_all is_reversible ran.records ≡ true
-    → is_settled ran ≡ true → ReadsDecided used (m, Ok ran) u → IsSettledFinding ran.records u finding
-    → steps_of m finding ++ filter is_in_step (filter_map settled_of outs) ≡ filter is_in_step (candidates_by (reads_none used (m, Ok ran)) (m, Ok ran) outs)
-settled_step m ran used None finding outs t settled free f =
-    in_step_of_use m ran.records finding (filter_map settled_of outs) t f
-    ∙ (ap (λ (b : Bool). filter is_in_step (cons_option (cond b (Some (with_records m ran.records)) None) (filter_map settled_of outs))) (sym settled)
-    ∙ ap (λ (b : Bool). filter is_in_step (candidates_by b (m, Ok ran) outs)) (sym free))
-settled_step m ran used (Some u) finding outs t settled free f =
+settled_step : (m : SiteModule) (runs : Runs) (used : List UsedVariable) (u : Option UsedRead) (finding : ModuleFinding) (outs : List Evaluated) → list_all is_reversible runs.first.records ≡ true
+    → is_settled runs ≡ true → ReadsDecided used (m, Ok runs) u → IsSettledFinding runs.first.records u finding
+    → steps_of m finding ++ filter is_in_step (filter_map settled_of outs) ≡ filter is_in_step (candidates_by (reads_none used (m, Ok runs)) (m, Ok runs) outs)
+settled_step m runs used None finding outs t settled free f =
+    in_step_of_use m runs.first.records finding (filter_map settled_of outs) t f
+    ∙ (ap (λ (b : Bool). filter is_in_step (cons_option (cond b (Some (with_records m runs.first.records)) None) (filter_map settled_of outs))) (sym settled)
+    ∙ ap (λ (b : Bool). filter is_in_step (candidates_by b (m, Ok runs) outs)) (sym free))
+settled_step m runs used (Some u) finding outs t settled free f =
     no_steps m finding (ReadsUsed u) (filter_map settled_of outs) f
-    ∙ ap (λ (b : Bool). filter is_in_step (candidates_by b (m, Ok ran) outs)) (sym free)
+    ∙ ap (λ (b : Bool). filter is_in_step (candidates_by b (m, Ok runs) outs)) (sym free)
 
-not_settled : (m : SiteModule) (ran : Ran) → is_settled ran ≡ false → settled_of (m, Ok ran) ≡ None
-not_settled m ran e = rw e refl
+not_settled : (m : SiteModule) (runs : Runs) → is_settled runs ≡ false → settled_of (m, Ok runs) ≡ None
+not_settled m runs e = rw e refl
 
--- the reads of a settled evaluation
-settled_reading : (ran : code.FileRun) → is_settled_ran ran ≡ true → settled_reads (Ok ran) ≡ variables_read (questions_in ran.asked.items)
-settled_reading ran e = rw e refl
+-- what the code has of a file, with the texts that it reads
+pub record OfFile (file : EvaluatedFile) (reads : List Text) (runs : Runs) : Type 0 where
+  pub of : IsOfRuns file runs
+  pub texts : reads ≡ without_repeats (reads_in runs)
 
-ran_step : (m : SiteModule) (ran : code.FileRun) (e : Environment) (ms : List Module) (used : List UsedVariable) (u : Option UsedRead) (finding : ModuleFinding) (outs : List Evaluated)
-    → used_by_modules ms ≡ used → IsAnswer ms (settled_reads (Ok ran)) u
-    → IsFindingOf ran.asked.items (map record_view ran.records.items) u finding
-    → steps_of m finding ++ filter is_in_step (filter_map settled_of outs) ≡ filter is_in_step (candidates_by (reads_none used (m, Ok (ran_view ran e))) (m, Ok (ran_view ran e)) outs)
-ran_step m ran e ms used u finding outs same a (inl (kept, inl (t, f))) =
-    let settled : is_settled_ran ran ≡ true = and_from _ _ (sym (kept_seen (map record_view ran.records.items) ran.asked.items) ∙ kept) t in
-    settled_step m (ran_view ran e) used u finding outs t settled
-    (decided ms used (settled_reads (Ok ran)) m (ran_view ran e) u same a (settled_reading ran settled)) f
-ran_step m ran e ms used u finding outs same a (inl (kept, inr (first, one, is))) =
-    let n : list_all is_reversible (map record_view ran.records.items) ≡ false = not_all is_reversible (map record_view ran.records.items) (record_view first) one in
-    let no : is_settled_ran ran ≡ false = second_false _ _ n in
+-- the reads of a settled file
+settled_reading : (file : EvaluatedFile) (reads : List Text) (runs : Runs) → OfFile file reads runs → is_settled runs ≡ true → SameTexts (reads_where_settled (Ok file) reads) (reads_in runs)
+settled_reading file reads runs o t v =
+    ap (λ (b : Bool). has v (cond b reads [])) (settled_same file runs o.of ∙ t) ∙ (ap (has v) o.texts ∙ has_once v (reads_in runs))
+
+kept_by : (file : EvaluatedFile) (runs : Runs) → IsOfRuns file runs → file.unkept ≡ None → keep_answers runs ≡ true
+kept_by file runs of e = sym (kept_same file runs of) ∙ ap (λ (o : Option Question). is_none o) e
+
+unkept_by : (file : EvaluatedFile) (runs : Runs) (first : Question) → IsOfRuns file runs → file.unkept ≡ Some first → keep_answers runs ≡ false
+unkept_by file runs first of e = sym (kept_same file runs of) ∙ ap (λ (o : Option Question). is_none o) e
+
+-- what a file shows decides whether its module is a candidate in step
+file_step : (m : SiteModule) (file : EvaluatedFile) (reads : List Text) (runs : Runs) (ms : List Module) (used : List UsedVariable) (u : Option UsedRead) (finding : ModuleFinding) (outs : List Evaluated)
+    (unkept : Option Question) → file.unkept ≡ unkept → OfFile file reads runs
+    → used_by_modules ms ≡ used → IsAnswer ms (reads_where_settled (Ok file) reads) u
+    → IsFindingOf unkept runs.first.records u finding
+    → steps_of m finding ++ filter is_in_step (filter_map settled_of outs) ≡ filter is_in_step (candidates_by (reads_none used (m, Ok runs)) (m, Ok runs) outs)
+file_step m file reads runs ms used u finding outs None e o same a (inl (t, f)) =
+    let settled : is_settled runs ≡ true = and_from _ _ (kept_by file runs o.of e) t in
+    settled_step m runs used u finding outs t settled
+    (decided ms used (reads_where_settled (Ok file) reads) m runs u same a (settled_reading file reads runs o settled)) f
+file_step m file reads runs ms used u finding outs None e o same a (inr (first, one, is)) =
+    let n : list_all is_reversible runs.first.records ≡ false = not_all is_reversible runs.first.records (record_view first) one in
+    let no : is_settled runs ≡ false = second_false _ _ n in
     no_steps m finding (OneWay first) (filter_map settled_of outs) is
-    ∙ ap (filter is_in_step) (unsettled (reads_none used (m, Ok (ran_view ran e))) (m, Ok (ran_view ran e)) outs (not_settled m (ran_view ran e) no))
-ran_step m ran e ms used u finding outs same a (inr (first, found, is)) =
-    let rs : List Record = map record_view ran.records.items in
-    let n : list_all (keeps_answer rs) (questions_in ran.asked.items) ≡ false = sym (kept_seen rs ran.asked.items) ∙ not_all (λ q. keeps_answer rs (question_view q)) ran.asked.items first found in
-    let no : is_settled_ran ran ≡ false = first_false _ _ n in
+    ∙ ap (filter is_in_step) (unsettled (reads_none used (m, Ok runs)) (m, Ok runs) outs (not_settled m runs no))
+file_step m file reads runs ms used u finding outs (Some first) e o same a is =
+    let no : is_settled runs ≡ false = first_false _ _ (unkept_by file runs first o.of e) in
     no_steps m finding (Asks first) (filter_map settled_of outs) is
-    ∙ ap (filter is_in_step) (unsettled (reads_none used (m, Ok (ran_view ran e))) (m, Ok (ran_view ran e)) outs (not_settled m (ran_view ran e) no))
+    ∙ ap (filter is_in_step) (unsettled (reads_none used (m, Ok runs)) (m, Ok runs) outs (not_settled m runs no))
 
-step_one : (m : SiteModule) (outcome : Result code.FileRun Refusal) (out : Result Ran RequestReason) (ms : List Module) (used : List UsedVariable) (u : Option UsedRead)
-    (finding : ModuleFinding) (outs : List Evaluated) → IsOutcome outcome out → used_by_modules ms ≡ used → IsAnswer ms (settled_reads outcome) u → IsFinding outcome u finding
+-- the records of the code are those of the definitions
+of_records : (file : EvaluatedFile) (runs : Runs) (u : Option UsedRead) (finding : ModuleFinding) → IsOfRuns file runs → IsFindingOf file.unkept (map record_view file.records.items) u finding
+    → IsFindingOf file.unkept runs.first.records u finding
+of_records file runs u finding of f = subst (λ (rs : List Record). IsFindingOf file.unkept rs u finding) of.records f
+
+reads_by : (reads : List Text) (m : SiteModule) (out : Outcome) (runs : Runs) → out ≡ Ok runs → reads ≡ without_repeats (reads_of (m, out)) → reads ≡ without_repeats (reads_in runs)
+reads_by reads m out runs same e = e ∙ ap (λ (x : Outcome). without_repeats (reads_of (m, x))) same
+
+step_one : (m : SiteModule) (outcome : Result EvaluatedFile Refusal) (reads : List Text) (out : Outcome) (ms : List Module) (used : List UsedVariable) (u : Option UsedRead)
+    (finding : ModuleFinding) (outs : List Evaluated) → IsOutcome outcome out → reads ≡ without_repeats (reads_of (m, out)) → used_by_modules ms ≡ used → IsAnswer ms (reads_where_settled outcome reads) u
+    → IsFinding outcome u finding
     → steps_of m finding ++ filter is_in_step (filter_map settled_of outs) ≡ filter is_in_step (candidates_by (reads_none used (m, out)) (m, out) outs)
-step_one m (Err refusal) out ms used u finding outs o same a f =
+step_one m (Err refusal) reads out ms used u finding outs o texts same a f =
     no_steps m finding (Refused refusal) (filter_map settled_of outs) f
-    ∙ ap (filter is_in_step) (unsettled (reads_none used (m, out)) (m, out) outs (ap (λ (x : Result Ran RequestReason). settled_of (m, x)) o.2))
-step_one m (Ok ran) out ms used u finding outs o same a f =
-    ran_step m ran o.0 ms used u finding outs same a f
-    ∙ sym (ap (λ (x : Result Ran RequestReason). filter is_in_step (candidates_by (reads_none used (m, x)) (m, x) outs)) o.1)
+    ∙ ap (filter is_in_step) (unsettled (reads_none used (m, out)) (m, out) outs (ap (λ (x : Outcome). settled_of (m, x)) o.2))
+step_one m (Ok file) reads out ms used u finding outs (runs, is, of) texts same a f =
+    file_step m file reads runs ms used u finding outs file.unkept refl (record { of = of; texts = reads_by reads m out runs is texts }) same a (of_records file runs u finding of f)
+    ∙ sym (ap (λ (x : Outcome). filter is_in_step (candidates_by (reads_none used (m, x)) (m, x) outs)) is)
 
 -- the modules in step are the candidates that are
 pub steps_are : (ms : List Module) (used : List UsedVariable) (shown : List Shown) (outs : List Evaluated) → used_by_modules ms ≡ used → AreEvaluations (map (λ s. s.0) shown) outs
@@ -200,7 +227,7 @@ steps_are ms used [] (o ∷ outs) same e h a = absurd e
 steps_are ms used (s ∷ shown) [] same e h a = absurd e
 steps_are ms used ((e, u, finding) ∷ shown) ((m, out) ∷ outs) same (one, more) (right, rest) (answer, others) =
     ap (λ (l : List Module). steps_of (evaluated_file e) finding ++ l) (steps_are ms used shown outs same more rest others)
-    ∙ (step_one (evaluated_file e) e.outcome out ms used u finding (filter (reads_none used) outs) one.outcome same answer right
+    ∙ (step_one (evaluated_file e) e.outcome (texts_in e.reads) out ms used u finding (filter (reads_none used) outs) one.outcome one.reads same answer right
     ∙ ap (λ (k : SiteModule). filter is_in_step (candidates_by (reads_none used (k, out)) (k, out) (filter (reads_none used) outs))) (sym (same_file e (m, out) one)))
 
 -- one of them is a candidate
@@ -240,36 +267,36 @@ left_answers all more m (InStep records) [] h = absurd h
 left_answers all more m (InStep records) (answer ∷ answers) h = h.1
 
 -- the module of an outcome with its records, where it is settled and its reads are free, is a candidate
-record IsOneOfThem (site : Site) (ms : List Module) (m : SiteModule) (ran : Ran) : Type 0 where
-  listed : IsAmong (with_records m ran.records) ms
-  records : HasSettledRecords site m ran.records
+record IsOneOfThem (site : Site) (ms : List Module) (m : SiteModule) (runs : Runs) : Type 0 where
+  listed : IsAmong (with_records m runs.first.records) ms
+  records : HasSettledRecords site m runs.first.records
   free : HasFreeReads site m
 
-one_of_them : (site : Site) (outs : List Evaluated) (ms readers : List Module) (m : SiteModule) (ran : Ran) → IsJudging site outs ms readers → IsAmong (m, Ok ran) outs
-    → is_settled ran ≡ true → reads_none (used_by_modules (settled_among outs)) (m, Ok ran) ≡ true → IsOneOfThem site ms m ran
-one_of_them site outs ms readers m ran j a settled free =
-    let n : Module = with_records m ran.records in
+one_of_them : (site : Site) (outs : List Evaluated) (ms readers : List Module) (m : SiteModule) (runs : Runs) → IsJudging site outs ms readers → IsAmong (m, Ok runs) outs
+    → is_settled runs ≡ true → reads_none (used_by_modules (settled_among outs)) (m, Ok runs) ≡ true → IsOneOfThem site ms m runs
+one_of_them site outs ms readers m runs j a settled free =
+    let n : Module = with_records m runs.first.records in
     let listed : IsAmong n ms = subst (IsAmong n) (sym j.candidates)
-    (is_candidate (used_by_modules (settled_among outs)) outs (m, Ok ran) n a (ap (λ (b : Bool). cond b (Some n) None) settled) free) in
+    (is_candidate (used_by_modules (settled_among outs)) outs (m, Ok runs) n a (ap (λ (b : Bool). cond b (Some n) None) settled) free) in
     let c = (j.all n).0 listed in
     record { listed = listed; records = c.settled.records; free = c.free }
 
 -- a module in step by its answer
-answered : (site : Site) (ms : List Module) (m : SiteModule) (ran : Ran) (answers : List (Option Clash)) (more : List Module) → IsOneOfThem site ms m ran
-    → is_in_step (with_records m ran.records) ≡ true → AreAnswers (in_step_of ms) (with_records m ran.records ∷ more) answers → StandsAs site ms m (standing_by answers)
-answered site ms m ran [] more p t h = absurd h
-answered site ms m ran (None ∷ answers) more p t h =
-    let n : Module = with_records m ran.records in
-    (ran.records, p.records, p.free, answered_none ms n p.listed (in_step n t) h.0)
-answered site ms m ran (Some clash ∷ answers) more p t h =
-    let n : Module = with_records m ran.records in
+answered : (site : Site) (ms : List Module) (m : SiteModule) (runs : Runs) (answers : List (Option Clash)) (more : List Module) → IsOneOfThem site ms m runs
+    → is_in_step (with_records m runs.first.records) ≡ true → AreAnswers (in_step_of ms) (with_records m runs.first.records ∷ more) answers → StandsAs site ms m (standing_by answers)
+answered site ms m runs [] more p t h = absurd h
+answered site ms m runs (None ∷ answers) more p t h =
+    let n : Module = with_records m runs.first.records in
+    (runs.first.records, p.records, p.free, answered_none ms n p.listed (in_step n t) h.0)
+answered site ms m runs (Some clash ∷ answers) more p t h =
+    let n : Module = with_records m runs.first.records in
     let c = h.0.0 in (
       c.other,
       c.name,
       c.path,
       h.0.1,
       (
-        ran.records,
+        runs.first.records,
         p.records,
         p.free,
         record { in_step = in_step n t; certain = ones.is_certified ms c.other c.listed; another = c.another; clash = c.clash },
@@ -277,73 +304,76 @@ answered site ms m ran (Some clash ∷ answers) more p t h =
     )
 
 -- a candidate by what it uses
-stands_by_use : (site : Site) (ms : List Module) (m : SiteModule) (ran : Ran) (finding : ModuleFinding) (answers : List (Option Clash)) (more : List Module) → IsOneOfThem site ms m ran
-    → list_all is_reversible ran.records ≡ true → IsUseFinding ran.records finding → AreAnswers (in_step_of ms) (steps_of m finding ++ more) answers
+stands_by_use : (site : Site) (ms : List Module) (m : SiteModule) (runs : Runs) (finding : ModuleFinding) (answers : List (Option Clash)) (more : List Module) → IsOneOfThem site ms m runs
+    → list_all is_reversible runs.first.records ≡ true → IsUseFinding runs.first.records finding → AreAnswers (in_step_of ms) (steps_of m finding ++ more) answers
     → StandsAs site ms m (standing_with (standing_of finding) answers)
-stands_by_use site ms m ran (Stands Certified) answers more p t f h = absurd f
-stands_by_use site ms m ran (Stands (Asks first)) answers more p t f h = absurd f
-stands_by_use site ms m ran (Stands (OneWay first)) answers more p t f h = absurd f
-stands_by_use site ms m ran (Stands (ReadsUsed used)) answers more p t f h = absurd f
-stands_by_use site ms m ran (Stands (OutOfStep v x y)) answers more p t f h = (ran.records, p.records, p.free, f)
-stands_by_use site ms m ran (Stands (Clashes clash)) answers more p t f h = absurd f
-stands_by_use site ms m ran (Stands (Refused refusal)) answers more p t f h = absurd f
-stands_by_use site ms m ran (InStep records) answers more p t f h =
-    answered site ms m ran answers more p (and_from (list_all is_reversible ran.records) (are_in_step (used_by ran.records)) t f.0)
+stands_by_use site ms m runs (Stands Certified) answers more p t f h = absurd f
+stands_by_use site ms m runs (Stands (Asks first)) answers more p t f h = absurd f
+stands_by_use site ms m runs (Stands (OneWay first)) answers more p t f h = absurd f
+stands_by_use site ms m runs (Stands (ReadsUsed used)) answers more p t f h = absurd f
+stands_by_use site ms m runs (Stands (OutOfStep v x y)) answers more p t f h = (runs.first.records, p.records, p.free, f)
+stands_by_use site ms m runs (Stands (Clashes clash)) answers more p t f h = absurd f
+stands_by_use site ms m runs (Stands (Refused refusal)) answers more p t f h = absurd f
+stands_by_use site ms m runs (InStep records) answers more p t f h =
+    answered site ms m runs answers more p (and_from (list_all is_reversible runs.first.records) (are_in_step (used_by runs.first.records)) t f.0)
     (subst (λ (l : List Record). AreAnswers (in_step_of ms) (with_records m l ∷ more) answers) f.1 h)
 
 -- one that reads what a settled module uses
-stands_by_read : (site : Site) (outs : List Evaluated) (ms readers : List Module) (m : SiteModule) (ran : Ran) (u : UsedRead) → IsJudging site outs ms readers → EvaluatesTo site m (Ok ran)
-    → is_settled ran ≡ true → IsUsedRead readers (variables_read ran.asked) u → StandsAs site ms m (ReadsUsed u)
-stands_by_read site outs ms readers m ran u j e settled a =
+stands_by_read : (site : Site) (outs : List Evaluated) (ms readers : List Module) (m : SiteModule) (runs : Runs) (reads : List Text) (u : UsedRead) → IsJudging site outs ms readers → EvaluatesTo site m (Ok runs)
+    → is_settled runs ≡ true → SameTexts reads (reads_in runs) → IsUsedRead readers reads u → StandsAs site ms m (ReadsUsed u)
+stands_by_read site outs ms readers m runs reads u j e settled same a =
     let v : Text = string_bytes u.variable in
-    let reads = (found_passes (λ w. list_any (λ (n : Module). uses_variable w n.records) readers) (variables_read ran.asked) v a.variable).0 in
+    let read = (found_passes (λ w. list_any (λ (n : Module). uses_variable w n.records) readers) reads v a.variable).0 in
     let user = found_passes (λ (n : Module). uses_variable v n.records) readers a.user a.first in
     let x = uses_some v a.user.records user.1 in (
       a.user,
       a.name,
       a.path,
       (
-        ran.records,
-        record { ran = ran; evaluated = e; settled = settled; records = refl },
-        record { ran = ran; evaluated = e; read = has_text v (variables_read ran.asked) reads },
+        runs.first.records,
+        record { runs = runs; evaluated = e; settled = settled; records = refl },
+        record { runs = runs; evaluated = e; read = sym (same v) ∙ has_text v reads read },
         record { settled = (j.settled a.user).0 (j.users a.user v x.0 user.0 x.1); used = x.0; uses = x.1 },
       ),
     )
 
-stands_settled : (site : Site) (outs : List Evaluated) (ms readers : List Module) (m : SiteModule) (ran : Ran) (u : Option UsedRead) (finding : ModuleFinding) (answers : List (Option Clash)) (more : List Module)
-    → IsJudging site outs ms readers → EvaluatesTo site m (Ok ran) → IsAmong (m, Ok ran) outs → is_settled ran ≡ true → list_all is_reversible ran.records ≡ true
-    → IsAnswer readers (variables_read ran.asked) u → IsSettledFinding ran.records u finding → AreAnswers (in_step_of ms) (steps_of m finding ++ more) answers
+stands_settled : (site : Site) (outs : List Evaluated) (ms readers : List Module) (m : SiteModule) (runs : Runs) (reads : List Text) (u : Option UsedRead) (finding : ModuleFinding) (answers : List (Option Clash)) (more : List Module)
+    → IsJudging site outs ms readers → EvaluatesTo site m (Ok runs) → IsAmong (m, Ok runs) outs → is_settled runs ≡ true → list_all is_reversible runs.first.records ≡ true
+    → SameTexts reads (reads_in runs) → IsAnswer readers reads u → IsSettledFinding runs.first.records u finding → AreAnswers (in_step_of ms) (steps_of m finding ++ more) answers
     → StandsAs site ms m (standing_with (standing_of finding) answers)
-stands_settled site outs ms readers m ran None finding answers more j e among settled t a f h =
-    stands_by_use site ms m ran finding answers more
-    (one_of_them site outs ms readers m ran j among settled (decided readers (used_by_modules (settled_among outs)) (variables_read ran.asked) m ran None j.used a refl)) t f h
-stands_settled site outs ms readers m ran (Some u) finding answers more j e among settled t a f h =
-    subst (λ (k : ModuleFinding). StandsAs site ms m (standing_with (standing_of k) answers)) (sym f) (stands_by_read site outs ms readers m ran u j e settled a)
+stands_settled site outs ms readers m runs reads None finding answers more j e among settled t same a f h =
+    stands_by_use site ms m runs finding answers more
+    (one_of_them site outs ms readers m runs j among settled (decided readers (used_by_modules (settled_among outs)) reads m runs None j.used a same)) t f h
+stands_settled site outs ms readers m runs reads (Some u) finding answers more j e among settled t same a f h =
+    subst (λ (k : ModuleFinding). StandsAs site ms m (standing_with (standing_of k) answers)) (sym f) (stands_by_read site outs ms readers m runs reads u j e settled same a)
 
-stands_ran : (site : Site) (outs : List Evaluated) (ms readers : List Module) (m : SiteModule) (ran : code.FileRun) (env : Environment) (u : Option UsedRead) (finding : ModuleFinding)
-    (answers : List (Option Clash)) (more : List Module) → IsJudging site outs ms readers → EvaluatesTo site m (Ok (ran_view ran env)) → IsAmong (m, Ok (ran_view ran env)) outs
-    → IsAnswer readers (settled_reads (Ok ran)) u → IsFindingOf ran.asked.items (map record_view ran.records.items) u finding
+first_unkept : (file : EvaluatedFile) (runs : Runs) (first : Question) → IsOfRuns file runs → file.unkept ≡ Some first → IsFirstUnkept runs (question_view first)
+first_unkept file runs first of e = sym of.unkept ∙ ap (option_map question_view) e
+
+stands_file : (site : Site) (outs : List Evaluated) (ms readers : List Module) (m : SiteModule) (file : EvaluatedFile) (reads : List Text) (runs : Runs) (u : Option UsedRead) (finding : ModuleFinding)
+    (answers : List (Option Clash)) (more : List Module) (unkept : Option Question) → file.unkept ≡ unkept → IsJudging site outs ms readers → EvaluatesTo site m (Ok runs) → IsAmong (m, Ok runs) outs
+    → OfFile file reads runs → IsAnswer readers (reads_where_settled (Ok file) reads) u → IsFindingOf unkept runs.first.records u finding
     → AreAnswers (in_step_of ms) (steps_of m finding ++ more) answers → StandsAs site ms m (standing_with (standing_of finding) answers)
-stands_ran site outs ms readers m ran env u finding answers more j e among a (inl (kept, inl (t, f))) h =
-    let settled : is_settled_ran ran ≡ true = and_from _ _ (sym (kept_seen (map record_view ran.records.items) ran.asked.items) ∙ kept) t in
-    stands_settled site outs ms readers m (ran_view ran env) u finding answers more j e among settled t (subst (λ (l : List Text). IsAnswer readers l u) (settled_reading ran settled) a) f h
-stands_ran site outs ms readers m ran env u finding answers more j e among a (inl (kept, inr (first, one, is))) h =
-    subst (λ (k : ModuleFinding). StandsAs site ms m (standing_with (standing_of k) answers)) (sym is)
-    (ran_view ran env, e, sym (kept_seen (map record_view ran.records.items) ran.asked.items) ∙ kept, one)
-stands_ran site outs ms readers m ran env u finding answers more j e among a (inr (first, found, is)) h =
-    subst (λ (k : ModuleFinding). StandsAs site ms m (standing_with (standing_of k) answers)) (sym is)
-    (ran_view ran env, e, found_seen (keeps_answer (map record_view ran.records.items)) question_view ran.asked.items first found)
+stands_file site outs ms readers m file reads runs u finding answers more None k j e among o a (inl (t, f)) h =
+    let settled : is_settled runs ≡ true = and_from _ _ (kept_by file runs o.of k) t in
+    stands_settled site outs ms readers m runs (reads_where_settled (Ok file) reads) u finding answers more j e among settled t (settled_reading file reads runs o settled) a f h
+stands_file site outs ms readers m file reads runs u finding answers more None k j e among o a (inr (first, one, is)) h =
+    subst (λ (x : ModuleFinding). StandsAs site ms m (standing_with (standing_of x) answers)) (sym is)
+    (runs, e, kept_by file runs o.of k, one)
+stands_file site outs ms readers m file reads runs u finding answers more (Some first) k j e among o a is h =
+    subst (λ (x : ModuleFinding). StandsAs site ms m (standing_with (standing_of x) answers)) (sym is)
+    (runs, e, first_unkept file runs first o.of k)
 
-stands_one : (site : Site) (outs : List Evaluated) (ms readers : List Module) (m : SiteModule) (outcome : Result code.FileRun Refusal)
-    (out : Result Ran RequestReason) (u : Option UsedRead) (finding : ModuleFinding) (answers : List (Option Clash)) (more : List Module)
-    → IsJudging site outs ms readers → IsOutcome outcome out → IsFinding outcome u finding → EvaluatesTo site m out → IsAmong (m, out) outs → IsAnswer readers (settled_reads outcome) u
-    → AreAnswers (in_step_of ms) (steps_of m finding ++ more) answers
+stands_one : (site : Site) (outs : List Evaluated) (ms readers : List Module) (m : SiteModule) (outcome : Result EvaluatedFile Refusal) (reads : List Text)
+    (out : Outcome) (u : Option UsedRead) (finding : ModuleFinding) (answers : List (Option Clash)) (more : List Module)
+    → IsJudging site outs ms readers → IsOutcome outcome out → reads ≡ without_repeats (reads_of (m, out)) → IsFinding outcome u finding → EvaluatesTo site m out → IsAmong (m, out) outs
+    → IsAnswer readers (reads_where_settled outcome reads) u → AreAnswers (in_step_of ms) (steps_of m finding ++ more) answers
     → StandsAs site ms m (standing_with (standing_of finding) answers)
-stands_one site outs ms readers m (Err refusal) out u finding answers more j o f e among a h =
+stands_one site outs ms readers m (Err refusal) reads out u finding answers more j o texts f e among a h =
     subst (λ (k : ModuleFinding). StandsAs site ms m (standing_with (standing_of k) answers)) (sym f) (o.0, o.1, subst (EvaluatesTo site m) o.2 e)
-stands_one site outs ms readers m (Ok ran) out u finding answers more j o f e among a h =
-    stands_ran site outs ms readers m ran o.0 u finding answers more j (subst (EvaluatesTo site m) o.1 e)
-    (subst (λ (x : Result Ran RequestReason). IsAmong (m, x) outs) o.1 among) a f h
+stands_one site outs ms readers m (Ok file) reads out u finding answers more j (runs, is, of) texts f e among a h =
+    stands_file site outs ms readers m file reads runs u finding answers more file.unkept refl j (subst (EvaluatesTo site m) is e)
+    (subst (λ (x : Outcome). IsAmong (m, x) outs) is among) (record { of = of; texts = reads_by reads m out runs is texts }) a (of_records file runs u finding of f) h
 
 more_answers : (all rest : List Module) (m : SiteModule) (finding : ModuleFinding) (answers : List (Option Clash))
     → AreAnswers all (steps_of m finding ++ rest) answers
@@ -360,7 +390,7 @@ all_stand site all ms readers (s ∷ shown) [] answers j e h r a each = absurd e
 all_stand site all ms readers ((e, u, finding) ∷ shown) ((m, out) ∷ outs) answers j (one, more) (right, rest) (answer, others) a each =
     let file : m ≡ evaluated_file e = same_file e (m, out) one in
     let own = each (m, out) (inl refl) in (
-      stands_one site all ms readers (evaluated_file e) e.outcome out u finding answers (flat_map steps_in shown) j one.outcome right
+      stands_one site all ms readers (evaluated_file e) e.outcome (texts_in e.reads) out u finding answers (flat_map steps_in shown) j one.outcome one.reads right
           (subst (λ (k : SiteModule). EvaluatesTo site k out) file own.0) (subst (λ (k : SiteModule). IsAmong (k, out) all) file own.1) answer a,
       all_stand site all ms readers shown outs (answers_left (standing_of finding) answers) j more rest others
           (more_answers (in_step_of ms) (flat_map steps_in shown) (evaluated_file e) finding answers a)
@@ -380,10 +410,6 @@ files_are ((e, u, finding) ∷ shown) ((m, out) ∷ outs) answers (one, more) =
 
 -- and what they read
 
-read_of : (outcome : Result code.FileRun Refusal) (m : SiteModule) (out : Result Ran RequestReason) → IsOutcome outcome out → outcome_reads outcome ≡ reads_of (m, out)
-read_of (Ok ran) m out o = sym (ap (λ (x : Result Ran RequestReason). reads_of (m, x)) o.1)
-read_of (Err refusal) m out o = sym (ap (λ (x : Result Ran RequestReason). reads_of (m, x)) o.2)
-
 pub reads_are : (shown : List Shown) (outs : List Evaluated) (answers : List (Option Clash)) → AreEvaluations (map (λ s. s.0) shown) outs
     → map (λ (m : AuditedModule). texts_in m.reads) (modules_with (map judged_of shown) answers) ≡ map (λ (o : Evaluated). without_repeats (reads_of o)) outs
 reads_are [] [] answers e = refl
@@ -391,7 +417,7 @@ reads_are [] (o ∷ outs) answers e = absurd e
 reads_are (s ∷ shown) [] answers e = absurd e
 reads_are ((e, u, finding) ∷ shown) ((m, out) ∷ outs) answers (one, more) =
     ap (λ (l : List (List Text)). texts_in e.reads ∷ l) (reads_are shown outs (answers_left (standing_of finding) answers) more)
-    ∙ ap (λ (l : List Text). l ∷ map (λ (o : Evaluated). without_repeats (reads_of o)) outs) (one.reads ∙ ap without_repeats (read_of e.outcome m out one.outcome))
+    ∙ ap (λ (l : List Text). l ∷ map (λ (o : Evaluated). without_repeats (reads_of o)) outs) one.reads
 
 -- a finding that is decided is no certificate
 abbrev is_certificate : ModuleFinding → Bool
@@ -407,12 +433,15 @@ by_use rs (OutOfStep v x y) f = refl
 by_use rs (Clashes clash) f = refl
 by_use rs (Refused refusal) f = refl
 
-undecided : (standing : Standing) (outcome : Result code.FileRun Refusal) (u : Option UsedRead) → IsFinding outcome u (Stands standing) → is_certified standing ≡ false
+undecided_file : (standing : Standing) (rs : List Record) (unkept : Option Question) (u : Option UsedRead) → IsFindingOf unkept rs u (Stands standing) → is_certified standing ≡ false
+undecided_file standing rs None None (inl (t, f)) = by_use rs standing f
+undecided_file standing rs None (Some used) (inl (t, f)) = ap is_certificate f
+undecided_file standing rs None u (inr (first, one, is)) = ap is_certificate is
+undecided_file standing rs (Some first) u is = ap is_certificate is
+
+undecided : (standing : Standing) (outcome : Result EvaluatedFile Refusal) (u : Option UsedRead) → IsFinding outcome u (Stands standing) → is_certified standing ≡ false
 undecided standing (Err refusal) u f = ap is_certificate f
-undecided standing (Ok ran) None (inl (kept, inl (t, f))) = by_use (map record_view ran.records.items) standing f
-undecided standing (Ok ran) (Some used) (inl (kept, inl (t, f))) = ap is_certificate f
-undecided standing (Ok ran) u (inl (kept, inr (first, one, is))) = ap is_certificate is
-undecided standing (Ok ran) u (inr (first, found, is)) = ap is_certificate is
+undecided standing (Ok file) u f = undecided_file standing (map record_view file.records.items) file.unkept u f
 
 -- the certified ones are those whose answers are that they clash with none
 pub certified_files_are : (all : List Module) (shown : List Shown) (answers : List (Option Clash)) → AllByRecursion IsShown shown → AreAnswers all (flat_map steps_in shown) answers

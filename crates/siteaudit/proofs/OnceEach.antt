@@ -1,6 +1,6 @@
 -- What is put together, each once, a piece at a time; and names that are compared one by one.
 use Rattle.std.proofs.Common.{◌≡◌, ℕ, ◌+◌, ◌<◌, Bool, true, false, cond, not, ◌&&◌, List, [], ◌∷◌, ◌++◌, length, get_or}
-use Rattle.std.proofs.Common.{take, map, filter, flat_map, filter_map, option_to_list, refl, sym, ap, ◌∙◌, subst, arith, suc}
+use Rattle.std.proofs.Common.{take, map, filter, refl, sym, ap, ◌∙◌, subst}
 use Rattle.std.proofs.Common.{string_bytes, String, Global, Option, Some, None}
 use Rattle.std.specs.Prelude.{bytes_eq}
 use Rattle.std.specs.List.{list_any, cons_option}
@@ -10,7 +10,7 @@ use Rattle.envvars.specs.Texts.{Text}
 use Rattle.modulefile.specs.Records.{Record, conflicts_of, conflict_names, prereqs_of, prereq_groups}
 use Rattle.sitecertificate.proofs.UsedLemmas.{by_test}
 use Rattle.sitelaws.specs.DirectorySets.{with_directories}
-use Rattle.siteaudit.specs.Audits.{same_names}
+use Rattle.settled.specs.Ways.{same_by}
 use Rattle.siteaudit.specs.Mentions.{unknown_among, unknown_groups}
 use Rattle.siteaudit.proofs.AmongLemmas.{taken}
 
@@ -75,20 +75,10 @@ pub unknown_added : (known : Text → Bool) (old new : List Text) (name : Text) 
     → new ≡ with_directories old (unknown_among known (name ∷ []))
 unknown_added known old new name b e f h = subst (λ (t : Bool). new ≡ with_directories old (cond (not t) (name ∷ []) [])) (sym f ∙ e) h
 
-pub group_added : (known : Text → Bool) (old new : List (List Text)) (g : List Text) (a b : Bool) → a ≡ list_any known g → b ≡ list_any (same_names g) old
-    → new ≡ cond (not a && not b) (old ++ g ∷ []) old → new ≡ insert_all same_names old (unknown_groups known (g ∷ []))
-group_added known old new g true b e f h = subst (λ (t : Bool). new ≡ insert_all same_names old (cond (not t) (g ∷ []) [])) e h
+pub group_added : (known : Text → Bool) (old new : List (List Text)) (g : List Text) (a b : Bool) → a ≡ list_any known g → b ≡ list_any (same_by bytes_eq g) old
+    → new ≡ cond (not a && not b) (old ++ g ∷ []) old → new ≡ insert_all (same_by bytes_eq) old (unknown_groups known (g ∷ []))
+group_added known old new g true b e f h = subst (λ (t : Bool). new ≡ insert_all (same_by bytes_eq) old (cond (not t) (g ∷ []) [])) e h
 group_added known old new g false true e f h =
-    subst (λ (t : Bool). new ≡ insert_all same_names old (cond (not t) (g ∷ []) [])) e (subst (λ (t : Bool). new ≡ cond t old (old ++ g ∷ [])) f h)
+    subst (λ (t : Bool). new ≡ insert_all (same_by bytes_eq) old (cond (not t) (g ∷ []) [])) e (subst (λ (t : Bool). new ≡ cond t old (old ++ g ∷ [])) f h)
 group_added known old new g false false e f h =
-    subst (λ (t : Bool). new ≡ insert_all same_names old (cond (not t) (g ∷ []) [])) e (subst (λ (t : Bool). new ≡ cond t old (old ++ g ∷ [])) f h)
-
--- ---- names one by one
-
-pub unlike_lengths : (xs ys : List Text) → (length xs ≡ length ys → ⊥) → same_names xs ys ≡ false
-unlike_lengths [] [] h = absurd (h refl)
-unlike_lengths [] (y ∷ ys) h = refl
-unlike_lengths (x ∷ xs) [] h = refl
-unlike_lengths (x ∷ xs) (y ∷ ys) h = by_test (bytes_eq x y) _
-    (λ t. rw t (unlike_lengths xs ys (λ e. h (ap suc e))))
-    (λ f. rw f refl)
+    subst (λ (t : Bool). new ≡ insert_all (same_by bytes_eq) old (cond (not t) (g ∷ []) [])) e (subst (λ (t : Bool). new ≡ cond t old (old ++ g ∷ [])) f h)

@@ -2,14 +2,14 @@
 use Rattle.std.proofs.Common.{◌≡◌, Bool, List, [], ◌∷◌, ◌++◌, ◌||◌, flat_map, Result, Ok, Err, refl, ap, sym, ◌∙◌}
 use Rattle.modulename.specs.ModuleName.{means}
 use Rattle.envvars.specs.Texts.{Text}
-use Rattle.modulefile.specs.Files.{Ran}
-use Rattle.modulerun.specs.declared.run.FileRun as code
+use Rattle.settled.specs.Ways.{FileRuns}
 use Rattle.requests.specs.Reasons.{RequestReason}
 use Rattle.modules.specs.declared.refusal.Refusal.{Refusal}
 use Rattle.sitelaws.specs.Sites.{SiteModule, Evaluated}
+use Rattle.siteaudit.specs.declared.walk.EvaluatedFile.{EvaluatedFile}
 use Rattle.siteaudit.specs.declared.walk.Evaluation.{Evaluation}
 use Rattle.siteaudit.specs.Walks.{IsOutcome, AreEvaluations}
-use Rattle.siteaudit.specs.Audits.{Mention, means_one, unknown_of, unknown_names}
+use Rattle.siteaudit.specs.Audits.{Mention, means_one, unknown_in, unknown_of, unknown_names}
 use Rattle.siteaudit.specs.Mentions.{is_known, unknown_by, unknown_after}
 use Rattle.siteaudit.proofs.Evaluations.{same_file}
 
@@ -20,10 +20,13 @@ known_alike (e ∷ es) [] h name = absurd h
 known_alike (e ∷ es) (o ∷ outs) h name =
     ap (λ (t : Text). means name t || is_known es name) (sym h.0.name) ∙ ap (λ (b : Bool). means name o.0.name || b) (known_alike es outs h.1 name)
 
-by_outcome : (known : Text → Bool) (m : SiteModule) (outcome : Result code.FileRun Refusal) (out : Result Ran RequestReason) → IsOutcome outcome out
+abbrev Outcome : Type 0
+Outcome = Result (FileRuns RequestReason) RequestReason
+
+by_outcome : (known : Text → Bool) (m : SiteModule) (outcome : Result EvaluatedFile Refusal) (out : Outcome) → IsOutcome outcome out
     → unknown_by known m outcome ≡ unknown_of known (m, out)
-by_outcome known m (Ok ran) out (e, same) = ap (λ (o : Result Ran RequestReason). unknown_of known (m, o)) (sym same)
-by_outcome known m (Err refusal) out (reason, because, same) = ap (λ (o : Result Ran RequestReason). unknown_of known (m, o)) (sym same)
+by_outcome known m (Ok file) out (runs, same, of) = ap (unknown_in known m) of.records ∙ ap (λ (o : Outcome). unknown_of known (m, o)) (sym same)
+by_outcome known m (Err refusal) out (reason, because, same) = ap (λ (o : Outcome). unknown_of known (m, o)) (sym same)
 
 of_each : (known : Text → Bool) (es : List Evaluation) (outs : List Evaluated) → AreEvaluations es outs → flat_map (unknown_after known) es ≡ flat_map (unknown_of known) outs
 of_each known [] [] h = refl

@@ -1,35 +1,34 @@
 -- What of the reads of evaluated modules settled ones use, by the answers for them.
-use Rattle.std.proofs.Common.{◌≡◌, inl, inr, ℕ, ◌+◌, ◌<◌, take, length, get_or, Bool, true, false, cond, not, ◌||◌, List, [], ◌∷◌, ◌++◌, map, find, Option, Some}
+use Rattle.std.proofs.Common.{◌≡◌, inl, inr, ℕ, ◌+◌, ◌<◌, take, length, get_or, Bool, true, false, cond, List, [], ◌∷◌, ◌++◌, map, find, Option, Some}
 use Rattle.std.proofs.Common.{None, Result, Ok, Err, refl, ap, sym, ◌∙◌, subst}
-use Rattle.std.specs.Prelude.{bytes_eq, flat_map}
+use Rattle.std.specs.Prelude.{bytes_eq}
 use Rattle.std.specs.List.{list_any, cons_option, AllByRecursion}
 use Rattle.std.proofs.lemmas.Bool.{false≢true}
 use Rattle.std.proofs.lemmas.List.{map-append, take_more}
 use Rattle.envvars.specs.Texts.{Text, has}
 use Rattle.envvars.proofs.TextLemmas.{same_text, bytes_eq-same}
-use Rattle.modulefile.specs.Files.{Ran}
 use Rattle.modulefile.specs.Records.{Record}
-use Rattle.modulefile.specs.RecordViews.{record_view}
 use Rattle.modulefile.specs.Moves.{Module}
-use Rattle.modulerun.specs.declared.run.FileRun as code
 use Rattle.modules.specs.declared.refusal.Refusal.{Refusal}
 use Rattle.requests.specs.Reasons.{RequestReason}
 use Rattle.reversal.specs.VariableUses.{VariableUse, UsedVariable}
 use Rattle.sitecertificate.specs.RecordUses.{used_by, used_by_modules, IsAmong, Uses}
-use Rattle.sitecertificate.proofs.UsedLemmas.{by_test, by_cases, used_among, user_of}
+use Rattle.sitecertificate.proofs.UsedLemmas.{by_test, used_among, user_of}
 use Rattle.sitecertificate.proofs.Exact.{any_some, some_any}
-use Rattle.sitereads.specs.Reads.{uses_variable, first_user, first_used}
+use Rattle.sitereads.specs.Reads.{uses_variable, first_used}
 use Rattle.sitereads.specs.Answers as answers
 use Rattle.sitereads.specs.Answers.{IsAnswer}
 use Rattle.sitereads.specs.declared.readers.Reader.{Reader}
 use Rattle.sitereads.specs.declared.readers.UsedRead.{UsedRead}
 use Rattle.sitelaws.specs.Sites.{SiteModule, Evaluated, with_records, settled_of, settled_among}
+use Rattle.siteaudit.specs.declared.walk.EvaluatedFile.{EvaluatedFile}
 use Rattle.siteaudit.specs.declared.walk.Evaluation.{Evaluation}
-use Rattle.siteaudit.specs.declared.standing.ModuleFinding.{ModuleFinding}
+use Rattle.siteaudit.proofs.SettledFiles.{records_same}
 use Rattle.siteaudit.specs.Walks.{IsOutcome, AreEvaluations}
-use Rattle.siteaudit.specs.SettledRuns.{is_settled_ran, settled_records, settled_reads, settled_module, evaluated_file}
+use Rattle.settled.specs.Ways.{FileRuns, is_settled}
+use Rattle.siteaudit.specs.SettledRuns.{settled_records, settled_reads, settled_module}
 use Rattle.siteaudit.specs.SettledRuns.{AreUsedReads}
-use Rattle.siteaudit.specs.Findings.{Shown, first_read, reads_along}
+use Rattle.siteaudit.specs.Findings.{Shown, reads_along}
 use Rattle.siteaudit.proofs.AmongLemmas.{among_map, of_map}
 use Rattle.siteaudit.proofs.Evaluations.{same_file}
 
@@ -96,12 +95,16 @@ module_by : (m : SiteModule) (rs : List Record) (b : Bool) (rest : List Module)
 module_by m rs true rest = refl
 module_by m rs false rest = refl
 
-one_used : (m : SiteModule) (outcome : Result code.FileRun Refusal) (out : Result Ran RequestReason) (rest : List Module) → IsOutcome outcome out
+abbrev Outcome : Type 0
+Outcome = Result (FileRuns RequestReason) RequestReason
+
+one_used : (m : SiteModule) (outcome : Result EvaluatedFile Refusal) (out : Outcome) (rest : List Module) → IsOutcome outcome out
     → used_by (settled_records outcome) ++ used_by_modules rest ≡ used_by_modules (cons_option (settled_of (m, out)) rest)
-one_used m (Ok ran) out rest o =
-    module_by m (map record_view ran.records.items) (is_settled_ran ran) rest
-    ∙ sym (ap (λ (x : Result Ran RequestReason). used_by_modules (cons_option (settled_of (m, x)) rest)) o.1)
-one_used m (Err refusal) out rest o = sym (ap (λ (x : Result Ran RequestReason). used_by_modules (cons_option (settled_of (m, x)) rest)) o.2)
+one_used m (Ok file) out rest (runs, same, of) =
+    ap (λ (rs : List Record). used_by rs ++ used_by_modules rest) (records_same file runs of)
+    ∙ (module_by m runs.first.records (is_settled runs) rest
+    ∙ sym (ap (λ (x : Outcome). used_by_modules (cons_option (settled_of (m, x)) rest)) same))
+one_used m (Err refusal) out rest o = sym (ap (λ (x : Outcome). used_by_modules (cons_option (settled_of (m, x)) rest)) o.2)
 
 -- they use the same variables
 pub same_used : (es : List Evaluation) (outs : List Evaluated) → AreEvaluations es outs → used_by_modules (map settled_module es) ≡ used_by_modules (settled_among outs)
@@ -118,11 +121,11 @@ user_by : (n : Module) (m : SiteModule) (rs : List Record) (b : Bool) (v : Text)
 user_by n m rs true v x rest same u = inl same
 user_by n m rs false v x rest same u = absurd (subst (λ (k : Module). Uses k.records v x) same u)
 
-one_user : (n : Module) (e : Evaluation) (o : Evaluated) (v : Text) (x : VariableUse) (rest : List Module) (outcome : Result code.FileRun Refusal) → IsOutcome outcome o.1
+one_user : (n : Module) (e : Evaluation) (o : Evaluated) (v : Text) (x : VariableUse) (rest : List Module) (outcome : Result EvaluatedFile Refusal) → IsOutcome outcome o.1
     → n ≡ with_records o.0 (settled_records outcome) → Uses n.records v x → IsAmong n (cons_option (settled_of o) rest)
-one_user n e (m, out) v x rest (Ok ran) h same u =
-    subst (λ (k : Result Ran RequestReason). IsAmong n (cons_option (settled_of (m, k)) rest)) (sym h.1)
-    (user_by n m (map record_view ran.records.items) (is_settled_ran ran) v x rest same u)
+one_user n e (m, out) v x rest (Ok file) (runs, is, of) same u =
+    subst (λ (k : Outcome). IsAmong n (cons_option (settled_of (m, k)) rest)) (sym is)
+    (user_by n m runs.first.records (is_settled runs) v x rest (same ∙ ap (with_records m) (records_same file runs of)) u)
 one_user n e (m, out) v x rest (Err refusal) h same u = absurd (subst (λ (k : Module). Uses k.records v x) same u)
 
 later_one : (n : Module) (o : Option Module) (rest : List Module) → IsAmong n rest → IsAmong n (cons_option o rest)
@@ -140,7 +143,7 @@ user_settled (e ∷ es) (o ∷ outs) n v x h (inr a) u = later_one n (settled_of
 -- ---- the answer of each
 
 abbrev pub AnswersShown : List Module → Shown → Type 0
-AnswersShown ms s = IsAnswer ms (settled_reads s.0.outcome) s.1
+AnswersShown ms s = IsAnswer ms (settled_reads s.0) s.1
 
 one_tail : (x y : Option UsedRead) (xs ys : List (Option UsedRead)) → x ∷ xs ≡ y ∷ ys → (x ≡ y) × (xs ≡ ys)
 one_tail x y xs ys e = (cc, cc)
@@ -151,7 +154,7 @@ answers_shown ms [] used h e = tt
 answers_shown ms (s ∷ shown) [] h e = absurd h
 answers_shown ms (s ∷ shown) (answer ∷ used) h e =
     let p = one_tail s.1 answer (map (λ (k : Shown). k.1) shown) (reads_along (map (λ (k : Shown). k.0) shown) used) e in
-    (subst (IsAnswer ms (settled_reads s.0.outcome)) (sym p.0) h.0, answers_shown ms shown used h.1 p.1)
+    (subst (IsAnswer ms (settled_reads s.0)) (sym p.0) h.0, answers_shown ms shown used h.1 p.1)
 
 -- ---- readers in turn
 
@@ -164,7 +167,7 @@ map_turn f g xs ys i y x l e before now =
 one_more_read : (x y : List Text) (xs ys : List (List Text)) → x ∷ xs ≡ y ∷ ys → (x ≡ y) × (xs ≡ ys)
 one_more_read x y xs ys e = (cc, cc)
 
-pub used_along : (ms : List Module) (es : List Evaluation) (rs : List Reader) (used : List (Option UsedRead)) → map answers.reads_of rs ≡ map (λ (e : Evaluation). settled_reads e.outcome) es
+pub used_along : (ms : List Module) (es : List Evaluation) (rs : List Reader) (used : List (Option UsedRead)) → map answers.reads_of rs ≡ map settled_reads es
     → answers.AreAnswers ms rs used → AreUsedReads ms es used
 used_along ms [] [] used e h = none used h
   where
@@ -175,5 +178,5 @@ used_along ms [] (r ∷ rs) used e h = absurd (cc)
 used_along ms (x ∷ es) [] used e h = absurd (cc)
 used_along ms (x ∷ es) (r ∷ rs) [] e h = absurd h
 used_along ms (x ∷ es) (r ∷ rs) (u ∷ used) e h =
-    let p = one_more_read (answers.reads_of r) (settled_reads x.outcome) (map answers.reads_of rs) (map (λ (k : Evaluation). settled_reads k.outcome) es) e in
+    let p = one_more_read (answers.reads_of r) (settled_reads x) (map answers.reads_of rs) (map settled_reads es) e in
     (subst (λ (l : List Text). IsAnswer ms l u) p.0 h.0, used_along ms es rs used p.1 h.1)

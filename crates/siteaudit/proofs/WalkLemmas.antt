@@ -6,34 +6,27 @@ use Rattle.std.proofs.lemmas.List.{map-append, take_more}
 use Rattle.envvars.specs.Texts.{Text}
 use Rattle.envvars.specs.Fields.{without_repeats, are_distinct}
 use Rattle.envloaded.proofs.LoadedReadable.{distinct_firsts}
-use Rattle.filetree.specs.Modulefiles.{modulefile, path_of}
-use Rattle.filetree.specs.Relations.{IsOne}
-use Rattle.filetree.proofs.OneOutcome.{one_is, one_then}
-use Rattle.modulefile.specs.Files as files
-use Rattle.modulefile.specs.Files.{RunsFile}
+use Rattle.filetree.specs.Modulefiles.{path_of}
 use Rattle.modulefile.specs.Laws as laws
-use Rattle.modulefile.specs.RecordViews.{record_view}
-use Rattle.modulerun.specs.declared.run.FileRun.{FileRun}
-use Rattle.modulerun.specs.Running.{ran_view}
 use Rattle.search.specs.ListingEntries.{name_of}
 use Rattle.search.specs.declared.listing_entries.ListingEntry.{ListingEntry}
-use Rattle.modulefile.specs.Effects as modes
 use Rattle.modulefile.specs.Records.{Record}
-use Rattle.requests.specs.Reasons.{RequestReason, file_refused}
-use Rattle.requests.specs.Refusals.{refused_as, RefusedAs}
-use Rattle.requests.specs.Steps.{entries_of, script_at, context_of}
-use Rattle.settled.specs.Resting.{is_settled}
+use Rattle.requests.specs.Reasons.{RequestReason}
+use Rattle.settled.specs.Ways.{FileRuns, is_settled}
 use Rattle.modules.specs.declared.refusal.Refusal.{Refusal}
 use Rattle.sitecertificate.specs.RecordUses.{IsAmong}
 use Rattle.sitelaws.specs.Sites.{Site, SiteModule, Evaluated, EvaluatesTo, HasSettledRecords, IsIn, IsDirectory, first}
 use Rattle.sitelaws.specs.Sites.{added, IsClosed, AreNamesBelow, AreModulesIn, module_below, first_directories}
-use Rattle.sitelaws.specs.Sites.{added_directories, over_site, with_records}
+use Rattle.sitelaws.specs.Sites.{added_directories, with_records}
 use Rattle.sitelaws.specs.Laws.{DirectoriesFound}
 use Rattle.sitelaws.specs.DirectorySets.{with_directories}
 use Rattle.siteaudit.specs.declared.walk.Evaluation.{Evaluation}
 use Rattle.siteaudit.specs.Walks.{directories_by_settled, directories_of, IsWalk, IsOutcome, AreEvaluations, HasTooMany}
 use Rattle.siteaudit.specs.Walks.{most_directories}
-use Rattle.siteaudit.specs.SettledRuns.{is_settled_ran, directories_after}
+use Rattle.siteaudit.specs.SettledRuns.{directories_after}
+use Rattle.siteaudit.specs.declared.walk.EvaluatedFile.{EvaluatedFile}
+use Rattle.sitelaws.proofs.Evaluations.{one_outcome}
+use Rattle.siteaudit.proofs.SettledFiles.{records_same}
 use Rattle.siteaudit.specs.WalkParts.{directories_found, AreEvaluationsOf}
 use Rattle.siteaudit.specs.WalkParts.{IsEvaluationOf, GoesThrough}
 use Rattle.sitecertificate.proofs.UsedLemmas.{by_cases, among_left, among_right, among_either}
@@ -102,10 +95,14 @@ by_tests : (m : SiteModule) (rs : List Record) (b : Bool) → directories_by_set
 by_tests m rs true = refl
 by_tests m rs false = refl
 
-found_of : (m : SiteModule) (o : Result FileRun Refusal) (p : Result files.Ran RequestReason) → IsOutcome o p → directories_after o ≡ directories_of (m, p)
-found_of m (Ok ran) p (e, same) =
-    sym (ap (λ (q : Result files.Ran RequestReason). directories_of (m, q)) same ∙ by_tests m (map record_view ran.records.items) (is_settled_ran ran))
-found_of m (Err refusal) p (reason, because, same) = sym (ap (λ (q : Result files.Ran RequestReason). directories_of (m, q)) same)
+abbrev Outcome : Type 0
+Outcome = Result (FileRuns RequestReason) RequestReason
+
+found_of : (m : SiteModule) (o : Result EvaluatedFile Refusal) (p : Outcome) → IsOutcome o p → directories_after o ≡ directories_of (m, p)
+found_of m (Ok file) p (runs, same, of) =
+    ap added_directories (records_same file runs of)
+    ∙ sym (ap (λ (q : Outcome). directories_of (m, q)) same ∙ by_tests m runs.first.records (is_settled runs))
+found_of m (Err refusal) p (reason, because, same) = sym (ap (λ (q : Outcome). directories_of (m, q)) same)
 
 found_same : (xs : List Evaluation) (os : List Evaluated) → AreEvaluations xs os → directories_found xs ≡ flat_map directories_of os
 found_same [] [] h = refl
@@ -146,36 +143,28 @@ in_directory site dir names m below a =
 
 -- ---- settled modules
 
-one_refused_as : {A R S : Type 0} {f : R → S} {First : Result A R → Type 0} → IsOne First → IsOne (RefusedAs f First)
-one_refused_as {f = f} u o p h k = h.2 ∙ (ap (refused_as f) (u h.0 k.0 h.1 k.1) ∙ sym k.2)
-
-one_outcome : laws.OneOutcome → (site : Site) (m : SiteModule) → IsOne (EvaluatesTo site m)
-one_outcome one site m =
-    one_then (one_is (entries_of site.env)) (λ xs. one_then (one_is (script_at m.path (modulefile (site.files m.path)))) (λ text.
-    one_refused_as {f = file_refused} {First = RunsFile site.limits (context_of (over_site site) modes.load false m.name m.name m.path xs site.env) text}
-    (one site.limits (context_of (over_site site) modes.load false m.name m.name m.path xs site.env) text)))
-
 by_settled : (d : Text) (b : Bool) (m : SiteModule) (rs : List Record) → IsAmong d (directories_by_settled (cond b (Some (with_records m rs)) None)) → (b ≡ true) × IsAmong d (added_directories rs)
 by_settled d true m rs a = (refl, a)
 by_settled d false m rs a = absurd a
 
 -- a module that adds a directory is settled
-is_settled_one : (site : Site) (d : Text) (m : SiteModule) (o : Result files.Ran RequestReason) → EvaluatesTo site m o
+is_settled_one : (site : Site) (d : Text) (m : SiteModule) (o : Outcome) → EvaluatesTo site m o
     → IsAmong d (directories_of (m, o)) → (rs : List Record) × HasSettledRecords site m rs
     × IsAmong d (added_directories rs)
 is_settled_one site d m (Err reason) h a = absurd a
-is_settled_one site d m (Ok ran) h a =
-    let v = by_settled d (is_settled ran) m ran.records a in
-    (ran.records, record { ran = ran; evaluated = h; settled = v.0; records = refl }, v.1)
+is_settled_one site d m (Ok runs) h a =
+    let v = by_settled d (is_settled runs) m runs.first.records a in
+    (runs.first.records, record { runs = runs; evaluated = h; settled = v.0; records = refl }, v.1)
 
 -- and a settled module adds the directories of its records
-adds_its : laws.OneOutcome → (site : Site) (d : Text) (m : SiteModule) (o : Result files.Ran RequestReason) (rs : List Record) → EvaluatesTo site m o → HasSettledRecords site m rs
+adds_its : laws.OneOutcome → (site : Site) (d : Text) (m : SiteModule) (o : Outcome) (rs : List Record) → EvaluatesTo site m o → HasSettledRecords site m rs
     → IsAmong d (added_directories rs) → IsAmong d (directories_of (m, o))
 adds_its one site d m o rs h p a =
-    let out : Ok p.ran ≡ o = one_outcome one site m (Ok p.ran) o p.evaluated h in
-    let v : directories_by_settled (cond (is_settled p.ran) (Some (with_records m p.ran.records)) None) ≡ added_directories p.ran.records
-    = ap (λ (b : Bool). directories_by_settled (cond b (Some (with_records m p.ran.records)) None)) p.settled in
-    subst (λ (q : Result files.Ran RequestReason). IsAmong d (directories_of (m, q))) out
+    let out : Ok p.runs ≡ o = one_outcome one site m (Ok p.runs) o p.evaluated h in
+    let rs' : List Record = p.runs.first.records in
+    let v : directories_by_settled (cond (is_settled p.runs) (Some (with_records m rs')) None) ≡ added_directories rs'
+    = ap (λ (b : Bool). directories_by_settled (cond b (Some (with_records m rs')) None)) p.settled in
+    subst (λ (q : Outcome). IsAmong d (directories_of (m, q))) out
     (subst (IsAmong d) (sym v) (subst (λ (qs : List Record). IsAmong d (added_directories qs)) p.records a))
 
 -- ---- the walk

@@ -1,5 +1,5 @@
 -- What an audit of a site finds (own).
-use Rattle.std.specs.Prelude.{◌≡◌, ◌↔◌, Bool, true, false, not, ◌&&◌, List, [], ◌∷◌, ◌++◌, map, filter, flat_map}
+use Rattle.std.specs.Prelude.{◌≡◌, ◌↔◌, Bool, true, false, not, List, [], ◌∷◌, ◌++◌, map, filter, flat_map}
 use Rattle.std.specs.Prelude.{Ok, Err, bytes_eq, string_bytes}
 use Rattle.std.specs.List.{list_any}
 use Rattle.indexmap.specs.IndexSet.{insert_all}
@@ -20,8 +20,10 @@ use Rattle.sitecertificate.specs.UseViews.{use_view, used_view}
 use Rattle.sitecertificate.specs.Disagreements.{AreDisagreements}
 use Rattle.sitecertificate.specs.DisagreementViews.{disagreement_view}
 use Rattle.sitecertificate.specs.EachOnce.{each_once}
+use Rattle.settled.specs.Ways.{same_by}
 use Rattle.sitelaws.specs.Sites.{Site, SiteModule, Evaluated, file_of, HasSettledRecords, AreCandidates}
-use Rattle.sitelaws.specs.Sites.{candidates_among, reads_of}
+use Rattle.sitereads.specs.Answers.{IsUsedRead}
+use Rattle.sitelaws.specs.Sites.{settled_among, candidates_among, reads_of}
 use Rattle.sitelaws.specs.Standings as standings
 use Rattle.sitelaws.specs.Standings.{HasStanding}
 use Rattle.sitelaws.specs.Laws.{CertificateHolds}
@@ -68,6 +70,22 @@ abbrev pub AllStand : Site → List Module → List AuditedModule → Type 0
 AllStand site ms [] = Unit {0}
 AllStand site ms (m ∷ audited) = StandsAs site ms (audited_file m) m.standing × AllStand site ms audited
 
+-- A module of these reads that stands as one of whose reads a settled module uses one names the first such read, and the
+-- first of the settled modules that uses it.
+abbrev pub IsFirstRead : List Module → List Text → Standing → Type 0
+IsFirstRead settled reads (ReadsUsed used) = IsUsedRead settled reads used
+IsFirstRead settled reads Certified = Unit {0}
+IsFirstRead settled reads (Asks first) = Unit {0}
+IsFirstRead settled reads (OneWay first) = Unit {0}
+IsFirstRead settled reads (OutOfStep variable one other) = Unit {0}
+IsFirstRead settled reads (Clashes clash) = Unit {0}
+IsFirstRead settled reads (Refused refusal) = Unit {0}
+
+-- so does each of them
+abbrev pub AreFirstReads : List Module → List AuditedModule → Type 0
+AreFirstReads settled [] = Unit {0}
+AreFirstReads settled (m ∷ audited) = IsFirstRead settled (texts_in m.reads) m.standing × AreFirstReads settled audited
+
 -- it stands as certified
 abbrev pub is_certified : Standing → Bool
 is_certified Certified = true
@@ -107,17 +125,10 @@ means_one outcomes name = list_any (λ outcome. means name outcome.0.name) outco
 abbrev pub unknown_conflicts : (Text → Bool) → List Record → List Text
 unknown_conflicts known rs = without_repeats (filter (λ name. not (known name)) (conflict_names rs))
 
--- they are the same names in the same order
-abbrev pub same_names : List Text → List Text → Bool
-same_names [] [] = true
-same_names [] (y ∷ ys) = false
-same_names (x ∷ xs) [] = false
-same_names (x ∷ xs) (y ∷ ys) = bytes_eq x y && same_names xs ys
-
 -- the prereqs of records of which no name is known, each once
 abbrev pub unknown_prereqs : (Text → Bool) → List Record → List (List Text)
 unknown_prereqs known rs =
-    insert_all same_names [] (filter (λ names. not (list_any known names)) (prereq_groups rs))
+    insert_all (same_by bytes_eq) [] (filter (λ names. not (list_any known names)) (prereq_groups rs))
 
 -- the module has the name in a conflict
 abbrev pub conflict_mention : SiteModule → Text → Mention
@@ -134,7 +145,7 @@ unknown_in known m rs =
 
 -- the same of an evaluated module
 abbrev pub unknown_of : (Text → Bool) → Evaluated → List Mention
-unknown_of known (m, Ok ran) = unknown_in known m ran.records
+unknown_of known (m, Ok runs) = unknown_in known m runs.first.records
 unknown_of known (m, Err reason) = []
 
 -- what these modules mention in turn that means none of them
@@ -144,7 +155,7 @@ unknown_names outcomes = flat_map (unknown_of (means_one outcomes)) outcomes
 -- ---- the whole
 
 -- What was found is an audit of the site: a walk over it has these directories and these outcomes. It has each module
--- of the walk, in its order, with the variables that its evaluation reads, each once, and how it stands; the certificate
+-- of the walk, in its order, with the variables that its evaluations read, each once, and how it stands, with the first of its reads that a settled module uses; the certificate
 -- of its candidates, each use once; those of its directories that aren't there, in their order; the files in the places
 -- of modules that are no modulefiles; the bad default files of the modules in turn, each once; the names that mean no
 -- module; and the reasons for which the environment at hand doesn't agree with the certificate, use after use.
@@ -156,6 +167,7 @@ pub record IsAudit (site : Site) (found : SiteAudit) : Type 0 where
   pub modules : map audited_file found.modules.items ≡ map (λ outcome. outcome.0) outcomes
   pub reads : map (λ m. texts_in m.reads) found.modules.items ≡ map (λ o. without_repeats (reads_of o)) outcomes
   pub standing : AllStand site (candidates_among outcomes) found.modules.items
+  pub used : AreFirstReads (settled_among outcomes) found.modules.items
   pub certificate : map used_view found.certificate.items ≡ each_once (certificate (candidates_among outcomes))
   pub missing_directories : texts_in found.missing_directories ≡ missing_among site.listings dirs
   pub no_modulefiles : AreNoModulefiles site.files site.listings dirs (texts_in found.no_modulefiles)

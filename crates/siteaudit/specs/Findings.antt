@@ -1,13 +1,11 @@
 -- What each module of a site shows by itself, and what the answers about clashes make of it: for this crate's own
 -- contracts alone.
-use Rattle.std.specs.Prelude.{◌≡◌, ◌⊎◌, Bool, true, false, not, List, [], ◌∷◌, ◌++◌, map, find, flat_map, Option, Some}
+use Rattle.std.specs.Prelude.{◌≡◌, ◌⊎◌, true, false, List, [], ◌∷◌, ◌++◌, map, flat_map, Option, Some}
 use Rattle.std.specs.Prelude.{None, Result, Ok, Err, string_bytes}
 use Rattle.std.specs.List.{list_all, AllByRecursion}
 use Rattle.envvars.specs.Fields.{colon}
 use Rattle.modulefile.specs.RecordViews.{record_view}
 use Rattle.modulerun.specs.declared.question.Question.{Question}
-use Rattle.modulerun.specs.declared.run.FileRun.{FileRun}
-use Rattle.modulerun.specs.Questions.{question_view}
 use Rattle.modulefile.specs.Records.{Record}
 use Rattle.modulefile.specs.declared.records.Record as code
 use Rattle.modulefile.specs.Moves.{Module}
@@ -17,13 +15,13 @@ use Rattle.modules.specs.declared.refusal.Refusal.{Refusal}
 use Rattle.sitecertificate.specs.RecordUses.{used_by, used_by_modules, IsAmong, modulepath, same_use}
 use Rattle.sitecertificate.specs.RecordUses.{are_in_step}
 use Rattle.sitecertificate.specs.UseViews.{use_view}
-use Rattle.settled.specs.Resting.{keeps_answer}
 use Rattle.sitereads.specs.declared.readers.UsedRead.{UsedRead}
 use Rattle.sitelaws.specs.Sites.{SiteModule, with_records}
 use Rattle.sitelaws.specs.Standings.{IsFirstOneWay, IsUsedTwice}
 use Rattle.sitecertificate.specs.declared.answers.Clash.{Clash}
 use Rattle.sitecertificate.specs.ClashAnswers.{AreAnswers, without_clashes}
 use Rattle.sitecertificate.specs.EachOnce.{each_once}
+use Rattle.siteaudit.specs.declared.walk.EvaluatedFile.{EvaluatedFile}
 use Rattle.siteaudit.specs.declared.walk.Evaluation.{Evaluation}
 use Rattle.siteaudit.specs.SettledRuns.{AreUsedReads, evaluated_file, settled_module}
 use Rattle.siteaudit.specs.declared.standing.UnlikeUses.{UnlikeUses}
@@ -67,20 +65,14 @@ IsKeptFinding rs used finding =
     ((list_all is_reversible rs ≡ true) × IsSettledFinding rs used finding)
     ⊎ ((first : code.Record) × IsFirstOneWay rs (record_view first) × (finding ≡ Stands (OneWay first)))
 
--- the questions keep their answers beside these records
-abbrev pub are_kept : List Record → List Question → Bool
-are_kept rs questions = list_all (λ q. keeps_answer rs (question_view q)) questions
+-- What a module with these records shows by itself, of whose questions this is the first that doesn't keep its answer.
+abbrev pub IsFindingOf : Option Question → List Record → Option UsedRead → ModuleFinding → Type 0
+IsFindingOf None rs used finding = IsKeptFinding rs used finding
+IsFindingOf (Some first) rs used finding = finding ≡ Stands (Asks first)
 
--- What a module with these records shows by itself that asked these questions.
-abbrev pub IsFindingOf : List Question → List Record → Option UsedRead → ModuleFinding → Type 0
-IsFindingOf questions rs used finding =
-    ((are_kept rs questions ≡ true) × IsKeptFinding rs used finding)
-    ⊎ ((first : Question) × (find (λ q. not (keeps_answer rs (question_view q))) questions ≡ Some first)
-    × (finding ≡ Stands (Asks first)))
-
--- what the outcome of its evaluation shows, and what it reads that a settled module uses
-abbrev pub IsFinding : Result FileRun Refusal → Option UsedRead → ModuleFinding → Type 0
-IsFinding (Ok ran) used finding = IsFindingOf ran.asked.items (map record_view ran.records.items) used finding
+-- what the outcome of its evaluations shows, and what it reads that a settled module uses
+abbrev pub IsFinding : Result EvaluatedFile Refusal → Option UsedRead → ModuleFinding → Type 0
+IsFinding (Ok file) used finding = IsFindingOf file.unkept (map record_view file.records.items) used finding
 IsFinding (Err refusal) used finding = finding ≡ Stands (Refused refusal)
 
 -- its standing, unless others decide

@@ -6,9 +6,9 @@ use Rattle.std.specs.declared.string.String.{String}
 use Rattle.modulename.specs.ModuleName.{means}
 use Rattle.envvars.specs.Texts.{Text, has}
 use Rattle.modulefile.specs.RecordViews.{record_view}
-use Rattle.modulerun.specs.declared.run.FileRun.{FileRun}
 use Rattle.modules.specs.declared.refusal.Refusal.{Refusal}
 use Rattle.sitelaws.specs.Sites.{SiteModule}
+use Rattle.siteaudit.specs.declared.walk.EvaluatedFile.{EvaluatedFile}
 use Rattle.siteaudit.specs.declared.walk.Evaluation.{Evaluation}
 use Rattle.siteaudit.specs.Audits.{Mention, unknown_in}
 use Rattle.siteaudit.specs.SettledRuns.{evaluated_file}
@@ -30,8 +30,8 @@ abbrev pub unknown_groups : (Text → Bool) → List (List Text) → List (List 
 unknown_groups known groups = filter (λ names. not (list_any known names)) groups
 
 -- what an evaluation mentions that is unknown
-abbrev pub unknown_by : (Text → Bool) → SiteModule → Result FileRun Refusal → List Mention
-unknown_by known m (Ok ran) = unknown_in known m (map record_view ran.records.items)
+abbrev pub unknown_by : (Text → Bool) → SiteModule → Result EvaluatedFile Refusal → List Mention
+unknown_by known m (Ok file) = unknown_in known m (map record_view file.records.items)
 unknown_by known m (Err refusal) = []
 
 -- what an evaluated module mentions

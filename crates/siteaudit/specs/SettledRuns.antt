@@ -1,46 +1,45 @@
 -- The evaluations of settled modules, by what the code has of them: for this crate's own contracts alone.
-use Rattle.std.specs.Prelude.{◌≡◌, Bool, true, false, ◌&&◌, List, [], ◌∷◌, map, if◌then◌else◌, Option, Some, None}
-use Rattle.std.specs.Prelude.{Result, Ok, Err, string_bytes}
+use Rattle.std.specs.Prelude.{◌≡◌, Bool, true, false, ◌&&◌, List, [], ◌∷◌, map, if◌then◌else◌, is_none, Option, Some}
+use Rattle.std.specs.Prelude.{None, Result, Ok, Err, string_bytes}
 use Rattle.std.specs.List.{list_all}
 use Rattle.std.specs.Borrow.{Bor}
-use Rattle.envvars.specs.Texts.{Text}
+use Rattle.envvars.specs.Texts.{Text, texts_in}
 use Rattle.modulefile.specs.Records.{Record}
 use Rattle.modulefile.specs.RecordViews.{record_view}
 use Rattle.modulefile.specs.Moves.{Module}
-use Rattle.modulerun.specs.declared.run.FileRun.{FileRun}
-use Rattle.modulerun.specs.Questions.{questions_in}
 use Rattle.modules.specs.declared.refusal.Refusal.{Refusal}
 use Rattle.reversal.specs.VariableUses.{is_reversible}
-use Rattle.settled.specs.Resting.{keeps_answer, variables_read}
 use Rattle.sitereads.specs.Answers.{IsAnswer}
 use Rattle.sitereads.specs.declared.readers.UsedRead.{UsedRead}
 use Rattle.sitelaws.specs.Sites.{SiteModule, with_records, added_directories}
+use Rattle.siteaudit.specs.declared.walk.EvaluatedFile.{EvaluatedFile}
 use Rattle.siteaudit.specs.declared.walk.Evaluation.{Evaluation}
 
--- the evaluation is that of a settled module
-abbrev pub is_settled_ran : FileRun → Bool
-is_settled_ran ran =
-    list_all (keeps_answer (map record_view ran.records.items)) (questions_in ran.asked.items)
-    && list_all is_reversible (map record_view ran.records.items)
+-- the file is that of a settled module
+abbrev pub is_settled_file : EvaluatedFile → Bool
+is_settled_file file = is_none file.unkept && list_all is_reversible (map record_view file.records.items)
 
--- what it left, where it is one
-abbrev pub is_settled_run : Result FileRun Refusal → Option (Bor FileRun) → Type 0
-is_settled_run (Ok ran) (Some found) = (is_settled_ran ran ≡ true) × (found.now ≡ ran)
-is_settled_run (Ok ran) None = is_settled_ran ran ≡ false
-is_settled_run (Err refusal) found = found ≡ None
+-- what its evaluations show, where it is one
+abbrev pub is_settled_outcome : Result EvaluatedFile Refusal → Option (Bor EvaluatedFile) → Type 0
+is_settled_outcome (Ok file) (Some found) = (is_settled_file file ≡ true) × (found.now ≡ file)
+is_settled_outcome (Ok file) None = is_settled_file file ≡ false
+is_settled_outcome (Err refusal) found = found ≡ None
 
--- the records of a module whose evaluation leaves this, where it is settled
-abbrev pub settled_records : Result FileRun Refusal → List Record
-settled_records (Ok ran) = if is_settled_ran ran then map record_view ran.records.items else []
+-- the records of a module whose evaluations show this, where it is settled
+abbrev pub settled_records : Result EvaluatedFile Refusal → List Record
+settled_records (Ok file) = if is_settled_file file then map record_view file.records.items else []
 settled_records (Err refusal) = []
 
 -- the variables that it reads, where it is settled
-abbrev pub settled_reads : Result FileRun Refusal → List Text
-settled_reads (Ok ran) = if is_settled_ran ran then variables_read (questions_in ran.asked.items) else []
-settled_reads (Err refusal) = []
+abbrev pub reads_where_settled : Result EvaluatedFile Refusal → List Text → List Text
+reads_where_settled (Ok file) reads = if is_settled_file file then reads else []
+reads_where_settled (Err refusal) reads = []
+
+abbrev pub settled_reads : Evaluation → List Text
+settled_reads e = reads_where_settled e.outcome (texts_in e.reads)
 
 -- the directories that it adds, where it is settled
-abbrev pub directories_after : Result FileRun Refusal → List Text
+abbrev pub directories_after : Result EvaluatedFile Refusal → List Text
 directories_after outcome = added_directories (settled_records outcome)
 
 -- the module of an evaluation
@@ -56,4 +55,4 @@ abbrev pub AreUsedReads : List Module → List Evaluation → List (Option UsedR
 AreUsedReads ms [] [] = Unit {0}
 AreUsedReads ms [] (answer ∷ answers) = ⊥
 AreUsedReads ms (e ∷ es) [] = ⊥
-AreUsedReads ms (e ∷ es) (answer ∷ answers) = IsAnswer ms (settled_reads e.outcome) answer × AreUsedReads ms es answers
+AreUsedReads ms (e ∷ es) (answer ∷ answers) = IsAnswer ms (settled_reads e) answer × AreUsedReads ms es answers

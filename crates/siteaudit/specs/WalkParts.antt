@@ -1,34 +1,31 @@
 -- The parts of a walk over a site, for the contracts of this crate's private functions (own).
-use Rattle.std.specs.Prelude.{◌≡◌, Bool, true, false, not, ◌&&◌, List, [], ◌++◌, map, flat_map, if◌then◌else◌, Some}
-use Rattle.std.specs.Prelude.{None, Result, Ok, Err}
-use Rattle.std.specs.List.{list_all}
+use Rattle.std.specs.Prelude.{◌≡◌, Bool, List, [], ◌∷◌, ◌++◌, map, flat_map, Some, None, Result, Ok, Err, string_bytes}
 use Rattle.std.specs.Option.{option_map}
-use Rattle.envvars.specs.Texts.{Text}
+use Rattle.envvars.specs.Texts.{Text, texts_in}
+use Rattle.envvars.specs.Fields.{without_repeats}
 use Rattle.envvars.specs.Environment.{Environment}
 use Rattle.envvars.specs.Reasons as edits
 use Rattle.envloaded.specs.Loaded.{names_of, loaded_in}
-use Rattle.shelltext.specs.declared.shell.Shell.TheVariants.{Sh}
+use Rattle.tclrules.specs.declared.limits.Limits.{Limits}
 use Rattle.filetree.specs.Agreement.{Files, Listings, InEachPair}
-use Rattle.filetree.specs.Causes.{Cause, Applies, memory, device, because}
+use Rattle.filetree.specs.Causes.{Applies}
 use Rattle.modulefile.specs.Answers.{FileContext}
 use Rattle.modulefile.specs.Files as files
-use Rattle.modulefile.specs.Files.{any_question}
-use Rattle.modulefile.specs.RecordViews.{record_view}
+use Rattle.modulefile.specs.Files.{RunsFile}
 use Rattle.modulerun.specs.declared.run.FileRun.{FileRun}
-use Rattle.modulerun.specs.Questions.{questions_in}
 use Rattle.modulerun.specs.Running.{ran_view}
-use Rattle.modulefile.specs.Effects as modes
-use Rattle.reversal.specs.VariableUses.{is_reversible}
 use Rattle.modulefile.specs.Judgments.{bad_edit}
-use Rattle.requests.specs.Reasons.{RequestReason, refused_edit}
+use Rattle.requests.specs.Reasons.{RequestReason, refused_edit, file_refused}
+use Rattle.requests.specs.Refusals.{RefusedAs}
+use Rattle.settled.specs.Ways.{Way, first_way, other_ways, FileRuns, is_alike, are_alike, read_in, reads_in}
 use Rattle.modules.specs.Answers.{cause_of}
 use Rattle.modules.specs.declared.refusal.Refusal.{Refusal}
 use Rattle.sitecertificate.specs.RecordUses.{IsAmong}
 use Rattle.sitelaws.specs.DirectorySets.{with_directories}
-use Rattle.sitelaws.specs.Sites.{Site, SiteModule, Evaluated, EvaluatesTo, AreNamesBelow, added_directories}
-use Rattle.sitelaws.specs.Sites.{module_below}
-use Rattle.siteaudit.specs.Walks.{IsEvaluation, AreEvaluations}
+use Rattle.sitelaws.specs.Sites.{Site, SiteModule, Evaluated, EvaluatesTo, AreNamesBelow, module_below}
+use Rattle.siteaudit.specs.Walks.{IsOfRuns, IsEvaluation, AreEvaluations}
 use Rattle.siteaudit.specs.SettledRuns.{directories_after}
+use Rattle.siteaudit.specs.declared.scripts.FileEvaluation.{FileEvaluation}
 use Rattle.siteaudit.specs.declared.walk.Evaluation.{Evaluation}
 
 -- ---- the file of a module
@@ -37,15 +34,15 @@ use Rattle.siteaudit.specs.declared.walk.Evaluation.{Evaluation}
 abbrev pub HasLoaded : Environment → List Text → Type 0
 HasLoaded e names = option_map names_of (loaded_in e) ≡ Some names
 
--- the context in which the file of this name and path is evaluated, where these modules are loaded
-abbrev pub site_context : Text → Text → List Text → Environment → FileContext
-site_context name path loaded e =
+-- the context in which the file of this name and path is evaluated in a way, where these modules are loaded
+abbrev pub site_context : Way → Text → Text → List Text → Environment → FileContext
+site_context way name path loaded e =
     record {
-      mode = modes.load;
-      in_switch = false;
+      mode = way.mode;
+      in_switch = way.in_switch;
       name = name;
       path = path;
-      shell = Sh;
+      shell = way.shell;
       typed = name;
       loaded = loaded;
       before = e;
@@ -57,20 +54,55 @@ abbrev pub ComesTo : Result FileRun Refusal → (Result files.Ran RequestReason 
 ComesTo (Ok ran) Outcomes = (e : Environment) × Outcomes (Ok (ran_view ran e))
 ComesTo (Err refusal) Outcomes = Applies (cause_of refusal) ⊥ (λ reason. Outcomes (Err reason))
 
--- the same over a tree
-abbrev pub ComesToOverTree : (Files → Listings → Type 0) → Type 0 → Result FileRun Refusal
-    → (Files → Listings → Result files.Ran RequestReason → Type 0) → Type 0
-ComesToOverTree agrees failed (Ok ran) Outcomes =
-    (e : Environment) × InEachPair agrees (λ files listings. Outcomes files listings (Ok (ran_view ran e)))
+-- an outcome of a script in this context, in the words of requests
+abbrev pub ScriptRuns : Limits → FileContext → Text → Result files.Ran RequestReason → Type 0
+ScriptRuns limits c text = RefusedAs file_refused (RunsFile limits c text)
+
+-- The outcomes of a script in these ways, in their order.
+abbrev pub ScriptRunsIn : Limits → (Way → FileContext) → Text → List Way → List (Result files.Ran RequestReason)
+    → Type 0
+ScriptRunsIn limits context text [] [] = Unit {0}
+ScriptRunsIn limits context text [] (outcome ∷ outcomes) = ⊥
+ScriptRunsIn limits context text (way ∷ ways) [] = ⊥
+ScriptRunsIn limits context text (way ∷ ways) (outcome ∷ outcomes) =
+    ScriptRuns limits (context way) text outcome × ScriptRunsIn limits context text ways outcomes
+
+-- what the evaluation of a script in one way more shows: whether it is like the first, and what it reads
+pub record ShowsOne (limits : Limits) (context : Way → FileContext) (text : Text) (first : FileRun) (way : Way)
+    (before after : List Text) (answer : Bool) : Type 0 where
+  pub outcome : Result files.Ran RequestReason
+  pub runs : ScriptRuns limits (context way) text outcome
+  pub alike : (e : Environment) → answer ≡ is_alike (ran_view first e) way outcome
+  pub reads : after ≡ before ++ read_in outcome
+
+-- the same in each of these ways
+pub record ShowsAll (limits : Limits) (context : Way → FileContext) (text : Text) (first : FileRun) (ways : List Way)
+    (before after : List Text) (answer : Bool) : Type 0 where
+  pub outcomes : List (Result files.Ran RequestReason)
+  pub runs : ScriptRunsIn limits context text ways outcomes
+  pub alike : (e : Environment) → answer ≡ are_alike (ran_view first e) ways outcomes
+  pub reads : after ≡ before ++ flat_map read_in outcomes
+
+-- What the evaluations of a script show: the first, and those in the other ways that it asks for. Or that one is refused,
+-- or given up.
+abbrev pub ShowsScript : Limits → (Way → FileContext) → Text → Result FileEvaluation Refusal → Type 0
+ShowsScript limits context text (Ok shown) =
+    (runs : FileRuns RequestReason) × IsOfRuns shown.file runs × (texts_in shown.reads ≡ without_repeats (reads_in runs))
+    × ScriptRuns limits (context first_way) text (Ok runs.first)
+    × ScriptRunsIn limits context text (other_ways runs.first.asked) runs.others
+ShowsScript limits context text (Err refusal) =
+    Applies (cause_of refusal) ⊥ (λ reason. ScriptRuns limits (context first_way) text (Err reason))
+
+-- What the evaluations of a file show comes to one of these outcomes over a tree; or its refusal is one, or has another
+-- cause.
+abbrev pub ComesToOverTree : (Files → Listings → Type 0) → Type 0 → Result FileEvaluation Refusal
+    → (Files → Listings → Result (FileRuns RequestReason) RequestReason → Type 0) → Type 0
+ComesToOverTree agrees failed (Ok shown) Outcomes =
+    (runs : FileRuns RequestReason) × IsOfRuns shown.file runs × (texts_in shown.reads ≡ without_repeats (reads_in runs))
+    × InEachPair agrees (λ files listings. Outcomes files listings (Ok runs))
 ComesToOverTree agrees failed (Err refusal) Outcomes =
     Applies (cause_of refusal) failed (λ reason. InEachPair agrees
     (λ files listings. Outcomes files listings (Err reason)))
-
--- the cause says nothing of the file: memory ran out, or the device failed
-abbrev pub is_given_up : Cause RequestReason → Bool
-is_given_up memory = true
-is_given_up device = true
-is_given_up (because reason) = false
 
 -- The walk is given up: memory ran out, or the device failed.
 abbrev pub GivesUp : Type 0 → Refusal → Type 0
@@ -82,12 +114,22 @@ HasListCause e refusal =
     Applies (cause_of refusal) ⊥ (λ reason. (reason ≡ refused_edit (bad_edit edits.inconsistent))
     × (loaded_in e ≡ None))
 
+-- the module of this name and file has this outcome, and what it reads
+abbrev pub IsEvaluationWith : Text → Text → Result FileEvaluation Refusal → Evaluation → Type 0
+IsEvaluationWith name path (Ok shown) evaluation =
+    (string_bytes evaluation.name ≡ name) × (string_bytes evaluation.path ≡ path) × (evaluation.outcome ≡ Ok shown.file)
+    × (evaluation.reads ≡ shown.reads)
+IsEvaluationWith name path (Err refusal) evaluation =
+    (string_bytes evaluation.name ≡ name) × (string_bytes evaluation.path ≡ path) × (evaluation.outcome ≡ Err refusal)
+    × (texts_in evaluation.reads ≡ [])
+
 -- ---- evaluated modules
 
 -- what the code has of the module's evaluation stands for its outcome
 abbrev pub IsEvaluationOf : Site → SiteModule → Evaluation → Type 0
 IsEvaluationOf site m evaluation =
-    (outcome : Result files.Ran RequestReason) × EvaluatesTo site m outcome × IsEvaluation evaluation (m, outcome)
+    (outcome : Result (FileRuns RequestReason) RequestReason) × EvaluatesTo site m outcome
+    × IsEvaluation evaluation (m, outcome)
 
 -- the same of each of these modules
 pub record AreEvaluationsOf (site : Site) (ms : List SiteModule) (found : List Evaluation) : Type 0 where

@@ -1,6 +1,7 @@
 -- What a walk over a site answers (own).
-use Rattle.std.specs.Prelude.{◌≡◌, ℕ, ◌<◌, ◌≤◌, true, List, [], ◌∷◌, ◌++◌, length, map, flat_map, Option, Some, None}
-use Rattle.std.specs.Prelude.{Result, Ok, Err, string_bytes}
+use Rattle.std.specs.Prelude.{◌≡◌, ℕ, ◌<◌, ◌≤◌, true, not, List, [], ◌∷◌, ◌++◌, length, map, flat_map, find, Option}
+use Rattle.std.specs.Prelude.{Some, None, Result, Ok, Err, string_bytes}
+use Rattle.std.specs.Option.{option_map}
 use Rattle.envvars.specs.Texts.{Text, texts_in}
 use Rattle.envvars.specs.Fields.{without_repeats, are_distinct}
 use Rattle.envvars.specs.Environment.{Environment}
@@ -9,11 +10,9 @@ use Rattle.envloaded.specs.Loaded.{loaded_in}
 use Rattle.tclrules.specs.declared.limits.Limits.{Limits}
 use Rattle.filetree.specs.Agreement.{Files, Listings, InEachPair}
 use Rattle.filetree.specs.Causes.{Applies, because}
-use Rattle.modulefile.specs.Files as files
-use Rattle.modulerun.specs.declared.run.FileRun.{FileRun}
-use Rattle.modulerun.specs.Questions.{questions_in}
-use Rattle.modulerun.specs.Running.{ran_view}
-use Rattle.settled.specs.Resting.{variables_read}
+use Rattle.modulefile.specs.RecordViews.{record_view}
+use Rattle.modulerun.specs.Questions.{question_view}
+use Rattle.settled.specs.Ways.{FileRuns, are_runs_alike, keeps_answer}
 use Rattle.modulefile.specs.Judgments.{bad_edit}
 use Rattle.modulefile.specs.Moves.{Module}
 use Rattle.requests.specs.Reasons.{RequestReason, refused_edit}
@@ -21,10 +20,12 @@ use Rattle.modules.specs.Answers.{cause_of}
 use Rattle.modules.specs.declared.refusal.Refusal.{Refusal}
 use Rattle.sitecertificate.specs.RecordUses.{IsAmong}
 use Rattle.sitelaws.specs.Sites.{Site, Evaluated, EvaluatesTo, first_directories, added_directories, settled_of}
+use Rattle.sitelaws.specs.Sites.{reads_of}
 use Rattle.sitelaws.specs.Sites.{site_of}
 use Rattle.sitelaws.specs.Sites.{IsDirectory, AreDirectories, AreModulesIn}
 use Rattle.siteaudit.specs.declared.fault.WalkFault.{WalkFault}
 use Rattle.siteaudit.specs.declared.fault.WalkFault.TheVariants.{Refused, TooManyDirectories}
+use Rattle.siteaudit.specs.declared.walk.EvaluatedFile.{EvaluatedFile}
 use Rattle.siteaudit.specs.declared.walk.Evaluation.{Evaluation}
 use Rattle.siteaudit.specs.declared.walk.SiteWalk.{SiteWalk}
 
@@ -53,23 +54,25 @@ pub record IsWalk (site : Site) (dirs : List Text) (outcomes : List Evaluated) :
 
 -- ---- what the code has for them
 
--- What the code has of an evaluation stands for its outcome: what is left, or the reason of the refusal.
-abbrev pub IsOutcome : Result FileRun Refusal → Result files.Ran RequestReason → Type 0
-IsOutcome (Ok ran) outcome = (e : Environment) × (outcome ≡ Ok (ran_view ran e))
+-- What the code has of the evaluations of a file is of these: the records of the first, and the first of its questions
+-- that doesn't keep its answer.
+pub record IsOfRuns (file : EvaluatedFile) (runs : FileRuns RequestReason) : Type 0 where
+  pub records : map record_view file.records.items ≡ runs.first.records
+  pub unkept : option_map question_view file.unkept
+      ≡ find (λ q. not (keeps_answer (are_runs_alike runs) runs.first.records q)) runs.first.asked
+
+-- It stands for their outcome: for what they leave, or the reason of the refusal.
+abbrev pub IsOutcome : Result EvaluatedFile Refusal → Result (FileRuns RequestReason) RequestReason → Type 0
+IsOutcome (Ok file) outcome = (runs : FileRuns RequestReason) × (outcome ≡ Ok runs) × IsOfRuns file runs
 IsOutcome (Err refusal) outcome = (reason : RequestReason) × (cause_of refusal ≡ because reason)
     × (outcome ≡ Err reason)
-
--- the variables that it reads
-abbrev pub outcome_reads : Result FileRun Refusal → List Text
-outcome_reads (Ok ran) = variables_read (questions_in ran.asked.items)
-outcome_reads (Err refusal) = []
 
 -- the same of a module
 pub record IsEvaluation (evaluation : Evaluation) (evaluated : Evaluated) : Type 0 where
   pub name : evaluated.0.name ≡ string_bytes evaluation.name
   pub path : evaluated.0.path ≡ string_bytes evaluation.path
   pub outcome : IsOutcome evaluation.outcome evaluated.1
-  pub reads : texts_in evaluation.reads ≡ without_repeats (outcome_reads evaluation.outcome)
+  pub reads : texts_in evaluation.reads ≡ without_repeats (reads_of evaluated)
 
 -- the same of each module, in their order
 abbrev pub AreEvaluations : List Evaluation → List Evaluated → Type 0

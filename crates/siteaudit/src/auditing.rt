@@ -120,8 +120,8 @@ fn audit_walk<T: Tree>(
     })
 }
 
-/// Judges a whole site: that of the MODULEPATH of an environment, over a tree and within limits. Each file is evaluated
-/// once; the environment doesn't change.
+/// Judges a whole site: that of the MODULEPATH of an environment, over a tree and within limits. Each file is read
+/// once, and evaluated for loading in sh, and in each other way that it asks for; the environment doesn't change.
 ///
 /// What is found is an audit of the site (`exact`). Its certificate stands (`holds`): a session that begins in an
 /// environment whose loaded list is in order, and loads only modules that stand as certified, with whose uses this

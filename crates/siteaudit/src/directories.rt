@@ -8,9 +8,8 @@ ghost use Rattle.siteaudit.specs.SettledRuns.{directories_after};
 ghost use Rattle.siteaudit.specs.WalkParts.{directories_found};
 
 use crate::settled_runs::is_settled;
-use crate::walk::Evaluation;
+use crate::walk::{EvaluatedFile, Evaluation};
 use modulefile::Record;
-use modulerun::FileRun;
 use sitelaws::directory_set::{Directories, push_directories};
 use std::alloc::{AllocError, Global};
 
@@ -64,13 +63,17 @@ fn push_added(alloc: Global, dirs: &mut Directories, records: &[Record]) -> Resu
     Ok(())
 }
 
-/// Adds the directories that a file adds whose evaluation left this, if its module is settled.
-fn push_settled(alloc: Global, dirs: &mut Directories, ran: &FileRun) -> Result<(), AllocError>
+/// Adds the directories that a file adds whose evaluations show this, if its module is settled.
+fn push_settled(
+    alloc: Global,
+    dirs: &mut Directories,
+    file: &EvaluatedFile,
+) -> Result<(), AllocError>
     ensures { OnOk result (map string_bytes dirs.new.keys
-        ≡ with_directories (map string_bytes dirs.old.keys) (directories_after (Ok ran.now))) }
+        ≡ with_directories (map string_bytes dirs.old.keys) (directories_after (Ok file.now))) }
 {
-    if is_settled(alloc, ran)? {
-        push_added(alloc, dirs, ran.records.as_slice())
+    if is_settled(file) {
+        push_added(alloc, dirs, file.records.as_slice())
     } else {
         Ok(())
     }
@@ -86,7 +89,7 @@ fn push_evaluated(
         ≡ with_directories (map string_bytes dirs.old.keys) (directories_after evaluation.now.outcome)) }
 {
     match &evaluation.outcome {
-        Ok(ran) => push_settled(alloc, dirs, ran),
+        Ok(file) => push_settled(alloc, dirs, file),
         Err(_) => Ok(()),
     }
 }

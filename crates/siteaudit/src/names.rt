@@ -1,5 +1,5 @@
 //! Names in the conflicts and prereqs of modules that mean no module of the site.
-ghost use Rattle.std.specs.Prelude.{◌≡◌, ◌||◌, ◌∷◌, [], ◌++◌, Bool, true, false, not, flat_map, map, string_bytes};
+ghost use Rattle.std.specs.Prelude.{◌≡◌, ◌||◌, ◌∷◌, [], ◌++◌, Bool, true, false, not, bytes_eq, flat_map, map, string_bytes};
 ghost use Rattle.std.specs.Prelude.{IfOk, OnOk};
 ghost use Rattle.std.specs.List.{list_any};
 ghost use Rattle.indexmap.specs.IndexSet.{insert_all};
@@ -8,6 +8,7 @@ ghost use Rattle.envvars.specs.Texts.{Text, texts_in};
 ghost use Rattle.modulefile.specs.RecordViews.{record_view};
 ghost use Rattle.modulefile.specs.Records.{prereq_groups};
 ghost use Rattle.sitelaws.specs.DirectorySets.{with_directories};
+ghost use Rattle.settled.specs.Ways.{same_by};
 ghost use Rattle.siteaudit.specs.Audits as spec;
 ghost use Rattle.siteaudit.specs.Audits.{mention_of, conflict_mention, prereq_mention, unknown_in};
 ghost use Rattle.siteaudit.specs.SettledRuns.{evaluated_file};
@@ -19,6 +20,7 @@ use crate::walk::Evaluation;
 use indexmap::IndexSet;
 use message::texts::copies;
 use modulefile::Record;
+use settled::same_texts;
 use sitelaws::directory_set::{Directories, in_order};
 use std::alloc::{AllocError, Global};
 use std::slice;
@@ -113,26 +115,11 @@ fn unknown_conflicts(
     Ok(unknown)
 }
 
-/// Whether both have the same names in the same order.
-fn same_names(one: &[String], other: &[String]) -> bool
-    ensures { result ≡ spec.same_names (map string_bytes one.now) (map string_bytes other.now) }
-{
-    if one.len() != other.len() {
-        return false;
-    }
-    for (name, another) in one.iter().zip(other) {
-        if name.as_str() != another.as_str() {
-            return false;
-        }
-    }
-    true
-}
-
 /// Whether the names are among these.
 fn is_there(all: &[Vec<String>], names: &[String]) -> bool
-    ensures { result ≡ list_any (spec.same_names (map string_bytes names.now)) (map texts_in all.now) }
+    ensures { result ≡ list_any (same_by bytes_eq (map string_bytes names.now)) (map texts_in all.now) }
 {
-    all.iter().any(|other| same_names(names, other.as_slice()))
+    all.iter().any(|other| same_texts(names, other.as_slice()))
 }
 
 /// Adds names, unless one of them means a module or the same are there.
@@ -142,7 +129,7 @@ fn add_group(
     names: &[String],
     unknown: &mut Vec<Vec<String>>,
 ) -> Result<(), AllocError>
-    ensures { OnOk result (map texts_in unknown.new.items ≡ insert_all spec.same_names (map texts_in unknown.old.items)
+    ensures { OnOk result (map texts_in unknown.new.items ≡ insert_all (same_by bytes_eq) (map texts_in unknown.old.items)
         (unknown_groups (known_in meaning.now.keys) (map string_bytes names.now ∷ []))) }
 {
     if !has_meaning(meaning, names) && !is_there(unknown.as_slice(), names) {
@@ -158,7 +145,7 @@ fn add_prereq(
     recorded: &Record,
     unknown: &mut Vec<Vec<String>>,
 ) -> Result<(), AllocError>
-    ensures { OnOk result (map texts_in unknown.new.items ≡ insert_all spec.same_names (map texts_in unknown.old.items)
+    ensures { OnOk result (map texts_in unknown.new.items ≡ insert_all (same_by bytes_eq) (map texts_in unknown.old.items)
         (unknown_groups (known_in meaning.now.keys) (prereq_groups (record_view recorded.now ∷ [])))) }
 {
     match recorded.prereqs() {
@@ -261,7 +248,7 @@ fn judge_evaluation(
         ++ unknown_after (known_in meaning.now.keys) module.now) }
 {
     match &module.outcome {
-        Ok(ran) => judge_module(alloc, meaning, module, ran.records.as_slice(), found),
+        Ok(file) => judge_module(alloc, meaning, module, file.records.as_slice(), found),
         Err(_) => Ok(()),
     }
 }

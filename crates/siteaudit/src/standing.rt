@@ -10,10 +10,10 @@ ghost use Rattle.sitecertificate.specs.UseViews.{use_view, used_view};
 ghost use Rattle.siteaudit.specs.Findings.{AreUnlike, IsUseFinding, IsSettledFinding, IsKeptFinding, IsFindingOf};
 ghost use Rattle.siteaudit.specs.Findings.{IsFinding};
 
+use crate::walk::EvaluatedFile;
 use modulefile::{Delimiter, Record};
-use modulerun::{FileRun, Question};
+use modulerun::Question;
 use modules::{Refusal, is_reversible};
-use settled::first_unkept;
 use sitecertificate::{Clash, UsedVariable, VariableUse, first_unlike, used_by};
 use sitereads::UsedRead;
 use std::alloc::{AllocError, Global};
@@ -24,7 +24,7 @@ pub enum Standing {
     /// It is settled, in step, and without a clash: its loads and unloads need no judgement.
     Certified,
     /// Its evaluation asked this, the first question that doesn't keep its answer, so that its records may differ
-    /// elsewhere.
+    /// elsewhere, or do.
     Asks(Question),
     /// Each question keeps its answer, and this is the first of its records that unloading doesn't undo.
     OneWay(Record),
@@ -187,32 +187,30 @@ fn judge_records(
 }
 
 /// What a module shows by itself, whose evaluation is accepted.
-fn judge_ran(
+fn judge_file(
     alloc: Global,
-    ran: FileRun,
+    file: EvaluatedFile,
     used: Option<UsedRead>,
 ) -> Result<ModuleFinding, AllocError>
-    ensures { IfOk result (IsFindingOf ran.asked.items (map record_view ran.records.items) used) }
+    ensures { IfOk result (IsFindingOf file.unkept (map record_view file.records.items) used) }
 {
-    match first_unkept(alloc, &ran)? {
-        Some(place) => {
-            let mut questions = ran.asked;
-            Ok(ModuleFinding::Stands(Standing::Asks(questions.swap_remove(place))))
-        }
-        None => judge_records(alloc, ran.records, used),
+    let EvaluatedFile { records, unkept } = file;
+    match unkept {
+        Some(question) => Ok(ModuleFinding::Stands(Standing::Asks(question))),
+        None => judge_records(alloc, records, used),
     }
 }
 
-/// What a module shows by itself, by the outcome of its evaluation, and by what it reads that a settled module uses.
+/// What a module shows by itself, by the outcome of its evaluations, and by what it reads that a settled module uses.
 pub(crate) fn judge(
     alloc: Global,
-    outcome: Result<FileRun, Refusal>,
+    outcome: Result<EvaluatedFile, Refusal>,
     used: Option<UsedRead>,
 ) -> Result<ModuleFinding, AllocError>
     ensures { IfOk result (IsFinding outcome used) }
 {
     match outcome {
-        Ok(ran) => judge_ran(alloc, ran, used),
+        Ok(file) => judge_file(alloc, file, used),
         Err(refusal) => Ok(ModuleFinding::Stands(Standing::Refused(refusal))),
     }
 }

@@ -1,4 +1,5 @@
-//! Each directory of a site once, in the order in which they are found, and each module in them, evaluated once.
+//! Each directory of a site once, in the order in which they are found, and each module in them, evaluated in each way
+//! that it asks for.
 ghost use Rattle.std.specs.Prelude.{◌≡◌, ◌<◌, [], ◌∷◌, IfOk, IfErr, OnOk, map, string_bytes};
 ghost use Rattle.filetree.specs.Agreement.{FailsWhere, InEachPair, ReadsOn};
 ghost use Rattle.filetree.specs.Modulefiles.{directories};
@@ -17,7 +18,8 @@ use crate::progress::WalkProgress;
 use envvars::{Env, Vars};
 use filetree::Tree;
 use indexmap::IndexSet;
-use modulerun::FileRun;
+use modulefile::Record;
+use modulerun::Question;
 use modules::Refusal;
 use sitelaws::directory_set::{Directories, directory_at, in_order, push_directories};
 use std::alloc::Global;
@@ -27,16 +29,26 @@ use tclrules::Limits;
 /// that a site can have more than any number of them.
 pub const MAX_DIRECTORIES: usize = 65_536;
 
-/// A module of a site, with what the evaluation of its file leaves, or why that is refused.
+/// What the evaluations of a module's file show: the first, for loading in sh, and those in the other ways that it asks
+/// for.
+#[derive(Drop)]
+pub struct EvaluatedFile {
+    /// The records of the first.
+    pub records: Vec<Record>,
+    /// The first question of the first that doesn't keep its answer.
+    pub unkept: Option<Question>,
+}
+
+/// A module of a site, with what the evaluations of its file show, or why the first is refused.
 #[derive(Drop)]
 pub struct Evaluation {
     /// The module's full name, as `foo/1.0`.
     pub name: String,
     /// The path of its file.
     pub path: String,
-    /// What its evaluation leaves, or why it is refused.
-    pub outcome: Result<FileRun, Refusal>,
-    /// The variables that its evaluation reads, each once.
+    /// What its evaluations show, or why the first is refused.
+    pub outcome: Result<EvaluatedFile, Refusal>,
+    /// The variables that its evaluations read, each once.
     pub reads: Vec<String>,
 }
 
@@ -130,8 +142,8 @@ fn walk_from<T: Tree, P: WalkProgress>(
     })
 }
 
-/// Walks over a site, that of the MODULEPATH of an environment over a tree and within limits: each file is evaluated
-/// once, for loading, in sh, in that environment, which doesn't change.
+/// Walks over a site, that of the MODULEPATH of an environment over a tree and within limits: each file is read once, and
+/// evaluated in that environment, which doesn't change, for loading, in sh, and in each other way that it asks for.
 ///
 /// Errors: loaded lists that don't fit together (35); a device that failed in this call, at a path that the walk looks at
 /// (43); want of memory (11, 31, 41); more than `MAX_DIRECTORIES` directories.

@@ -1,6 +1,7 @@
 mod UseLemmas
 pub mod UsedLemmas
 mod RecordLemmas
+pub mod AsCertified
 mod OneUse
 pub mod Exact
 mod Staying

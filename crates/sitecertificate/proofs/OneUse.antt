@@ -3,18 +3,18 @@ use Rattle.std.proofs.Common.{◌≡◌, Bool, true, false, not, ◌&&◌, ◌||
 use Rattle.std.proofs.Common.{Some, None, inl, inr}
 use Rattle.std.specs.Prelude.{bytes_eq, is_some}
 use Rattle.std.specs.Option.{option_or}
-use Rattle.std.proofs.lemmas.Bool.{false≢true, eqb-true}
+use Rattle.std.proofs.lemmas.Bool.{false≢true}
 use Rattle.envvars.specs.Texts.{Text}
 use Rattle.envvars.proofs.TextLemmas.{or_left}
 use Rattle.modulefile.specs.Moves.{Module}
-use Rattle.reversal.specs.VariableUses.{VariableUse, Untouched, Fixed, Pathed, Stacked}
+use Rattle.reversal.specs.VariableUses.{VariableUse, Fixed}
 use Rattle.reversal.specs.Live.{last_set, live_set}
 use Rattle.reversal.specs.Runs.{IsReversibleAndApart, AreReversibleTogether}
 use Rattle.reversal.proofs.Parts.{all_suit}
 use Rattle.sitecertificate.specs.RecordUses.{used_by, used_by_modules, IsAmong, Uses, uses_by}
 use Rattle.sitecertificate.specs.Clashes.{is_other, exclude, in_conflict, go_together, agree_at_start}
-use Rattle.sitecertificate.specs.Certificates.{IsCertified}
-use Rattle.sitecertificate.specs.Laws.{AreCertifiedTogether}
+use Rattle.sitecertificate.specs.Laws.{IsAsCertified, AreCertifiedTogether}
+use Rattle.sitecertificate.proofs.AsCertified.{certain_use, one_use_of, exclude_alike, other_alike}
 use Rattle.sitecertificate.proofs.UsedLemmas.{by_test, by_cases, among_left, among_right, among_either, user_of, Unused}
 use Rattle.sitecertificate.proofs.UsedLemmas.{first_or_none}
 use Rattle.sitecertificate.proofs.Staying.{go_equal}
@@ -26,10 +26,15 @@ clash_at excluded g a e h = rw (e, h) refl
 
 -- Of certified modules that don't exclude each other, two uses of one variable go together.
 
-together : (ms : List Module) (m n : Module) (v : Text) (x y : VariableUse) → IsCertified ms m → IsCertified ms n
+together : (ms : List Module) (m n : Module) (v : Text) (x y : VariableUse) → IsAsCertified ms m → IsAsCertified ms n
     → exclude m n ≡ false → Uses m.records v x → Uses n.records v y → go_together x y ≡ true
-together ms m n v x y c d e f g = by_test (go_together x y) _ (λ t. t) (λ t. absurd (certified_apart ms m n v x y c d other
-    (record { first = f; second = g; clash = clash_at (exclude m n) (go_together x y) (agree_at_start x y) e t })))
+together ms m n v x y c d e f g = by_test (go_together x y) _ (λ t. t) (λ t. absurd (certified_apart ms c.certain d.certain v x y c.certified d.certified
+    (sym (other_alike ms m n c d) ∙ other)
+    (record {
+      first = certain_use ms m c v x f;
+      second = certain_use ms n d v y g;
+      clash = clash_at (exclude c.certain d.certain) (go_together x y) (agree_at_start x y) (sym (exclude_alike ms m n c d) ∙ e) t;
+    })))
   where
     name : bytes_eq m.name n.name ≡ false
     name = or_left (bytes_eq m.name n.name) (in_conflict m n) e
@@ -41,13 +46,13 @@ together ms m n v x y c d e f g = by_test (go_together x y) _ (λ t. t) (λ t. a
 abbrev pub HaveOneUse : List Module → Type 0
 HaveOneUse ms = (v : Text) (x y : VariableUse) → IsAmong (v, x) (used_by_modules ms) → IsAmong (v, y) (used_by_modules ms) → x ≡ y
 
-pub certified_of : (ms live : List Module) → AreCertifiedTogether ms live → (m : Module) → IsAmong m live → IsCertified ms m
+pub certified_of : (ms live : List Module) → AreCertifiedTogether ms live → (m : Module) → IsAmong m live → IsAsCertified ms m
 certified_of ms [] t m a = absurd a
-certified_of ms (n ∷ live) t m (inl e) = subst (IsCertified ms) (sym e) t.0
+certified_of ms (n ∷ live) t m (inl e) = subst (IsAsCertified ms) (sym e) t.0
 certified_of ms (n ∷ live) t m (inr a) = certified_of ms live t.2 m a
 
 pub of_kind : (ms live : List Module) → AreCertifiedTogether ms live → AreOfKind live
-of_kind ms live t m a = (certified_of ms live t m a).in_step.reversible
+of_kind ms live t m a = (certified_of ms live t m a).reversible
 
 -- the newest of the modules beside an older one
 beside : (ms live : List Module) (m : Module) (v : Text) (x y : VariableUse) → AreCertifiedTogether ms (m ∷ live) → Uses m.records v x → IsAmong (v, y) (used_by_modules live) → go_together x y ≡ true
@@ -60,7 +65,7 @@ one_use ms [] t v x y h k = absurd h
 one_use ms (m ∷ live) t v x y h k =
     by_cases (among_either (v, x) (used_by m.records) (used_by_modules live) h)
     (λ a. by_cases (among_either (v, y) (used_by m.records) (used_by_modules live) k)
-    (λ b. t.0.in_step.in_step.one_use v x y a b)
+    (λ b. one_use_of ms m t.0 v x y a b)
     (λ b. go_equal x y (beside ms live m v x y t a b)))
     (λ a. by_cases (among_either (v, y) (used_by m.records) (used_by_modules live) k)
     (λ b. sym (go_equal y x (beside ms live m v y x t b a)))
@@ -97,9 +102,9 @@ AreUses u live = (v : Text) (x : VariableUse) → IsAmong (v, x) (used_by_module
 
 pub newest_fits : (ms live : List Module) (m : Module) (u : Text → VariableUse) → AreCertifiedTogether ms (m ∷ live) → AreUses u (m ∷ live) → IsReversibleAndApart u live m
 newest_fits ms live m u t h = record {
-  suits = all_suit u m.records t.0.in_step.reversible (all_follow u m.records (λ v x a. h v x (among_left (v, x) (used_by m.records) (used_by_modules live) a)));
+  suits = all_suit u m.records t.0.reversible (all_follow u m.records (λ v x a. h v x (among_left (v, x) (used_by m.records) (used_by_modules live) a)));
   sets_apart = λ v s.
-      let p = sets_used v m.records t.0.in_step.reversible s in
+      let p = sets_used v m.records t.0.reversible s in
       older_sets live (of_kind ms live t.2) v (λ k a. no_fixed (Fixed k) p.0 (beside ms live m v (Fixed p.0) (Fixed k) t p.1 a));
 }
 

@@ -14,8 +14,8 @@ use Rattle.reversal.specs.Runs.{without_live, live_after, Undoes}
 use Rattle.reversal.specs.Laws.{Holds, RunsReturn, MovesPreserve}
 use Rattle.sitecertificate.specs.RecordUses.{used_by, used_by_modules, IsAmong, uses_by}
 use Rattle.sitecertificate.specs.Clashes.{in_conflict}
-use Rattle.sitecertificate.specs.Certificates.{IsCertified, AgreesWith}
-use Rattle.sitecertificate.specs.Laws.{AreCertified, AreCertifiedTogether, AreLayered, CertifiedRunsStand}
+use Rattle.sitecertificate.specs.Certificates.{AgreesWith}
+use Rattle.sitecertificate.specs.Laws.{IsAsCertified, AreCertified, AreCertifiedTogether, AreLayered, CertifiedRunsStand}
 use Rattle.sitecertificate.specs.Laws.{CertifiedMovesPreserve, NoneIsLayered, LoadedStayLoaded}
 use Rattle.sitecertificate.proofs.UsedLemmas.{by_cases, used_among, user_of, first_or_none, neither}
 use Rattle.sitecertificate.proofs.OneUse.{of_kind, one_use, each_use, AreUses, newest_fits, all_fit}
@@ -25,7 +25,7 @@ use Rattle.sitecertificate.proofs.Moments.{laid_down}
 
 -- A module that is loaded beside live ones, and the live ones without one of them.
 
-newest : (ms live : List Module) (m : Module) (start old : Environment) → AreLayered ms start live old → IsCertified ms m
+newest : (ms live : List Module) (m : Module) (start old : Environment) → AreLayered ms start live old → IsAsCertified ms m
     → ((n : Module) → IsAmong n live → in_conflict m n ≡ false) → Fits (Loads m) old → AreCertifiedTogether ms (m ∷ live)
 newest ms live m start old s c k fits = (c, (λ n b. neither (bytes_eq m.name n.name) (in_conflict m n) (not_named m.name first.0 live absent n b) (k n b)), s.together)
   where
@@ -68,7 +68,7 @@ held preserve ms live start e s =
     (preserve (uses_by live) start e e live [] s.begins s.order s.start_with_live (all_fit ms live (uses_by live) s.together (used_of ms live s.together)) tt refl).0
 
 -- A load: the uses of the module are taken up before it.
-loaded : RunsReturn → MovesPreserve → (ms live : List Module) (m : Module) (start old new : Environment) → AreLayered ms start live old → IsCertified ms m
+loaded : RunsReturn → MovesPreserve → (ms live : List Module) (m : Module) (start old new : Environment) → AreLayered ms start live old → IsAsCertified ms m
     → AgreesWith (used_by m.records) start → ((n : Module) → IsAmong n live → in_conflict m n ≡ false) → Fits (Loads m) old → moved (Loads m) old ≡ Ok new
     → AreLayered ms start (m ∷ live) new
 loaded runs preserve ms live m start old new s c a k fits h =

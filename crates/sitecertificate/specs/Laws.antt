@@ -1,16 +1,18 @@
 -- The laws of certificates (own).
 use Rattle.std.specs.Prelude.{◌≡◌, ◌⊎◌, true, false, ◌↔◌, List, [], ◌∷◌, ◌++◌}
-use Rattle.std.specs.List.{list_any}
+use Rattle.std.specs.List.{list_all, list_any}
 use Rattle.std.specs.List.Sorted.{IsPermutation}
 use Rattle.envvars.specs.Texts.{Text}
 use Rattle.envvars.specs.Environment.{Environment}
 use Rattle.envloaded.specs.Loaded.{Entry, AreLoadedInOrder}
+use Rattle.modulefile.specs.Records.{conflict_names}
 use Rattle.modulefile.specs.Moves.{Module, Move, Loads, Unloads, Fits, MovesReach}
 use Rattle.reversal.specs.Live.{entries_over}
 use Rattle.reversal.specs.Starts.{IsInOrder, IsStart, IsStartWith}
 use Rattle.reversal.specs.Runs.{without_live, live_after, Undoes}
 use Rattle.reversal.specs.Laws.{Holds}
-use Rattle.reversal.specs.VariableUses.{VariableUse, UsedVariable}
+use Rattle.reversal.specs.Undone.{UndoAlike}
+use Rattle.reversal.specs.VariableUses.{VariableUse, UsedVariable, is_reversible}
 use Rattle.sitecertificate.specs.RecordUses.{used_by, used_by_modules, IsAmong, IsInStep, uses_by}
 use Rattle.sitecertificate.specs.Clashes.{is_other, in_conflict, in_conflict_with_entry, exclude, Clash}
 use Rattle.sitecertificate.specs.Certificates.{HasPlace, IsCertified, certified, AgreesWith, IsNotLoaded}
@@ -45,13 +47,25 @@ abbrev pub CertifiedInAnyOrder : Type 0
 CertifiedInAnyOrder =
     (ms ns : List Module) → IsPermutation ms ns → (m : Module) → IsCertified ms m → IsCertified ns m
 
--- Each load is of a certified module that is in conflict with no live one, and with whose uses the start agrees. Each
--- unload is of a live module, by records that undo what those of its load undo. No common use of a variable is asked
--- for: each module may have its own.
+-- The module is a certified one, with these records, or with others that undo what those of the certificate undo, are of
+-- kinds that unloading undoes, and are in conflict with the same names: as one whose file sets another value in another
+-- shell.
+pub record IsAsCertified (ms : List Module) (m : Module) : Type 0 where
+  pub certain : Module
+  pub certified : IsCertified ms certain
+  pub name : certain.name ≡ m.name
+  pub path : certain.path ≡ m.path
+  pub alike : UndoAlike m.records certain.records
+  pub reversible : list_all is_reversible m.records ≡ true
+  pub conflicts : conflict_names m.records ≡ conflict_names certain.records
+
+-- Each load is of a certified module, as it loads, that is in conflict with no live one, and with whose uses the start
+-- agrees. Each unload is of a live module, by records that undo what those of its load undo. No common use of a variable
+-- is asked for: each module may have its own.
 abbrev pub AreCertified : List Module → Environment → List Module → List Move → Type 0
 AreCertified ms start live [] = Unit {0}
 AreCertified ms start live (Loads m ∷ moves) =
-    IsCertified ms m × AgreesWith (used_by m.records) start
+    IsAsCertified ms m × AgreesWith (used_by m.records) start
     × ((n : Module) → IsAmong n live → in_conflict m n ≡ false) × AreCertified ms start (m ∷ live) moves
 AreCertified ms start live (Unloads m ∷ moves) =
     Undoes live m × AreCertified ms start (without_live m.name live) moves
@@ -75,11 +89,11 @@ CertifiedRunsStand =
     → (mid : Environment) × MovesReach done start mid × MovesReach rest mid e
     × Holds (uses_by (live_after [] done)) start (live_after [] done) mid
 
--- the live modules are certified, and none excludes another
+-- the live modules are certified, as they were loaded, and none excludes another
 abbrev pub AreCertifiedTogether : List Module → List Module → Type 0
 AreCertifiedTogether ms [] = Unit {0}
 AreCertifiedTogether ms (m ∷ live) =
-    IsCertified ms m × ((n : Module) → IsAmong n live → exclude m n ≡ false) × AreCertifiedTogether ms live
+    IsAsCertified ms m × ((n : Module) → IsAmong n live → exclude m n ≡ false) × AreCertifiedTogether ms live
 
 -- The live modules are certified, and none excludes another. The start is one by their uses of variables, and the
 -- environment is in order and is that start with them layered on it.

@@ -174,7 +174,7 @@ fn run_judged<T: Tree, P: WalkProgress, W: Write, E: Write>(
 /// there are none, it is that of the environment. Where `--help` is among the options, standard output says how the
 /// program is called, and nothing else is done. A word that begins with `-` and is no such option is refused (56), but
 /// not after the word `--`; after that the first word that names no directory is a fault of its own, before anything of
-/// the site is read, and so is a MODULEPATH without a directory. Each file of the site is evaluated once, and the report
+/// the site is read, and so is a MODULEPATH without a directory. Each file of the site is read once, and the report
 /// goes to standard output. A failed device (43) failed at a path that the audit looks at.
 ///
 /// Where there is a fault before the report is made, nothing is written but the line that says why, to standard error.

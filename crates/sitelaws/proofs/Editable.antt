@@ -12,6 +12,7 @@ use Rattle.modulefile.specs.Moves.{Module}
 use Rattle.modulefile.specs.Records.{Record}
 use Rattle.reversal.specs.VariableUses.{VariableUse, UsedVariable, use_by}
 use Rattle.reversal.proofs.RecordKinds.{used_name}
+use Rattle.settled.specs.Ways.{first_way}
 use Rattle.sitecertificate.specs.RecordUses.{used_by, Uses}
 use Rattle.sitecertificate.proofs.UsedLemmas.{by_cases, cons_either}
 use Rattle.sitelaws.specs.Sites.{Site, file_of, HasSettledRecords}
@@ -32,6 +33,6 @@ used_editable (r ∷ rs) v x a u =
 
 pub settled_editable : RecordsAreAllowed → (site : Site) (m : Module) → HasSettledRecords site (file_of m) m.records → (v : Text) (x : VariableUse) → Uses m.records v x → is_editable v ≡ true
 settled_editable allowed site m p v x u =
-    let h = evaluated site (file_of m) p.ran p.evaluated in
+    let h = evaluated site first_way (file_of m) p.runs.first p.evaluated.0 in
     used_editable m.records v x
-    (subst (λ (rs : List Record). list_all is_allowed rs ≡ true) (sym p.records) (allowed site.limits h.context h.text p.ran h.runs)) u
+    (subst (λ (rs : List Record). list_all is_allowed rs ≡ true) (sym p.records) (allowed site.limits h.context h.text p.runs.first h.runs)) u

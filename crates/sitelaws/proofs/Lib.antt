@@ -1,6 +1,7 @@
 mod Parts
-mod Evaluations
+pub mod Evaluations
 mod Admissions
+mod Covered
 mod SettledRecords
 mod Standing
 mod OneStanding

@@ -7,11 +7,10 @@ use Rattle.envvars.specs.Texts.{Text}
 use Rattle.envvars.specs.Fields.{colon}
 use Rattle.modulefile.specs.Records.{Record}
 use Rattle.modulefile.specs.Moves.{Module}
-use Rattle.modulefile.specs.Files.{Ran}
 use Rattle.modulefile.specs.Laws as files
 use Rattle.reversal.specs.VariableUses.{VariableUse, Pathed, is_reversible}
 use Rattle.requests.specs.Reasons.{RequestReason}
-use Rattle.settled.specs.Resting.{keeps_answer}
+use Rattle.settled.specs.Ways.{FileRuns, are_runs_alike, keeps_answer, keep_answers}
 use Rattle.sitecertificate.specs.RecordUses.{used_by, IsAmong, modulepath, same_use, AreInStep}
 use Rattle.sitecertificate.proofs.Exact.{use_itself}
 use Rattle.sitecertificate.proofs.CertifiedOnes.{certified_apart}
@@ -24,8 +23,11 @@ use Rattle.sitelaws.proofs.Evaluations.{one_outcome, one_list}
 -- what a standing says of the outcome: refused 0, settled 1, each question keeps its answer but a record is one-way 2,
 -- and else 3
 
-abbrev seen : Result Ran RequestReason → ℕ
-seen (Ok ran) = cond (list_all (keeps_answer ran.records) ran.asked) (cond (list_all is_reversible ran.records) 1 2) 3
+abbrev Outcome : Type 0
+Outcome = Result (FileRuns RequestReason) RequestReason
+
+abbrev seen : Outcome → ℕ
+seen (Ok runs) = cond (keep_answers runs) (cond (list_all is_reversible runs.first.records) 1 2) 3
 seen (Err reason) = 0
 
 abbrev said : Standing → ℕ
@@ -48,17 +50,18 @@ not_all p [] x h = absurd (cc)
 not_all p (y ∷ xs) x h = found_at p y x xs (p y) h (not_all p xs x)
 
 abbrev Says : Site → SiteModule → Standing → Type 0
-Says site m s = (o : Result Ran RequestReason) × EvaluatesTo site m o × (seen o ≡ said s)
+Says site m s = (o : Outcome) × EvaluatesTo site m o × (seen o ≡ said s)
 
-of_settled : (site : Site) (m : SiteModule) (rs : List Record) → HasSettledRecords site m rs → (o : Result Ran RequestReason) × EvaluatesTo site m o × (seen o ≡ 1)
+of_settled : (site : Site) (m : SiteModule) (rs : List Record) → HasSettledRecords site m rs → (o : Outcome) × EvaluatesTo site m o × (seen o ≡ 1)
 of_settled site m rs p =
-    let k = and_parts (list_all (keeps_answer p.ran.records) p.ran.asked) (list_all is_reversible p.ran.records) p.settled in
-    (Ok p.ran, p.evaluated, rw (k.0, k.1) refl)
+    let k = and_parts (keep_answers p.runs) (list_all is_reversible p.runs.first.records) p.settled in
+    (Ok p.runs, p.evaluated, rw (k.0, k.1) refl)
 
 says : (site : Site) (ms : List Module) (m : SiteModule) (s : Standing) → HasStanding site ms m s → Says site m s
 says site ms m Certified h = of_settled site m h.0 h.1
-says site ms m (Asks q) (ran, h, first) = (Ok ran, h, rw (not_all (keeps_answer ran.records) ran.asked q first) refl)
-says site ms m (OneWay r) (ran, h, kept, first) = (Ok ran, h, rw (kept, not_all is_reversible ran.records r first) refl)
+says site ms m (Asks q) (runs, h, first) =
+    (Ok runs, h, rw (not_all (keeps_answer (are_runs_alike runs) runs.first.records) runs.first.asked q first) refl)
+says site ms m (OneWay r) (runs, h, kept, first) = (Ok runs, h, rw (kept, not_all is_reversible runs.first.records r first) refl)
 says site ms m (ReadsUsed v n) h = of_settled site m h.0 h.1
 says site ms m (OutOfStep v x y) h = of_settled site m h.0 h.1
 says site ms m (Clashes v x y n) h = of_settled site m h.0 h.1

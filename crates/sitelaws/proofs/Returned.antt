@@ -8,12 +8,14 @@ use Rattle.envvars.specs.Environment.{Environment, lookup}
 use Rattle.envloaded.specs.Loaded.{Entry, loaded_in}
 use Rattle.envstate.proofs.StateLemmas.{list_in_order}
 use Rattle.modulefile.specs.Laws as files
+use Rattle.modulefile.specs.Records.{Record}
+use Rattle.modulefile.specs.Effects.{load}
 use Rattle.modulefile.specs.Moves.{Module, Move, Loads, Unloads, module_of_move, Fits, moved, MovesReach}
-use Rattle.reversal.specs.VariableUses.{VariableUse, Untouched}
+use Rattle.reversal.specs.VariableUses.{VariableUse, UsedVariable, Untouched}
 use Rattle.reversal.specs.Live.{entries_over}
 use Rattle.reversal.specs.Starts.{HasVariable, IsStartWith}
 use Rattle.reversal.specs.Requests as moves
-use Rattle.reversal.specs.Undone.{undo_of}
+use Rattle.reversal.specs.Undone.{UndoAlike}
 use Rattle.reversal.specs.Runs.{live_named, without_live, live_after, Undoes}
 use Rattle.requests.specs.Requests.{Request}
 use Rattle.requests.specs.Steps.{RequestContext}
@@ -25,13 +27,14 @@ use Rattle.settled.specs.Resting.{is_changing}
 use Rattle.sitecertificate.specs.RecordUses.{IsAmong, used_by, used_by_modules, first_use, uses_by}
 use Rattle.sitecertificate.specs.Clashes.{in_conflict, in_conflict_with_entry}
 use Rattle.sitecertificate.specs.Certificates.{IsCertified, certified, AgreesWith}
-use Rattle.sitecertificate.specs.Laws.{CertifiedAreExact, AreCertified, EntriesHaveConflicts, AreLayered}
+use Rattle.sitecertificate.specs.Laws.{CertifiedAreExact, IsAsCertified, AreCertified, EntriesHaveConflicts, AreLayered}
 use Rattle.sitecertificate.specs.Laws.{AreCertifiedTogether, CertifiedMovesPreserve, NoneIsLayered}
 use Rattle.sitecertificate.proofs.UsedLemmas.{by_cases, first_or_none, user_of}
+use Rattle.sitecertificate.proofs.AsCertified.{certain_use, used_alike}
 use Rattle.sitelaws.specs.Sites.{Site, SiteModule, over_site, HasSettledRecords, Reads, ReadsAlike, file_of, HasFreeReads}
-use Rattle.sitelaws.specs.Sites.{IsCandidate, AreCandidates}
+use Rattle.sitelaws.specs.Sites.{IsCandidate, AreAmongCandidates}
 use Rattle.sitelaws.specs.Admitted.{IsAdmitted}
-use Rattle.sitelaws.specs.Laws.{SettledRecordsAreAll, LoadsAreOf, SiteSessionsReturn, AuditsHold, AreReadAlike}
+use Rattle.sitelaws.specs.Laws.{LoadAlike, SettledRecordsAreAll, LoadsAreOf, SiteSessionsReturn, AuditsHold, AreReadAlike}
 use Rattle.sitelaws.specs.Laws.{SiteCommandsReturn}
 use Rattle.sitelaws.proofs.Admissions.{mode_of, IsFrom, TracedReach, traced, any_shell, session_traced}
 use Rattle.sitelaws.proofs.Forbidden.{no_conflict}
@@ -57,10 +60,13 @@ left_among : (name : Text) (l : Module) (live : List Module) → IsAmong l (with
 left_among name l [] a = absurd a
 left_among name l (m ∷ live) a = left_at m l live (without_live name live) (bytes_eq name m.name) a (left_among name l live)
 
-live_candidate : (site : Site) (ms live : List Module) (l : Module) → AreCandidates site ms → AreCertifiedTogether ms live → IsAmong l live → IsCandidate site l
-live_candidate site ms [] l all t a = absurd a
-live_candidate site ms (m ∷ live) l all t (inl e) = subst (IsCandidate site) (sym e) ((all m).0 t.0.listed)
-live_candidate site ms (m ∷ live) l all t (inr a) = live_candidate site ms live l all t.2 a
+live_certified : (ms live : List Module) (l : Module) → AreCertifiedTogether ms live → IsAmong l live → IsAsCertified ms l
+live_certified ms [] l t a = absurd a
+live_certified ms (m ∷ live) l t (inl e) = subst (IsAsCertified ms) (sym e) t.0
+live_certified ms (m ∷ live) l t (inr a) = live_certified ms live l t.2 a
+
+certain_candidate : (site : Site) (ms : List Module) (l : Module) (c : IsAsCertified ms l) → AreAmongCandidates site ms → IsCandidate site c.certain
+certain_candidate site ms l c all = all c.certain c.certified.listed
 
 -- ---- what is read has the values of the environment at hand
 
@@ -85,18 +91,20 @@ alike_after site cs start live (Unloads m ∷ todo) loads alike =
     alike_after site cs start (without_live m.name live) todo loads (left_alike site start live m.name alike)
 
 -- no live module uses it
-not_used : (site : Site) (ms live : List Module) (m : SiteModule) (v : Text) → AreCandidates site ms → AreCertifiedTogether ms live → HasFreeReads site m
+not_used : (site : Site) (ms live : List Module) (m : SiteModule) (v : Text) → AreAmongCandidates site ms → AreCertifiedTogether ms live → HasFreeReads site m
     → Reads site m v → uses_by live v ≡ Untouched
 not_used site ms live m v all together free r = by_cases (first_or_none v (used_by_modules live))
-    (λ i. let u = user_of v (first_use v (used_by_modules live)) live i in
-    absurd (free v u.user (first_use v (used_by_modules live)) r (live_candidate site ms live u.user all together u.there).settled u.uses))
+    (λ i. let x = first_use v (used_by_modules live) in
+    let u = user_of v x live i in
+    let c = live_certified ms live u.user together u.there in
+    absurd (free v c.certain x r (certain_candidate site ms u.user c all).settled (certain_use ms u.user c v x u.uses)))
     (λ n. n.untouched)
 
 value_untouched : (start e : Environment) (v : Text) (live : List Module) (u : VariableUse) → u ≡ Untouched → HasVariable u start v live e → lookup e v ≡ lookup start v
 value_untouched start e v live u same h = (subst (λ (x : VariableUse). HasVariable x start v live e) same h).value
 
 -- so it has the value of the start while certified modules are live
-reads_as_start : files.OneOutcome → (site : Site) (ms live : List Module) (start old : Environment) (c : Module) → AreCandidates site ms → AreLayered ms start live old
+reads_as_start : files.OneOutcome → (site : Site) (ms live : List Module) (start old : Environment) (c : Module) → AreAmongCandidates site ms → AreLayered ms start live old
     → IsCandidate site c → ReadsAlike site start (file_of c) → ReadsAlike site old (file_of c)
 reads_as_start one site ms live start old c all layered k alike v r =
     by_cases (of_user one site (file_of c) c.records v k.settled.records r)
@@ -110,20 +118,25 @@ is_move : (m : Move) → is_changing (mode_of m) ≡ true
 is_move (Loads m) = refl
 is_move (Unloads m) = refl
 
--- a move of a candidate has the records of it
-move_records : files.OneOutcome → SettledRecordsAreAll → (site : Site) (ms live : List Module) (start old : Environment) (m : Move) (c : Module) → AreCandidates site ms
+-- what the move of a candidate has of its records
+pub record IsMoveOf (c : Module) (m : Move) : Type 0 where
+  pub undoes : UndoAlike (module_of_move m).records c.records
+  pub loads : mode_of m ≡ load → LoadAlike c.records (module_of_move m).records
+
+move_records : files.OneOutcome → SettledRecordsAreAll → (site : Site) (ms live : List Module) (start old : Environment) (m : Move) (c : Module) → AreAmongCandidates site ms
     → AreLayered ms start live old → IsCandidate site c → ReadsAlike site start (file_of c) → c.name ≡ (module_of_move m).name → c.path ≡ (module_of_move m).path
-    → IsFrom (over_site site) m old → (module_of_move m).records ≡ c.records
+    → IsFrom (over_site site) m old → IsMoveOf c m
 move_records one law site ms live start old m c all layered k alike name path (ran, left, is, before, mode) =
     let same = same_file (module_of_move m) c name path in
     let now = reads_as_start one site ms live start old c all layered k alike in
-    is ∙ law site (file_of (module_of_move m)) c.records ran left
+    let found = law site (file_of (module_of_move m)) c.records ran left
     (subst (λ (f : SiteModule). HasSettledRecords site f c.records) same k.settled.records)
     (ap is_changing mode ∙ is_move m)
-    (subst (ReadsAlike site left.context.before) same (subst (λ (e : Environment). ReadsAlike site e (file_of c)) (sym before) now))
-
-same_parts : (m c : Module) → c.name ≡ m.name → c.path ≡ m.path → c.records ≡ m.records → c ≡ m
-same_parts m c name path records = λ i. record { name = name i; path = path i; records = records i }
+    (subst (ReadsAlike site left.context.before) same (subst (λ (e : Environment). ReadsAlike site e (file_of c)) (sym before) now)) in
+    record {
+      undoes = subst (λ (rs : List Record). UndoAlike rs c.records) (sym is) found.0;
+      loads = λ l. subst (LoadAlike c.records) (sym is) (found.1 (mode ∙ l));
+    }
 
 -- ---- conflicts
 
@@ -136,23 +149,26 @@ none_in_conflict conflicts start old live m first begin over (xs, read, none) =
 
 -- ---- moves
 
-undone : files.OneOutcome → SettledRecordsAreAll → (site : Site) (ms live : List Module) (start old : Environment) (m : Module) → AreCandidates site ms
+undone : files.OneOutcome → SettledRecordsAreAll → (site : Site) (ms live : List Module) (start old : Environment) (m : Module) → AreAmongCandidates site ms
     → AreLayered ms start live old → AreReadAlike site start live → IsFrom (over_site site) (Unloads m) old → IsNew start (Unloads m) → Fits (Unloads m) old → Undoes live m
 undone one law site ms live start old m all layered alike from new fits =
     let l = of_live (uses_by live) start old live m layered.begins.order.loaded layered.order layered.start_with_live new fits in
     let among = named_among m.name l.loaded live l.found in
-    let k = live_candidate site ms live l.loaded all layered.together among in
+    let c = live_certified ms live l.loaded layered.together among in
+    let reads : ReadsAlike site start (file_of c.certain) = subst (ReadsAlike site start) (sym (same_file l.loaded c.certain c.name c.path)) (alike l.loaded among) in
+    let now = move_records one law site ms live start old (Unloads m) c.certain all layered (certain_candidate site ms l.loaded c all) reads
+    (c.name ∙ sym l.name) (c.path ∙ sym l.path) from in
     record {
       loaded = l.loaded;
       found = l.found;
-      alike = ap undo_of (move_records one law site ms live start old (Unloads m) l.loaded all layered k (alike l.loaded among) (sym l.name) (sym l.path) from);
+      alike = now.undoes ∙ sym c.alike;
     }
 
 same_env : (m : Move) (old a b : Environment) → moved m old ≡ Ok a → moved m old ≡ Ok b → b ≡ a
 same_env m old a b h k = let q : Ok b ≡ Ok a = sym k ∙ h in cc
 
 are_certified : files.OneOutcome → CertifiedAreExact → EntriesHaveConflicts → CertifiedMovesPreserve → SettledRecordsAreAll
-    → (site : Site) (ms live : List Module) (start old new : Environment) (todo : List Move) → AreCandidates site ms
+    → (site : Site) (ms live : List Module) (start old new : Environment) (todo : List Move) → AreAmongCandidates site ms
     → AreLayered ms start live old → AreReadAlike site start live → AreNew start todo
     → LoadsAreOf site (certified ms) start todo → TracedReach (over_site site) todo old new → MovesReach todo old new
     → AreCertified ms start live todo
@@ -161,10 +177,17 @@ are_certified one exact conflicts preserve law site ms live start old new (Loads
     news ((c, among, name, path, agrees, reads), loads) ((admitted, from), (other, made, traces)) (fits, (mid, move, reach)) =
     let first = list_in_order start layered.begins.order.loaded in
     let certain : IsCertified ms c = (exact ms c).0 among in
-    let records = move_records one law site ms live start old (Loads m) c all layered ((all c).0 certain.listed) reads name path from in
-    let same : c ≡ m = same_parts m c name path (sym records) in
-    let is_certain : IsCertified ms m = subst (IsCertified ms) same certain in
-    let agreeing : AgreesWith (used_by m.records) start = subst (λ (x : Module). AgreesWith (used_by x.records) start) same agrees in
+    let now = move_records one law site ms live start old (Loads m) c all layered (all c certain.listed) reads name path from in
+    let is_certain : IsAsCertified ms m = record {
+      certain = c;
+      certified = certain;
+      name = name;
+      path = path;
+      alike = now.undoes;
+      reversible = (now.loads refl).reversible;
+      conflicts = (now.loads refl).conflicts;
+    } in
+    let agreeing : AgreesWith (used_by m.records) start = subst (λ (ps : List UsedVariable). AgreesWith ps start) (sym (used_alike m.records c.records now.undoes)) agrees in
     let free = none_in_conflict conflicts start old live m first.0 first.1 layered.start_with_live admitted in
     let h = preserve ms start old mid live (Loads m ∷ []) layered (is_certain, agreeing, free, tt) (fits, (mid, move, refl)) in (
       is_certain,

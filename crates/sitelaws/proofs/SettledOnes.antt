@@ -7,11 +7,10 @@ use Rattle.std.proofs.lemmas.Bool.{false≢true, not_from_true, not_from_false}
 use Rattle.envvars.specs.Texts.{Text, has}
 use Rattle.modulefile.specs.Records.{Record}
 use Rattle.modulefile.specs.Moves.{Module}
-use Rattle.modulefile.specs.Files.{Ran}
 use Rattle.modulefile.specs.Laws as files
 use Rattle.reversal.specs.VariableUses.{UsedVariable}
 use Rattle.requests.specs.Reasons.{RequestReason}
-use Rattle.settled.specs.Resting.{is_settled}
+use Rattle.settled.specs.Ways.{FileRuns, is_settled}
 use Rattle.sitecertificate.specs.RecordUses.{IsAmong, used_by_modules}
 use Rattle.sitecertificate.proofs.UsedLemmas.{by_test, by_cases, cons_first, cons_later, cons_either, used_among, user_of}
 use Rattle.sitecertificate.proofs.Exact.{any_some, some_any, filtered, in_filter}
@@ -19,7 +18,11 @@ use Rattle.sitelaws.specs.Sites.{Site, SiteModule, file_of, with_records, Evalua
 use Rattle.sitelaws.specs.Sites.{IsOfSite, IsSettledModule, AreSettledModules, HasFreeReads, AreCandidates, Evaluated}
 use Rattle.sitelaws.specs.Sites.{settled_of, settled_among, reads_of, reads_none, candidates_among, AreEvaluated}
 use Rattle.sitelaws.specs.Laws.{SettledModulesFound}
-use Rattle.sitelaws.proofs.Evaluations.{one_outcome, read_by_ran}
+use Rattle.sitelaws.proofs.Evaluations.{one_outcome, read_by_runs}
+
+-- what the evaluations of a file leave, or why the first is refused
+abbrev Outcome : Type 0
+Outcome = Result (FileRuns RequestReason) RequestReason
 
 -- members of a list that is filtered
 
@@ -53,19 +56,19 @@ by_settled : (b : Bool) (m n : Module) → cond b (Some m) None ≡ Some n → (
 by_settled true m n e = (refl, same_module m n e)
 by_settled false m n e = absurd (cc)
 
-records_of : (site : Site) (m : SiteModule) (o : Result Ran RequestReason) (n : Module) → EvaluatesTo site m o → settled_of (m, o) ≡ Some n → (file_of n ≡ m) × HasSettledRecords site (file_of n) n.records
+records_of : (site : Site) (m : SiteModule) (o : Outcome) (n : Module) → EvaluatesTo site m o → settled_of (m, o) ≡ Some n → (file_of n ≡ m) × HasSettledRecords site (file_of n) n.records
 records_of site m (Err reason) n h e = absurd (cc)
-records_of site m (Ok ran) n h e =
-    let s = by_settled (is_settled ran) (with_records m ran.records) n e in
-    let p : HasSettledRecords site m ran.records = record { ran = ran; evaluated = h; settled = s.0; records = refl } in
+records_of site m (Ok runs) n h e =
+    let s = by_settled (is_settled runs) (with_records m runs.first.records) n e in
+    let p : HasSettledRecords site m runs.first.records = record { runs = runs; evaluated = h; settled = s.0; records = refl } in
     (ap file_of (sym s.1), subst (λ (k : Module). HasSettledRecords site (file_of k) k.records) s.1 p)
 
-module_of : files.OneOutcome → (site : Site) (n : Module) (m : SiteModule) (o : Result Ran RequestReason)
+module_of : files.OneOutcome → (site : Site) (n : Module) (m : SiteModule) (o : Outcome)
     → m ≡ file_of n → HasSettledRecords site (file_of n) n.records → EvaluatesTo site m o → settled_of (m, o) ≡ Some n
 module_of one site n m o same p h =
-    let out : o ≡ Ok p.ran = one_outcome one site (file_of n) o (Ok p.ran) (subst (λ (k : SiteModule). EvaluatesTo site k o) same h) p.evaluated in
-    ap (λ (k : SiteModule). settled_of (k, o)) same ∙ (ap (λ (x : Result Ran RequestReason). settled_of (file_of n, x)) out
-    ∙ (ap (λ (b : Bool). cond b (Some (with_records (file_of n) p.ran.records)) None) p.settled
+    let out : o ≡ Ok p.runs = one_outcome one site (file_of n) o (Ok p.runs) (subst (λ (k : SiteModule). EvaluatesTo site k o) same h) p.evaluated in
+    ap (λ (k : SiteModule). settled_of (k, o)) same ∙ (ap (λ (x : Outcome). settled_of (file_of n, x)) out
+    ∙ (ap (λ (b : Bool). cond b (Some (with_records (file_of n) p.runs.first.records)) None) p.settled
     ∙ ap (λ (rs : List Record). Some (with_records (file_of n) rs)) (sym p.records)))
 
 settled_by : (site : Site) (outcomes : List Evaluated) (p : Evaluated) (n : Module) → AreEvaluated site outcomes → IsAmong p outcomes → settled_of p ≡ Some n
@@ -89,12 +92,12 @@ settled_found one site outcomes all n = (
 
 -- what is read by an outcome
 
-read_at : files.OneOutcome → (site : Site) (m : SiteModule) (o : Result Ran RequestReason) (v : Text) → EvaluatesTo site m o → Reads site m v → has v (reads_of (m, o)) ≡ true
-read_at one site m (Ok ran) v h r = read_by_ran one site m ran v h r
-read_at one site m (Err reason) v h r = absurd (let q : Ok r.ran ≡ Err reason = one_outcome one site m (Ok r.ran) (Err reason) r.evaluated h in cc)
+read_at : files.OneOutcome → (site : Site) (m : SiteModule) (o : Outcome) (v : Text) → EvaluatesTo site m o → Reads site m v → has v (reads_of (m, o)) ≡ true
+read_at one site m (Ok runs) v h r = read_by_runs one site m runs v h r
+read_at one site m (Err reason) v h r = absurd (let q : Ok r.runs ≡ Err reason = one_outcome one site m (Ok r.runs) (Err reason) r.evaluated h in cc)
 
-reads_by : (site : Site) (m : SiteModule) (o : Result Ran RequestReason) (v : Text) → EvaluatesTo site m o → has v (reads_of (m, o)) ≡ true → Reads site m v
-reads_by site m (Ok ran) v h t = record { ran = ran; evaluated = h; read = t }
+reads_by : (site : Site) (m : SiteModule) (o : Outcome) (v : Text) → EvaluatesTo site m o → has v (reads_of (m, o)) ≡ true → Reads site m v
+reads_by site m (Ok runs) v h t = record { runs = runs; evaluated = h; read = t }
 reads_by site m (Err reason) v h t = absurd (false≢true t)
 
 -- a module that reads none of what settled ones use has free reads, and the other way round

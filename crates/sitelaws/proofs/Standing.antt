@@ -9,11 +9,10 @@ use Rattle.envvars.specs.Fields.{colon}
 use Rattle.envvars.proofs.TextLemmas.{same_text}
 use Rattle.modulefile.specs.Records.{Record}
 use Rattle.modulefile.specs.Moves.{Module}
-use Rattle.modulefile.specs.Files.{Ran}
 use Rattle.modulefile.specs.Laws as files
 use Rattle.reversal.specs.VariableUses.{VariableUse, Pathed, is_reversible, UsedVariable}
 use Rattle.requests.specs.Reasons.{RequestReason}
-use Rattle.settled.specs.Resting.{variables_read, keeps_answer}
+use Rattle.settled.specs.Ways.{FileRuns, are_runs_alike, keeps_answer, keep_answers, reads_in}
 use Rattle.sitecertificate.specs.RecordUses.{used_by, used_by_modules, IsAmong, modulepath, same_use, use_alike}
 use Rattle.sitecertificate.specs.RecordUses.{are_in_step, is_in_step, IsInStep}
 use Rattle.sitecertificate.specs.Clashes.{is_other, do_clash}
@@ -28,7 +27,7 @@ use Rattle.sitelaws.specs.Sites.{AreSettledModules, HasFreeReads, AreCandidates}
 use Rattle.sitelaws.specs.Standings.{Standing, Certified, Asks, OneWay, ReadsUsed, OutOfStep, Clashes, Refused}
 use Rattle.sitelaws.specs.Standings.{IsUsedTwice, ClashesWith, HasStanding}
 use Rattle.sitelaws.specs.Laws.{EachStands, CertifiedStand}
-use Rattle.sitelaws.proofs.Evaluations.{some_outcome, read_by_ran}
+use Rattle.sitelaws.proofs.Evaluations.{some_outcome, read_by_runs}
 
 -- tests
 
@@ -101,38 +100,38 @@ candidate_stands site ms m rs all of_site p free reversible =
     (λ c. (Certified, (rs, p, free, no_clash ms n listed (in_step n s) c))))
     (λ f. let k = out_of_step rs f in (OutOfStep k.0 k.1 k.2, (rs, p, free, k.3)))
 
-settled_stands : files.OneOutcome → (site : Site) (settled ms : List Module) (m : SiteModule) (ran : Ran) → AreSettledModules site settled → AreCandidates site ms
-    → IsOfSite site m → EvaluatesTo site m (Ok ran) → list_all (keeps_answer ran.records) ran.asked ≡ true → list_all is_reversible ran.records ≡ true → Stands site ms m
-settled_stands one site settled ms m ran found all of_site h kept reversible =
-    let p : HasSettledRecords site m ran.records = record {
-      ran = ran;
+settled_stands : files.OneOutcome → (site : Site) (settled ms : List Module) (m : SiteModule) (runs : FileRuns RequestReason) → AreSettledModules site settled → AreCandidates site ms
+    → IsOfSite site m → EvaluatesTo site m (Ok runs) → keep_answers runs ≡ true → list_all is_reversible runs.first.records ≡ true → Stands site ms m
+settled_stands one site settled ms m runs found all of_site h kept reversible =
+    let p : HasSettledRecords site m runs.first.records = record {
+      runs = runs;
       evaluated = h;
-      settled = and_from (list_all (keeps_answer ran.records) ran.asked) (list_all is_reversible ran.records) kept reversible;
+      settled = and_from (keep_answers runs) (list_all is_reversible runs.first.records) kept reversible;
       records = refl;
     } in
-    by_test (list_any (λ (q : UsedVariable). has q.0 (variables_read ran.asked)) (used_by_modules settled)) _
-    (λ t. let q = any_some (λ (q : UsedVariable). has q.0 (variables_read ran.asked)) (used_by_modules settled) t in
+    by_test (list_any (λ (q : UsedVariable). has q.0 (reads_in runs)) (used_by_modules settled)) _
+    (λ t. let q = any_some (λ (q : UsedVariable). has q.0 (reads_in runs)) (used_by_modules settled) t in
     let u = user_of q.0.0 q.0.1 settled q.1 in (
       ReadsUsed q.0.0 u.user,
       (
-        ran.records,
+        runs.first.records,
         p,
-        record { ran = ran; evaluated = h; read = q.2 },
+        record { runs = runs; evaluated = h; read = q.2 },
         record { settled = (found u.user).0 u.there; used = q.0.1; uses = u.uses },
       ),
     ))
-    (λ f. candidate_stands site ms m ran.records all of_site p
-    (λ v n x r s u. false≢true (sym (fails_each (λ (q : UsedVariable). has q.0 (variables_read ran.asked)) (used_by_modules settled) (v, x) f
-    (used_among v x n settled ((found n).1 s) u)) ∙ read_by_ran one site m ran v h r)) reversible)
+    (λ f. candidate_stands site ms m runs.first.records all of_site p
+    (λ v n x r s u. false≢true (sym (fails_each (λ (q : UsedVariable). has q.0 (reads_in runs)) (used_by_modules settled) (v, x) f
+    (used_among v x n settled ((found n).1 s) u)) ∙ read_by_runs one site m runs v h r)) reversible)
 
-evaluated_stands : files.OneOutcome → (site : Site) (settled ms : List Module) (m : SiteModule) (o : Result Ran RequestReason)
+evaluated_stands : files.OneOutcome → (site : Site) (settled ms : List Module) (m : SiteModule) (o : Result (FileRuns RequestReason) RequestReason)
     → AreSettledModules site settled → AreCandidates site ms → IsOfSite site m → EvaluatesTo site m o → Stands site ms m
-evaluated_stands one site settled ms m (Ok ran) found all of_site h =
-    by_test (list_all (keeps_answer ran.records) ran.asked) _
-    (λ k. by_test (list_all is_reversible ran.records) _
-    (λ t. settled_stands one site settled ms m ran found all of_site h k t)
-    (λ g. let r = first_that_fails is_reversible ran.records g in (OneWay r.0, (ran, h, k, r.1))))
-    (λ f. let q = first_that_fails (keeps_answer ran.records) ran.asked f in (Asks q.0, (ran, h, q.1)))
+evaluated_stands one site settled ms m (Ok runs) found all of_site h =
+    by_test (keep_answers runs) _
+    (λ k. by_test (list_all is_reversible runs.first.records) _
+    (λ t. settled_stands one site settled ms m runs found all of_site h k t)
+    (λ g. let r = first_that_fails is_reversible runs.first.records g in (OneWay r.0, (runs, h, k, r.1))))
+    (λ f. let q = first_that_fails (keeps_answer (are_runs_alike runs) runs.first.records) runs.first.asked f in (Asks q.0, (runs, h, q.1)))
 evaluated_stands one site settled ms m (Err reason) found all of_site h = (Refused reason, h)
 
 pub each_stands : files.OneOutcome → files.SomeOutcome → EachStands

@@ -1,14 +1,17 @@
--- The laws of sites (own): loads are admitted, settled modules have one list of records, sessions of certified modules
--- return to their start, and changes by hand keep its agreement with what a module uses.
+-- The laws of sites (own): loads are admitted, settled modules do alike wherever they are evaluated, sessions of
+-- certified modules return to their start, and changes by hand keep its agreement with what a module uses.
 use Rattle.std.specs.Prelude.{◌≡◌, ◌↔◌, ℕ, true, List, [], ◌∷◌, ◌++◌, Some, Ok}
+use Rattle.std.specs.List.{list_all}
 use Rattle.envvars.specs.Texts.{Text}
 use Rattle.envvars.specs.Environment.{Environment}
 use Rattle.envloaded.specs.Loaded.{AreLoadedInOrder}
 use Rattle.shelltext.specs.declared.shell.Shell.{Shell}
-use Rattle.modulefile.specs.Records.{Record}
+use Rattle.modulefile.specs.Records.{Record, conflict_names}
+use Rattle.modulefile.specs.Effects.{load}
 use Rattle.modulefile.specs.Moves.{Module, Move, Loads, Unloads}
 use Rattle.modulefile.specs.Files.{Ran}
-use Rattle.reversal.specs.VariableUses.{VariableUse, Pathed}
+use Rattle.reversal.specs.VariableUses.{VariableUse, Pathed, is_reversible}
+use Rattle.reversal.specs.Undone.{UndoAlike}
 use Rattle.reversal.specs.Runs.{live_after}
 use Rattle.reversal.specs.Laws.{Holds}
 use Rattle.lookup.specs.DefaultFileResults.{HasResult}
@@ -24,9 +27,9 @@ use Rattle.sitecertificate.specs.Certificates.{IsCertified, certified, AgreesWit
 use Rattle.sitecertificate.specs.Laws.{AreLayered}
 use Rattle.settled.specs.Resting.{is_changing}
 use Rattle.sitelaws.specs.Sites.{Site, SiteModule, over_site, HasSettledRecords, Reads, ReadsAlike, IsDirectory}
-use Rattle.sitelaws.specs.Sites.{IsOfSite, file_of, AreSettledModules, AreCandidates, IsClosed, AreDirectories}
-use Rattle.sitelaws.specs.Sites.{AreNamesBelow, AreModulesIn, Evaluated, settled_among, candidates_among, with_records}
-use Rattle.sitelaws.specs.Sites.{AreEvaluated}
+use Rattle.sitelaws.specs.Sites.{IsOfSite, file_of, AreSettledModules, AreCandidates, AreAmongCandidates, IsClosed}
+use Rattle.sitelaws.specs.Sites.{AreDirectories, AreNamesBelow, AreModulesIn, Evaluated, settled_among}
+use Rattle.sitelaws.specs.Sites.{candidates_among, with_records, AreEvaluated}
 use Rattle.sitelaws.specs.Standings.{Standing, Certified, standing_word, HasStanding}
 use Rattle.sitelaws.specs.Admitted.{AdmittedMovesReach}
 
@@ -66,13 +69,20 @@ SettledModulesFound =
     (site : Site) (outcomes : List Evaluated) → AreEvaluated site outcomes
     → AreSettledModules site (settled_among outcomes) × AreCandidates site (candidates_among outcomes)
 
--- The records of a settled module are those that every accepted evaluation of its file for loading or unloading leaves,
--- in whatever shell and half of a switch, where the variables that it reads have the values of the environment at hand.
+-- What is loaded so: the records are of kinds that unloading undoes, and in conflict with the same names as these.
+pub record LoadAlike (rs loaded : List Record) : Type 0 where
+  pub reversible : list_all is_reversible loaded ≡ true
+  pub conflicts : conflict_names loaded ≡ conflict_names rs
+
+-- Every accepted evaluation of the file of a settled module, for loading or unloading, in whatever shell and half of a
+-- switch, where the variables that it reads have the values of the environment at hand, leaves records that undo what its
+-- own do, and load so.
 abbrev pub SettledRecordsAreAll : Type 0
 SettledRecordsAreAll =
     (site : Site) (m : SiteModule) (rs : List Record) (ran : Ran)
     (left : HasEvaluatedTo (over_site site) m.name m.path ran) → HasSettledRecords site m rs
-    → is_changing left.context.mode ≡ true → ReadsAlike site left.context.before m → ran.records ≡ rs
+    → is_changing left.context.mode ≡ true → ReadsAlike site left.context.before m
+    → UndoAlike ran.records rs × (left.context.mode ≡ load → LoadAlike rs ran.records)
 
 -- A module stands as certified where it is, with its records, one of the certified modules among the candidates of the
 -- site.
@@ -123,16 +133,16 @@ CertificateHolds site certain =
     → Holds (uses_by (live_after [] (session_moves before))) start (live_after [] (session_moves before))
     (end_environment start before)
 
--- The theorem of sites: so it is for the certified modules among the candidates of a site. Nothing is asked of the
--- records of loads and unloads, of their kinds, or of how the modules go together, and nothing of what modules use that
--- the session doesn't load.
+-- The theorem of sites: so it is for the certified modules among candidates of a site, be it all of them or some.
+-- Nothing is asked of the records of loads and unloads, of their kinds, or of how the modules go together, and nothing of
+-- what modules use that the session doesn't load.
 abbrev pub SiteSessionsReturn : Type 0
-SiteSessionsReturn = (site : Site) (ms : List Module) → AreCandidates site ms → CertificateHolds site (certified ms)
+SiteSessionsReturn = (site : Site) (ms : List Module) → AreAmongCandidates site ms → CertificateHolds site (certified ms)
 
 -- The same for any modules that are certified: in whatever order an audit has them.
 abbrev pub AuditsHold : Type 0
 AuditsHold =
-    (site : Site) (ms certain : List Module) → AreCandidates site ms
+    (site : Site) (ms certain : List Module) → AreAmongCandidates site ms
     → ((m : Module) → IsAmong m certain → IsCertified ms m) → CertificateHolds site certain
 
 -- what each of the modules reads has in the start the values of the environment at hand
@@ -145,7 +155,7 @@ abbrev pub SiteCommandsReturn : Type 0
 SiteCommandsReturn =
     (site : Site) (ms : List Module) (shell : Shell) (start e : Environment) (live : List Module)
     (action : RequestedAction) (d : Done)
-    → AreCandidates site ms → AreLayered ms start live e → AreReadAlike site start live
+    → AreAmongCandidates site ms → AreLayered ms start live e → AreReadAlike site start live
     → RequestStep (in_shell (over_site site) shell) e action (Ok d) → AreNew start d.moves
     → LoadsAreOf site (certified ms) start d.moves
     → AreLayered ms start (live_after live d.moves) d.env × AreReadAlike site start (live_after live d.moves)

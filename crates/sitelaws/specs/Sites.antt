@@ -1,5 +1,5 @@
 -- A whole site (own): its directories, its modules, and the records of those that are settled.
-use Rattle.std.specs.Prelude.{◌≡◌, ◌↔◌, Bool, true, false, not, List, [], ◌∷◌, ◌++◌, map, filter, filter_map, flat_map}
+use Rattle.std.specs.Prelude.{◌≡◌, ◌↔◌, Bool, true, not, List, [], ◌∷◌, ◌++◌, map, filter, filter_map, flat_map}
 use Rattle.std.specs.Prelude.{bytes_eq, if◌then◌else◌, Option, Some, None, Result, Ok, Err}
 use Rattle.std.specs.List.{list_any}
 use Rattle.std.specs.List.Sorted.{IsStrictlySortedBy}
@@ -12,11 +12,10 @@ use Rattle.filetree.specs.Agreement.{Files, Listings}
 use Rattle.filetree.specs.Modulefiles.{modulefile, directories, path_of}
 use Rattle.filetree.specs.Relations.{Is, ◌>>◌}
 use Rattle.modulefile.specs.Records.{Record, added_elements}
-use Rattle.modulefile.specs.Effects as modes
 use Rattle.modulefile.specs.Moves.{Module}
 use Rattle.modulefile.specs.Files.{Ran, RunsFile}
 use Rattle.reversal.specs.VariableUses.{VariableUse, UsedVariable}
-use Rattle.settled.specs.Resting.{is_settled, variables_read}
+use Rattle.settled.specs.Ways.{Way, first_way, other_ways, FileRuns, is_settled, reads_in}
 use Rattle.search.specs.Listed.{IsBelow}
 use Rattle.requests.specs.Refusals.{RefusedAs}
 use Rattle.requests.specs.Reasons.{RequestReason, file_refused}
@@ -56,30 +55,48 @@ pub record IsIn (site : Site) (dir : Text) (m : SiteModule) : Type 0 where
   pub below : IsBelow site.files site.listings dir m.name
   pub path : m.path ≡ path_of dir m.name
 
--- What an evaluation of the module's file leaves, or why it is refused. As for a verdict, the file is evaluated for
--- loading, in sh, in the environment at hand, and the typed name is the module's. Conflicts and prereqs aren't judged.
-abbrev pub EvaluatesTo : Site → SiteModule → Result Ran RequestReason → Type 0
-EvaluatesTo site m =
+-- ---- evaluations
+
+-- What the evaluation of a module's file leaves in a way, or why it is refused: in the environment at hand, and the typed
+-- name is the module's. Conflicts and prereqs aren't judged.
+abbrev pub EvaluatesBy : Site → Way → SiteModule → Result Ran RequestReason → Type 0
+EvaluatesBy site way m =
     Is (entries_of site.env) >> (λ xs.
     Is (script_at m.path (modulefile (site.files m.path))) >> (λ text.
-    RefusedAs file_refused
-    (RunsFile site.limits (context_of (over_site site) modes.load false m.name m.name m.path xs site.env) text)))
+    RefusedAs file_refused (RunsFile site.limits
+    (context_of (request_context_in site.limits way.shell site.files site.listings) way.mode way.in_switch m.name m.name
+    m.path xs site.env) text)))
 
--- The module is settled, and these are its records: each question of the evaluation keeps its answer, and unloading
--- undoes each record. So is a plain module, which asks nothing.
+-- the same in each of these ways, in their order
+abbrev pub EvaluateBy : Site → SiteModule → List Way → List (Result Ran RequestReason) → Type 0
+EvaluateBy site m [] [] = Unit {0}
+EvaluateBy site m [] (outcome ∷ outcomes) = ⊥
+EvaluateBy site m (way ∷ ways) [] = ⊥
+EvaluateBy site m (way ∷ ways) (outcome ∷ outcomes) =
+    EvaluatesBy site way m outcome × EvaluateBy site m ways outcomes
+
+-- What the evaluations of a module's file leave: for loading, in sh, and in the other ways that this one asks for; or why
+-- that one is refused.
+abbrev pub EvaluatesTo : Site → SiteModule → Result (FileRuns RequestReason) RequestReason → Type 0
+EvaluatesTo site m (Ok runs) =
+    EvaluatesBy site first_way m (Ok runs.first) × EvaluateBy site m (other_ways runs.first.asked) runs.others
+EvaluatesTo site m (Err reason) = EvaluatesBy site first_way m (Err reason)
+
+-- The module is settled, and these are its records, those for loading in sh: each question of its evaluation keeps its
+-- answer, and unloading undoes each record. So is a plain module, which asks nothing.
 pub record HasSettledRecords (site : Site) (m : SiteModule) (rs : List Record) : Type 0 where
-  pub ran : Ran
-  pub evaluated : EvaluatesTo site m (Ok ran)
-  pub settled : is_settled ran ≡ true
-  pub records : rs ≡ ran.records
+  pub runs : FileRuns RequestReason
+  pub evaluated : EvaluatesTo site m (Ok runs)
+  pub settled : is_settled runs ≡ true
+  pub records : rs ≡ runs.first.records
 
--- The evaluation of the module's file reads the variable.
+-- The evaluations of the module's file read the variable.
 pub record Reads (site : Site) (m : SiteModule) (v : Text) : Type 0 where
-  pub ran : Ran
-  pub evaluated : EvaluatesTo site m (Ok ran)
-  pub read : has v (variables_read ran.asked) ≡ true
+  pub runs : FileRuns RequestReason
+  pub evaluated : EvaluatesTo site m (Ok runs)
+  pub read : has v (reads_in runs) ≡ true
 
--- What the evaluation of the module's file reads has the values of the environment at hand.
+-- What the evaluations of the module's file read has the values of the environment at hand.
 abbrev pub ReadsAlike : Site → Environment → SiteModule → Type 0
 ReadsAlike site e m = (v : Text) → Reads site m v → lookup e v ≡ lookup site.env v
 
@@ -148,6 +165,10 @@ pub record IsCandidate (site : Site) (m : Module) : Type 0 where
 abbrev pub AreCandidates : Site → List Module → Type 0
 AreCandidates site ms = (m : Module) → IsAmong m ms ↔ IsCandidate site m
 
+-- each of the list is a candidate of the site, which may have others
+abbrev pub AreAmongCandidates : Site → List Module → Type 0
+AreAmongCandidates site ms = (m : Module) → IsAmong m ms → IsCandidate site m
+
 -- The list of directories is closed: it has those of MODULEPATH, and each that a settled module adds which is in one of
 -- the list.
 pub record IsClosed (site : Site) (dirs : List Text) : Type 0 where
@@ -173,22 +194,22 @@ AreModulesIn site (dir ∷ dirs) ms =
 
 -- ---- evaluated modules
 
--- a module, and what the evaluation of its file leaves or is refused for
+-- a module, and what the evaluations of its file leave, or why the first is refused
 abbrev pub Evaluated : Type 0
-Evaluated = SiteModule × Result Ran RequestReason
+Evaluated = SiteModule × Result (FileRuns RequestReason) RequestReason
 
 -- the module with its records, where it is settled
 abbrev pub settled_of : Evaluated → Option Module
-settled_of (m, Ok ran) = if is_settled ran then Some (with_records m ran.records) else None
+settled_of (m, Ok runs) = if is_settled runs then Some (with_records m runs.first.records) else None
 settled_of (m, Err reason) = None
 
 -- the settled ones of some evaluated modules, in their order
 abbrev pub settled_among : List Evaluated → List Module
 settled_among outcomes = filter_map settled_of outcomes
 
--- the variables that the evaluation of a module's file reads
+-- the variables that the evaluations of a module's file read
 abbrev pub reads_of : Evaluated → List Text
-reads_of (m, Ok ran) = variables_read ran.asked
+reads_of (m, Ok runs) = reads_in runs
 reads_of (m, Err reason) = []
 
 -- it reads none of the variables in these uses
@@ -200,7 +221,7 @@ abbrev pub candidates_among : List Evaluated → List Module
 candidates_among outcomes =
     filter_map settled_of (filter (reads_none (used_by_modules (settled_among outcomes))) outcomes)
 
--- The list has each module of the site with the outcome of its evaluation, and no others.
+-- The list has each module of the site with the outcome of its evaluations, and no others.
 pub record AreEvaluated (site : Site) (outcomes : List Evaluated) : Type 0 where
   pub modules : (m : SiteModule) → IsAmong m (map (λ outcome. outcome.0) outcomes) ↔ IsOfSite site m
   pub evaluated : (outcome : Evaluated) → IsAmong outcome outcomes → EvaluatesTo site outcome.0 outcome.1

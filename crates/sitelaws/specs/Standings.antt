@@ -1,15 +1,13 @@
 -- How each module of a site stands (own): whether it is certified, and else why it is not.
 use Rattle.std.specs.Prelude.{◌≡◌, true, false, not, List, ◌∷◌, codes, find, Some, Ok, Err}
-use Rattle.std.specs.List.{list_all}
 use Rattle.envvars.specs.Texts.{Text}
 use Rattle.envvars.specs.Fields.{colon}
 use Rattle.tclrules.specs.Oracle.{Question}
 use Rattle.modulefile.specs.Records.{Record}
 use Rattle.modulefile.specs.Moves.{Module}
-use Rattle.modulefile.specs.Files.{Ran}
 use Rattle.reversal.specs.VariableUses.{VariableUse, Pathed, is_reversible}
 use Rattle.requests.specs.Reasons.{RequestReason}
-use Rattle.settled.specs.Resting.{keeps_answer}
+use Rattle.settled.specs.Ways.{FileRuns, are_runs_alike, keeps_answer, keep_answers}
 use Rattle.sitecertificate.specs.RecordUses.{IsAmong, Uses, used_by, same_use, modulepath, IsInStep}
 use Rattle.sitecertificate.specs.Clashes.{is_other, Clash}
 use Rattle.sitecertificate.specs.Certificates.{IsCertified}
@@ -43,9 +41,10 @@ standing_word (OutOfStep variable one other) = codes "out-of-step"
 standing_word (Clashes variable own theirs other) = codes "clashes"
 standing_word (Refused reason) = codes "refused"
 
--- The first question that doesn't keep its answer.
-abbrev pub IsFirstUnkept : Ran → Question → Type 0
-IsFirstUnkept ran q = find (λ x. not (keeps_answer ran.records x)) ran.asked ≡ Some q
+-- The first question of the first evaluation that doesn't keep its answer.
+abbrev pub IsFirstUnkept : FileRuns RequestReason → Question → Type 0
+IsFirstUnkept runs q =
+    find (λ x. not (keeps_answer (are_runs_alike runs) runs.first.records x)) runs.first.asked ≡ Some q
 
 -- The first record that unloading doesn't undo.
 abbrev pub IsFirstOneWay : List Record → Record → Type 0
@@ -80,10 +79,11 @@ pub record IsUserOf (site : Site) (v : Text) (n : Module) : Type 0 where
 -- or is certified.
 abbrev pub HasStanding : Site → List Module → SiteModule → Standing → Type 0
 HasStanding site ms m Certified = IsCandidateAnd site m (λ n. IsCertified ms n)
-HasStanding site ms m (Asks first) = (ran : Ran) × EvaluatesTo site m (Ok ran) × IsFirstUnkept ran first
+HasStanding site ms m (Asks first) =
+    (runs : FileRuns RequestReason) × EvaluatesTo site m (Ok runs) × IsFirstUnkept runs first
 HasStanding site ms m (OneWay first) =
-    (ran : Ran) × EvaluatesTo site m (Ok ran) × (list_all (keeps_answer ran.records) ran.asked ≡ true)
-    × IsFirstOneWay ran.records first
+    (runs : FileRuns RequestReason) × EvaluatesTo site m (Ok runs) × (keep_answers runs ≡ true)
+    × IsFirstOneWay runs.first.records first
 HasStanding site ms m (ReadsUsed variable other) =
     (rs : List Record) × HasSettledRecords site m rs × Reads site m variable × IsUserOf site variable other
 HasStanding site ms m (OutOfStep variable one other) =

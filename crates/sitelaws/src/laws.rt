@@ -12,7 +12,7 @@ pub fn admissions()
 {}
 
 /// A walk over a site that has gone through each directory that it found has all directories of the site, and the modules
-/// that `avail` lists in them are those of the site. The settled ones among them are those whose evaluation says so, and
+/// that `avail` lists in them are those of the site. The settled ones among them are those whose evaluations say so, and
 /// the candidates those that read nothing which a settled one uses.
 pub fn walks()
     ensures names { NamesListed }
@@ -23,12 +23,13 @@ pub fn walks()
     modulefile::files();
 }
 
-/// The records of a settled module are those that every accepted evaluation of its file for loading or unloading leaves,
-/// where what it reads has the values of the environment at hand.
+/// Every accepted evaluation of the file of a settled module, for loading or unloading, where what it reads has the values
+/// of the environment at hand, leaves records that undo what its own do; and for loading, with its conflicts.
 pub fn settled_records()
     ensures { SettledRecordsAreAll }
 {
     settled::laws::settled();
+    settled::laws::undone();
 }
 
 /// Each module of a site stands in one of the seven ways, and in no other. It stands as certified exactly where it is one

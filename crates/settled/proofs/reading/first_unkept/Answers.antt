@@ -1,7 +1,7 @@
 use Rattle.std.proofs.Common.{sym, ◌∙◌, map}
 use Rattle.modulefile.specs.RecordViews.{record_view}
 use Rattle.modulerun.specs.Questions.{question_view}
-use Rattle.settled.specs.Resting.{keeps_answer}
+use Rattle.settled.specs.Ways.{keeps_answer}
 use Rattle.settled.proofs.Seen.{first_place, no_place, all_more}
 use Rattle.settled.proofs.reading.first_unkept.Goals as goal
 
@@ -9,18 +9,18 @@ pub loop-place-preserved : goal.loop-place-preserved
 loop-place-preserved c =
     let same = c.deref-question-items.ensures.value in
     let kept = sym c.in_ok-keeps_answer.ensures ∙ c.if-not-branch.false in
-    all_more (λ q. keeps_answer (map record_view c.args.ran.now.records.items) (question_view q)) c.args.ran.now.asked.items c.loop-place.place c.question-item.result
+    all_more (λ q. keeps_answer c.args.alike (map record_view c.args.ran.now.records.items) (question_view q)) c.args.ran.now.asked.items c.loop-place.place c.question-item.result
     (rw same at c.loop-place-test.true) (rw same at c.question-item.is) c.loop-place.invariant (rw c.as_slice.ensures.value at kept)
 
 pub returns-then-not-branch : goal.returns-then-not-branch
 returns-then-not-branch c =
     let same = c.deref-question-items.ensures.value in
     let unkept = sym c.in_ok-keeps_answer.ensures ∙ c.if-not-branch.true in
-    sym (first_place (λ q. keeps_answer (map record_view c.args.ran.now.records.items) (question_view q)) c.args.ran.now.asked.items c.loop-place.place c.question-item.result
+    sym (first_place (λ q. keeps_answer c.args.alike (map record_view c.args.ran.now.records.items) (question_view q)) c.args.ran.now.asked.items c.loop-place.place c.question-item.result
     (rw same at c.loop-place-test.true) c.loop-place.invariant (rw same at c.question-item.is) (rw c.as_slice.ensures.value at unkept))
 
 pub returns : goal.returns
 returns c =
     let same = c.deref-question-items.ensures.value in
-    sym (no_place (λ q. keeps_answer (map record_view c.args.ran.now.records.items) (question_view q)) c.args.ran.now.asked.items c.loop-place.place
+    sym (no_place (λ q. keeps_answer c.args.alike (map record_view c.args.ran.now.records.items) (question_view q)) c.args.ran.now.asked.items c.loop-place.place
     (rw same at c.loop-place-test.false) c.loop-place.invariant)

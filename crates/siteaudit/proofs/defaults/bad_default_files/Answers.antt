@@ -1,4 +1,4 @@
-use Rattle.std.proofs.Common.{map, refl, ap, ◌∙◌, string_bytes, rules}
+use Rattle.std.proofs.Common.{map, refl, ◌∙◌, string_bytes, rules}
 use Rattle.std.proofs.lemmas.Result.{err_from_is_err_and}
 use Rattle.envvars.specs.Texts.{texts_in}
 use Rattle.filetree.specs.Agreement.{InEachPair}
@@ -7,7 +7,7 @@ use Rattle.modules.specs.Answers.{is_failure}
 use Rattle.siteaudit.specs.SettledRuns.{evaluated_file}
 use Rattle.siteaudit.specs.Folders.{folder_view, ModuleLooksAt, EvaluatedLookAt}
 use Rattle.siteaudit.proofs.AmongLemmas.{among_at}
-use Rattle.siteaudit.proofs.BadDefaults.{none_so_far, bad_more, bad_whole}
+use Rattle.siteaudit.proofs.BadDefaults.{bad_more, bad_whole}
 use Rattle.siteaudit.proofs.FolderLemmas.{folders_more}
 use Rattle.siteaudit.proofs.defaults.bad_default_files.Goals as goal
 

@@ -1,7 +1,8 @@
 use Rattle.std.proofs.Common.{◌≡◌, ◌<◌, map, string_bytes}
 use Rattle.std.proofs.lemmas.Result.{err_from_is_err_and}
 use Rattle.sitelaws.specs.Sites.{SiteModule}
-use Rattle.siteaudit.proofs.FailureLemmas.{comes_unfailed}
+use Rattle.siteaudit.specs.WalkParts.{site_context}
+use Rattle.siteaudit.proofs.FailureLemmas.{shows_unfailed}
 use Rattle.siteaudit.proofs.OutcomeLemmas.{script_comes, unread_comes}
 use Rattle.siteaudit.proofs.files.evaluate_file.Goals as goal
 
@@ -17,9 +18,9 @@ pub returns-clause-over_tree : goal.returns-clause-over_tree
 returns-clause-over_tree g c =
     let a = c.args.settings in
     let m : SiteModule = record { name = c.args.name.now; path = c.args.path.now } in
-    let comes = rw c.as_str.ensures.value at c.run_script.ensures in
+    let shows = rw c.as_str-text.ensures.value at c.evaluate_script.ensures in
     script_comes a.limits a.env.now (map string_bytes a.loaded.now) c.requires m (g.T.Tree.agrees c.script_at.new.tree)
-    (g.T.Tree.failures c.args.tree.now < g.T.Tree.failures c.script_at.new.tree) (string_bytes c.in_ok-text.text) c.run_script.result c.in_ok-text.ensures.over_tree comes
+    (g.T.Tree.failures c.args.tree.now < g.T.Tree.failures c.script_at.new.tree) (string_bytes c.in_ok-text.text) c.evaluate_script.result c.in_ok-text.ensures.over_tree shows
 
 pub returns-in_err-text-clause-failed : goal.returns-in_err-text-clause-failed
 returns-in_err-text-clause-failed g c =
@@ -28,4 +29,5 @@ returns-in_err-text-clause-failed g c =
 
 pub returns-clause-failed : goal.returns-clause-failed
 returns-clause-failed g c =
-    comes_unfailed c.run_script.result _ (g.T.Tree.failed c.args.tree.now) (g.T.Tree.failed c.script_at.new.tree) (λ at. at ≡ c.args.path.now) c.run_script.ensures c.in_ok-text.ensures.failed
+    let a = c.args.settings in
+    shows_unfailed a.limits (λ w. site_context w c.args.name.now c.args.path.now (map string_bytes a.loaded.now) a.env.now) c.as_str-text.result.now c.evaluate_script.result (g.T.Tree.failed c.args.tree.now) (g.T.Tree.failed c.script_at.new.tree) (λ at. at ≡ c.args.path.now) c.evaluate_script.ensures c.in_ok-text.ensures.failed

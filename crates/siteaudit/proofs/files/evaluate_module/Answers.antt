@@ -1,18 +1,18 @@
-use Rattle.std.proofs.Common.{◌≡◌, ◌<◌, ℕ, List, Result, sym, ◌∙◌, subst}
+use Rattle.std.proofs.Common.{◌≡◌, ◌<◌, ℕ, List, Result, sym, ◌∙◌, subst, string_bytes}
 use Rattle.std.proofs.lemmas.Result.{err_from_is_err_and}
 use Rattle.envvars.specs.Texts.{Text}
 use Rattle.filetree.specs.Agreement.{FailsAt}
-use Rattle.modulerun.specs.declared.run.FileRun.{FileRun}
 use Rattle.modules.specs.Answers.{is_failure}
 use Rattle.modules.specs.declared.refusal.Refusal.{Refusal}
 use Rattle.sitelaws.specs.Sites.{EvaluatesTo, site_of, module_below}
-use Rattle.siteaudit.specs.WalkParts.{ComesToOverTree}
+use Rattle.siteaudit.specs.WalkParts.{ComesToOverTree, IsEvaluationWith}
+use Rattle.siteaudit.specs.declared.scripts.FileEvaluation.{FileEvaluation}
 use Rattle.siteaudit.proofs.FailureLemmas.{given_up_failed, kept_unfailed}
-use Rattle.siteaudit.proofs.OutcomeLemmas.{has_outcome}
+use Rattle.siteaudit.proofs.OutcomeLemmas.{is_evaluation}
 use Rattle.siteaudit.proofs.files.evaluate_module.Goals as goal
 
 pub returns-clause-evaluated : goal.returns-clause-evaluated
-returns-clause-evaluated g c = λ files listings k.
+returns-clause-evaluated g c =
     let a = c.args.settings in
     let dir = c.args.dir.now in
     let name = c.args.name.now in
@@ -22,14 +22,12 @@ returns-clause-evaluated g c = λ files listings k.
     (λ files listings. EvaluatesTo (site_of a.limits a.env.now files listings)
     (record { name = name; path = path })))
     (c.as_str.ensures.value ∙ c.in_ok-path.ensures) c.evaluate_file.ensures.over_tree in
-    let comes = subst (λ (o : Result FileRun Refusal). ComesToOverTree agrees failed o (λ files listings. EvaluatesTo (site_of a.limits a.env.now files listings) (module_below dir name)))
+    let comes = subst (λ (o : Result FileEvaluation Refusal). ComesToOverTree agrees failed o (λ files listings. EvaluatesTo (site_of a.limits a.env.now files listings) (module_below dir name)))
     (sym c.in_ok-outcome.ensures.same) here in
-    let h = has_outcome agrees failed (λ files listings. EvaluatesTo (site_of a.limits a.env.now files listings)
-    (module_below dir name)) c.in_ok-outcome.outcome comes c.in_ok-outcome.ensures.kept files listings k in (
-      h.0,
-      h.1,
-      record { name = sym c.in_ok-full_name.ensures.ok; path = sym c.in_ok-path.ensures; outcome = h.2; reads = c.in_ok-reads.ensures },
-    )
+    let with_name = subst (λ (n : Text). IsEvaluationWith n (string_bytes c.in_ok-path.path) c.in_ok-outcome.outcome c.evaluation_of.result) c.in_ok-full_name.ensures.ok c.evaluation_of.ensures in
+    let with_path = subst (λ (p : Text). IsEvaluationWith name p c.in_ok-outcome.outcome c.evaluation_of.result) c.in_ok-path.ensures with_name in
+    is_evaluation agrees failed (λ files listings. EvaluatesTo (site_of a.limits a.env.now files listings) (module_below dir name)) (module_below dir name)
+    c.in_ok-outcome.outcome c.evaluation_of.result comes c.in_ok-outcome.ensures.kept with_path
 
 pub returns-in_err-outcome-clause-failed : goal.returns-in_err-outcome-clause-failed
 returns-in_err-outcome-clause-failed g c =
@@ -44,13 +42,4 @@ returns-clause-failed g c =
     let now = g.T.Tree.failed c.evaluate_file.new.tree in
     let Here : List ℕ → Type 0 = λ at. at ≡ c.as_str.result.now in
     kept_unfailed c.in_ok-outcome.outcome before now Here c.in_ok-outcome.ensures.kept
-    (subst (λ (o : Result FileRun Refusal). FailsAt is_failure before now o Here) (sym c.in_ok-outcome.ensures.same) c.evaluate_file.ensures.failed)
-
-pub returns-in_err-reads-clause-failed : goal.returns-in_err-reads-clause-failed
-returns-in_err-reads-clause-failed g c =
-    let p = err_from_is_err_and c.from_residual-in_err-reads.result c.from_residual-in_err-reads.ensures.1 in
-    let before = g.T.Tree.failed c.args.tree.now in
-    let now = g.T.Tree.failed c.evaluate_file.new.tree in
-    let Here : List ℕ → Type 0 = λ at. at ≡ c.as_str.result.now in
-    rw (p.1, p.2) (kept_unfailed c.in_ok-outcome.outcome before now Here c.in_ok-outcome.ensures.kept
-    (subst (λ (o : Result FileRun Refusal). FailsAt is_failure before now o Here) (sym c.in_ok-outcome.ensures.same) c.evaluate_file.ensures.failed))
+    (subst (λ (o : Result FileEvaluation Refusal). FailsAt is_failure before now o Here) (sym c.in_ok-outcome.ensures.same) c.evaluate_file.ensures.failed)

@@ -1,9 +1,9 @@
-use Rattle.std.proofs.Common.{◌≡◌, ◌∷◌, [], ◌++◌, map, List, Option, append_assoc, append-nil, ap, ◌∙◌, sym, subst, refl}
+use Rattle.std.proofs.Common.{◌≡◌, ◌∷◌, [], ◌++◌, map, List, Option, append_assoc, ap, ◌∙◌, sym, refl}
 use Rattle.std.specs.Vec.Iter.{into_iter_items}
 use Rattle.modules.specs.MoveViews.{module_view}
 use Rattle.sitereads.specs.declared.readers.UsedRead.{UsedRead}
 use Rattle.siteaudit.specs.declared.walk.Evaluation.{Evaluation}
-use Rattle.siteaudit.specs.Findings.{first_read, later_reads, reads_along, AreJudged}
+use Rattle.siteaudit.specs.Findings.{first_read, reads_along}
 use Rattle.siteaudit.proofs.JudgedLemmas.{judged_more}
 use Rattle.siteaudit.proofs.judgement.judge_all.Goals as goal
 

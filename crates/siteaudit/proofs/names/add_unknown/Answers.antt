@@ -1,4 +1,4 @@
-use Rattle.std.proofs.Common.{List, [], ◌∷◌, map, ap, ◌∙◌, string_bytes}
+use Rattle.std.proofs.Common.{[], ◌∷◌, map, ap, ◌∙◌, string_bytes}
 use Rattle.envvars.specs.Texts.{Text}
 use Rattle.sitelaws.specs.DirectorySets.{with_directories}
 use Rattle.sitelaws.proofs.DirectorySetLemmas.{pushed}

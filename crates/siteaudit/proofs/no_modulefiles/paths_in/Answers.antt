@@ -1,4 +1,4 @@
-use Rattle.std.proofs.Common.{◌≡◌, List, Option, map, flat_map, string_bytes, String, Global, sym, ap, ◌∙◌}
+use Rattle.std.proofs.Common.{List, Option, map, flat_map, string_bytes, String, Global, sym, ap, ◌∙◌}
 use Rattle.filetree.specs.Agreement.{listing_answer}
 use Rattle.modulename.specs.ModuleName.{Text}
 use Rattle.siteaudit.specs.FilesBelow.{names_of, path_by, path_by_entry}

@@ -6,4 +6,4 @@ use Rattle.siteaudit.proofs.reads.readers.Given as goal
 abbrev pub invariant-loop-evaluation : goal.invariant-loop-evaluation
 invariant-loop-evaluation l =
     (map module_of l.readers.items ≡ map settled_module (take l.evaluation-index l.evaluations))
-    × (map reads_of l.readers.items ≡ map (λ e. settled_reads e.outcome) (take l.evaluation-index l.evaluations))
+    × (map reads_of l.readers.items ≡ map settled_reads (take l.evaluation-index l.evaluations))

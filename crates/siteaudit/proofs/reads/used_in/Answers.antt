@@ -1,9 +1,8 @@
-use Rattle.std.proofs.Common.{map, List, subst, ◌∙◌, ap}
+use Rattle.std.proofs.Common.{map, List, subst}
 use Rattle.std.proofs.lemmas.Result.{IfOk-weaker}
 use Rattle.modulefile.specs.Moves.{Module}
-use Rattle.sitereads.specs.Answers.{module_of, reads_of, AreAnswers}
-use Rattle.sitereads.specs.declared.readers.Reader.{Reader}
-use Rattle.siteaudit.specs.SettledRuns.{settled_module, AreUsedReads}
+use Rattle.sitereads.specs.Answers.{module_of}
+use Rattle.siteaudit.specs.SettledRuns.{AreUsedReads}
 use Rattle.siteaudit.proofs.UsedReads.{used_along}
 use Rattle.siteaudit.proofs.reads.used_in.Goals as goal
 

@@ -4,29 +4,34 @@ use Rattle.envvars.specs.Environment.{Environment}
 use Rattle.modulefile.specs.Files.{RunsFile}
 use Rattle.modulerun.specs.Running.{ran_view, file_reason_of}
 use Rattle.modules.proofs.StepLemmas.{run_refused}
+use Rattle.settled.specs.WayViews.{way_view}
 use Rattle.siteaudit.specs.WalkParts.{site_context}
-use Rattle.siteaudit.proofs.files.run_script.Goals as goal
+use Rattle.siteaudit.proofs.scripts.run_script.Goals as goal
 
 pub returns-in_err-run_file : goal.returns-in_err-run_file
 returns-in_err-run_file c =
     let p = err_from_is_err_and c.from_residual.result c.from_residual.ensures.1 in
     let a = c.args.settings in
+    let s = c.args.script in
+    let way = way_view c.args.way in
     let loaded = map string_bytes a.loaded.now in
     let fault = c.in_err-run_file.field-0.0 in
-    rw (p.1, p.2) (run_refused (file_reason_of fault) (RunsFile a.limits (site_context c.args.name.now c.args.path.now loaded a.env.now) c.args.text.now)
+    rw (p.1, p.2) (run_refused (file_reason_of fault) (RunsFile a.limits (site_context way s.name.now s.path.now loaded a.env.now) s.text.now)
     (subst (λ (e : Environment). IfSome (file_reason_of fault)
-    (λ stop. RunsFile a.limits (site_context c.args.name.now c.args.path.now loaded e) c.args.text.now (Err stop)))
+    (λ stop. RunsFile a.limits (site_context way s.name.now s.path.now loaded e) s.text.now (Err stop)))
     c.over-working.ensures.new c.in_err-run_file.ensures.runs.1))
 
 pub returns : goal.returns
 returns c =
     let a = c.args.settings in
+    let s = c.args.script in
+    let way = way_view c.args.way in
     let loaded = map string_bytes a.loaded.now in
     let ran = ran_view c.in_ok-run_file.field-0 c.run_file.new.env.new in (
       c.run_file.new.env.new,
       (
         Ok ran,
-        subst (λ (e : Environment). RunsFile a.limits (site_context c.args.name.now c.args.path.now loaded e) c.args.text.now (Ok ran)) c.over-working.ensures.new c.in_ok-run_file.ensures.runs,
+        subst (λ (e : Environment). RunsFile a.limits (site_context way s.name.now s.path.now loaded e) s.text.now (Ok ran)) c.over-working.ensures.new c.in_ok-run_file.ensures.runs,
         refl,
       ),
     )

@@ -1,0 +1,21 @@
+-- What the ways and the undone records of the code stand for in the definitions (own).
+use Rattle.std.specs.Prelude.{[], Some, map, string_bytes}
+use Rattle.modulefile.specs.Records as records
+use Rattle.modulefile.specs.RecordViews.{mode_view}
+use Rattle.modulefile.specs.declared.records.PathEdit.TheVariants.{Front}
+use Rattle.settled.specs.Ways as ways
+use Rattle.settled.specs.declared.ways.Way.{Way}
+use Rattle.settled.specs.declared.undone.Undone.{Undone}
+use Rattle.settled.specs.declared.undone.Undone.TheVariants as code
+
+-- a way
+abbrev pub way_view : Way → ways.Way
+way_view way = record { mode = mode_view way.mode; in_switch = way.in_switch; shell = way.shell }
+
+-- a record as an unload sees it
+abbrev pub undone_view : Undone → records.Record
+undone_view (code.Set variable) = records.Set variable.now []
+undone_view (code.Unset variable value) = records.Unset variable.now (Some value.now)
+undone_view (code.Push variable) = records.Push variable.now []
+undone_view (code.Path delim variable elements) =
+    records.Path Front delim.character variable.now (map string_bytes elements.now)

@@ -1,0 +1,148 @@
+//! Whether what an evaluation in another way leaves is like what the first leaves.
+ghost use Rattle.std.specs.Prelude.{◌≡◌, ◌&&◌, ◌++◌, bytes_eq, map, IfOk, OnOk};
+ghost use Rattle.envvars.specs.Environment.{Environment};
+ghost use Rattle.envvars.specs.Texts.{slice_texts};
+ghost use Rattle.modulefile.specs.Records as modulefiles;
+ghost use Rattle.modulefile.specs.Records.{conflicts_of};
+ghost use Rattle.modulefile.specs.RecordViews.{mode_view, record_view};
+ghost use Rattle.modulerun.specs.Questions.{questions_in};
+ghost use Rattle.modulerun.specs.Running.{ran_view};
+ghost use Rattle.std.specs.List.{list_all};
+ghost use Rattle.reversal.specs.VariableUses.{is_reversible};
+ghost use Rattle.settled.specs.Ways as spec;
+ghost use Rattle.settled.specs.Ways.{same_by};
+
+use crate::asking::asked_of_way;
+use crate::resting::all_rest;
+use crate::undone::do_undo_alike;
+use modulefile::{Mode, Record};
+use modulerun::{FileRun, Question};
+use modules::are_reversible;
+use std::alloc::{AllocError, Global};
+
+/// Adds the names of a `conflict`.
+fn push_names<'r>(names: &mut Vec<&'r str>, recorded: &'r Record) -> Result<(), AllocError>
+    ensures { OnOk result (slice_texts names.new.items
+        ≡ slice_texts names.old.items ++ conflicts_of (record_view recorded.entry.now)) }
+{
+    for name in recorded.conflicts() {
+        names.push(name.as_str())?;
+    }
+    Ok(())
+}
+
+/// The names that records are in conflict with, in the order of their mention.
+fn conflict_names(alloc: Global, records: &[Record]) -> Result<Vec<&str>, AllocError>
+    ensures { IfOk result (λ names. slice_texts names.items
+        ≡ modulefiles.conflict_names (map record_view records.entry.now)) }
+{
+    let mut names = Vec::new(alloc);
+    for recorded in records {
+        push_names(&mut names, recorded)?;
+    }
+    Ok(names)
+}
+
+/// Whether both are the same names in the same order.
+fn same_names(one: &[&str], other: &[&str]) -> bool
+    ensures { result ≡ same_by bytes_eq (slice_texts one.entry.now) (slice_texts other.entry.now) }
+{
+    if one.len() != other.len() {
+        return false;
+    }
+    for (name, another) in one.iter().zip(other) {
+        if *name != *another {
+            return false;
+        }
+    }
+    true
+}
+
+/// Whether records are of kinds that unloading undoes, and in conflict with the same names as those of the first
+/// evaluation.
+fn do_load_alike(alloc: Global, first: &[Record], records: &[Record]) -> Result<bool, AllocError>
+    ensures { IfOk result (λ alike. alike ≡ (list_all is_reversible (map record_view records.now) && same_by bytes_eq
+        (modulefiles.conflict_names (map record_view first.now))
+        (modulefiles.conflict_names (map record_view records.now)))) }
+{
+    if !are_reversible(records) {
+        return Ok(false);
+    }
+    let one = conflict_names(alloc, first)?;
+    let other = conflict_names(alloc, records)?;
+    Ok(same_names(one.as_slice(), other.as_slice()))
+}
+
+/// The same where the evaluation is for loading; nothing is asked of one for unloading.
+fn load_alike(
+    alloc: Global,
+    mode: Mode,
+    first: &[Record],
+    records: &[Record],
+) -> Result<bool, AllocError>
+    ensures { IfOk result (λ alike. alike
+        ≡ spec.loads_alike (mode_view mode) (map record_view first.now) (map record_view records.now)) }
+{
+    match mode {
+        Mode::Load => do_load_alike(alloc, first, records),
+        Mode::Unload | Mode::Display | Mode::Whatis => Ok(true),
+    }
+}
+
+/// Whether questions ask nothing of the way that the first ones don't ask.
+fn ask_no_more(
+    alloc: Global,
+    first: &[Question],
+    questions: &[Question],
+) -> Result<bool, AllocError>
+    ensures { IfOk result (λ alike. alike
+        ≡ spec.asks_no_more (questions_in first.now) (questions_in questions.now)) }
+{
+    let before = asked_of_way(alloc, first)?;
+    let now = asked_of_way(alloc, questions)?;
+    Ok((!now.mode || before.mode) && (!now.shell || before.shell))
+}
+
+/// Whether the records of an evaluation for this mode undo what those of the first undo, and load alike.
+fn records_alike(
+    alloc: Global,
+    mode: Mode,
+    first: &[Record],
+    records: &[Record],
+) -> Result<bool, AllocError>
+    ensures { IfOk result (λ alike. alike
+        ≡ spec.records_alike (mode_view mode) (map record_view first.now) (map record_view records.now)) }
+{
+    if !do_undo_alike(alloc, first, records)? {
+        return Ok(false);
+    }
+    load_alike(alloc, mode, first, records)
+}
+
+/// Whether what an evaluation for this mode left is like what the first left: each of its questions rests, it asks no
+/// more of the way, and its records undo the same; where it is for loading, they are of kinds that unloading undoes, and
+/// in conflict with the same names.
+///
+/// The only error is want of memory.
+pub fn is_ran_alike(
+    alloc: Global,
+    first: &FileRun,
+    mode: Mode,
+    ran: &FileRun,
+) -> Result<bool, AllocError>
+    ensures { IfOk result (λ alike. (e f : Environment)
+        → alike ≡ spec.is_ran_alike (ran_view first.now e) (mode_view mode) (ran_view ran.now f)) }
+{
+    if !all_rest(alloc, ran)? {
+        return Ok(false);
+    }
+    if !ask_no_more(alloc, first.asked.as_slice(), ran.asked.as_slice())? {
+        return Ok(false);
+    }
+    records_alike(
+        alloc,
+        mode,
+        first.records.as_slice(),
+        ran.records.as_slice(),
+    )
+}

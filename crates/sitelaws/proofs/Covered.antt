@@ -1,0 +1,324 @@
+-- The ways that a file asks for are all ways, as far as it asks; and what evaluations that are alike leave in them.
+use Rattle.std.proofs.Common.{◌≡◌, ◌⊎◌, inl, inr, Bool, true, false, ◌&&◌, ◌||◌, not, List, [], ◌∷◌, ◌++◌, Result, Ok, Err, refl, sym}
+use Rattle.std.proofs.Common.{◌∙◌, subst, Option, Some, None}
+use Rattle.std.specs.Prelude.{flat_map, is_none, bytes_eq}
+use Rattle.std.specs.List.{list_all}
+use Rattle.std.proofs.lemmas.Bool.{false≢true, and_parts, or_from}
+use Rattle.std.proofs.lemmas.List.Folds.{list_any-append}
+use Rattle.envvars.specs.Texts.{Text, has}
+use Rattle.shelltext.specs.declared.shell.Shell.{Shell}
+use Rattle.shelltext.specs.declared.shell.Shell.TheVariants.{Sh, Bash, Ksh, Zsh, Csh, Tcsh, Fish}
+use Rattle.tclrules.specs.Oracle.{Question}
+use Rattle.modulefile.specs.Calls.{InfoField}
+use Rattle.modulefile.specs.Effects.{Mode, load, unload, display, whatis}
+use Rattle.modulefile.specs.Files.{Ran}
+use Rattle.modulefile.specs.Records.{Record, conflict_names}
+use Rattle.reversal.specs.VariableUses.{is_reversible}
+use Rattle.reversal.specs.Undone.{UndoAlike}
+use Rattle.requests.specs.Reasons.{RequestReason}
+use Rattle.settled.specs.Resting.{rests, field_of, is_mode, is_shell, asks_mode, asks_shell, is_changing, variables_read}
+use Rattle.settled.specs.Ways.{Way, first_way, loading_in, more_in, ways_in, other_shells, ways_elsewhere, other_ways, FileRuns}
+use Rattle.settled.specs.Ways.{same_by, do_undo_alike, asks_no_more, loads_alike, records_alike, is_ran_alike, is_alike, are_alike}
+use Rattle.settled.specs.Ways.{are_runs_alike, keeps_answer, keep_answers, is_settled, read_in, reads_in}
+use Rattle.settled.specs.Laws.{UndoIsTested}
+use Rattle.settled.proofs.UndoTested.{texts_sound}
+use Rattle.sitecertificate.specs.RecordUses.{IsAmong}
+use Rattle.sitecertificate.proofs.UsedLemmas.{by_test, by_cases, among_left, among_right}
+use Rattle.sitelaws.specs.Sites.{Site, SiteModule, EvaluatesBy, EvaluateBy, EvaluatesTo}
+use Rattle.sitelaws.specs.Laws.{LoadAlike}
+
+-- ---- the ways
+
+in_flat : {X Y : Type 0} (f : X → List Y) (xs : List X) (x : X) (y : Y) → IsAmong x xs → IsAmong y (f x) → IsAmong y (flat_map f xs)
+in_flat f [] x y a b = absurd a
+in_flat {X} {Y} f (z ∷ xs) x y (inl e) b = among_left y (f z) (flat_map f xs) (subst (λ (w : X). IsAmong y (f w)) e b)
+in_flat f (z ∷ xs) x y (inr a) b = among_right y (f z) (flat_map f xs) (in_flat f xs x y a b)
+
+abbrev way_of : Mode → Bool → Shell → Way
+way_of m s h = record { mode = m; in_switch = s; shell = h }
+
+-- each way of a shell that changes the environment
+each_in : (m : Mode) (s : Bool) (h : Shell) → is_changing m ≡ true → IsAmong (way_of m s h) (ways_in true h)
+each_in load false h c = inl refl
+each_in load true h c = inr (inl refl)
+each_in unload false h c = inr (inr (inl refl))
+each_in unload true h c = inr (inr (inr (inl refl)))
+each_in display s h c = absurd (false≢true c)
+each_in whatis s h c = absurd (false≢true c)
+
+each_shell : (h : Shell) → (h ≡ Sh) ⊎ IsAmong h other_shells
+each_shell Sh = inl refl
+each_shell Bash = inr (inl refl)
+each_shell Ksh = inr (inr (inl refl))
+each_shell Zsh = inr (inr (inr (inl refl)))
+each_shell Csh = inr (inr (inr (inr (inl refl))))
+each_shell Tcsh = inr (inr (inr (inr (inr (inl refl)))))
+each_shell Fish = inr (inr (inr (inr (inr (inr (inl refl))))))
+
+-- the first way, or one of the others of this mode and shell
+abbrev IsWay : Bool → Bool → Way → Type 0
+IsWay a b way = (way ≡ first_way) ⊎ IsAmong way (more_in a Sh ++ ways_elsewhere a b)
+
+in_sh : (a b : Bool) (way : Way) → IsAmong way (ways_in a Sh) → IsWay a b way
+in_sh a b way (inl e) = inl e
+in_sh a b way (inr i) = inr (among_left way (more_in a Sh) (ways_elsewhere a b) i)
+
+elsewhere : (a : Bool) (h : Shell) (way : Way) → (h ≡ Sh) ⊎ IsAmong h other_shells → IsAmong way (ways_in a h) → IsWay a true way
+elsewhere a h way (inl e) i = in_sh a true way (subst (λ (x : Shell). IsAmong way (ways_in a x)) e i)
+elsewhere a h way (inr s) i = inr (among_right way (more_in a Sh) (ways_elsewhere a true) (in_flat (ways_in a) other_shells h way s i))
+
+-- a way that is the same as this mode, half and shell, as far as these are asked for
+pub record Matches (a b : Bool) (m : Mode) (s : Bool) (h : Shell) (way : Way) : Type 0 where
+  pub asked : IsWay a b way
+  pub changing : is_changing way.mode ≡ true
+  pub mode : a ≡ true → way.mode ≡ m
+  pub in_switch : a ≡ true → way.in_switch ≡ s
+  pub shell : b ≡ true → way.shell ≡ h
+  pub loads : m ≡ load → way.mode ≡ load
+
+pub matched : (a b : Bool) (m : Mode) (s : Bool) (h : Shell) → is_changing m ≡ true → (way : Way) × Matches a b m s h way
+matched false false m s h c = (
+  first_way,
+  record {
+    asked = inl refl;
+    changing = refl;
+    mode = λ t. absurd (false≢true t);
+    in_switch = λ t. absurd (false≢true t);
+    shell = λ t. absurd (false≢true t);
+    loads = λ e. refl;
+  },
+)
+matched true false m s h c = (
+  way_of m s Sh,
+  record {
+    asked = in_sh true false (way_of m s Sh) (each_in m s Sh c);
+    changing = c;
+    mode = λ t. refl;
+    in_switch = λ t. refl;
+    shell = λ t. absurd (false≢true t);
+    loads = λ e. e;
+  },
+)
+matched false true m s h c = (
+  loading_in h,
+  record {
+    asked = elsewhere false h (loading_in h) (each_shell h) (inl refl);
+    changing = refl;
+    mode = λ t. absurd (false≢true t);
+    in_switch = λ t. absurd (false≢true t);
+    shell = λ t. refl;
+    loads = λ e. refl;
+  },
+)
+matched true true m s h c = (
+  way_of m s h,
+  record {
+    asked = elsewhere true h (way_of m s h) (each_shell h) (each_in m s h c);
+    changing = c;
+    mode = λ t. refl;
+    in_switch = λ t. refl;
+    shell = λ t. refl;
+    loads = λ e. e;
+  },
+)
+
+-- ---- settled evaluations
+
+-- what asks nothing of the way
+none_of_way : (o : Option InfoField) → is_none o ≡ true → (is_mode o ≡ false) × (is_shell o ≡ false)
+none_of_way None h = (refl, refl)
+none_of_way (Some f) h = absurd (false≢true h)
+
+abbrev AsksNothing : List Question → Type 0
+AsksNothing asked = (asks_mode asked ≡ false) × (asks_shell asked ≡ false)
+
+asks_nothing : (rs : List Record) (asked : List Question) → list_all (keeps_answer false rs) asked ≡ true → AsksNothing asked
+asks_nothing rs [] h = (refl, refl)
+asks_nothing rs (q ∷ asked) h =
+    let p = and_parts (keeps_answer false rs q) (list_all (keeps_answer false rs) asked) h in
+    let n = none_of_way (field_of q) (and_parts (rests rs q) (is_none (field_of q)) p.0).1 in
+    let more = asks_nothing rs asked p.1 in
+    (or_from (is_mode (field_of q)) (asks_mode asked) n.0 more.0, or_from (is_shell (field_of q)) (asks_shell asked) n.1 more.1)
+
+all_rest : (alike : Bool) (rs : List Record) (asked : List Question) → list_all (keeps_answer alike rs) asked ≡ true → list_all (rests rs) asked ≡ true
+all_rest alike rs [] h = refl
+all_rest alike rs (q ∷ asked) h =
+    let p = and_parts (keeps_answer alike rs q) (list_all (keeps_answer alike rs) asked) h in
+    let one = (and_parts (rests rs q) (alike || is_none (field_of q)) p.0).0 in
+    let more = all_rest alike rs asked p.1 in rw (one, more) refl
+
+pub first_rests : (runs : FileRuns RequestReason) → keep_answers runs ≡ true → list_all (rests runs.first.records) runs.first.asked ≡ true
+first_rests runs h = all_rest (are_runs_alike runs) runs.first.records runs.first.asked h
+
+-- without other ways there is nothing that could be unlike
+no_others : (site : Site) (m : SiteModule) (first : Ran) (a b : Bool) (os : List (Result Ran RequestReason)) → a ≡ false → b ≡ false
+    → EvaluateBy site m (more_in a Sh ++ ways_elsewhere a b) os → are_alike first (more_in a Sh ++ ways_elsewhere a b) os ≡ true
+no_others site m first false false [] ea eb h = refl
+no_others site m first false false (o ∷ os) ea eb h = absurd h
+no_others site m first true b os ea eb h = absurd (false≢true (sym ea))
+no_others site m first false true os ea eb h = absurd (false≢true (sym eb))
+
+alike : (site : Site) (m : SiteModule) (runs : FileRuns RequestReason) → EvaluatesTo site m (Ok runs) → keep_answers runs ≡ true → are_runs_alike runs ≡ true
+alike site m runs e h = by_test (are_runs_alike runs) _ (λ t. t) (λ f.
+    let n = asks_nothing runs.first.records runs.first.asked
+    (subst (λ (x : Bool). list_all (keeps_answer x runs.first.records) runs.first.asked ≡ true) f h) in
+    no_others site m runs.first (asks_mode runs.first.asked) (asks_shell runs.first.asked) runs.others n.0 n.1 e.1)
+
+-- ---- what an evaluation leaves in a way
+
+not_or : (a b : Bool) → (not a || b) ≡ true → a ≡ true → b ≡ true
+not_or true b h t = h
+not_or false b h t = absurd (false≢true t)
+
+load_alike : (m : Mode) (rs qs : List Record) → loads_alike m rs qs ≡ true → m ≡ load → LoadAlike rs qs
+load_alike load rs qs h e =
+    let p = and_parts (list_all is_reversible qs) (same_by bytes_eq (conflict_names rs) (conflict_names qs)) h in
+    record { reversible = p.0; conflicts = sym (texts_sound (conflict_names rs) (conflict_names qs) p.1) }
+load_alike unload rs qs h e = absurd (cc)
+load_alike display rs qs h e = absurd (cc)
+load_alike whatis rs qs h e = absurd (cc)
+
+-- an accepted evaluation that is like the first, and of whose reads each is one of the file
+pub record IsLike (site : Site) (m : SiteModule) (runs : FileRuns RequestReason) (way : Way) : Type 0 where
+  pub ran : Ran
+  pub evaluated : EvaluatesBy site way m (Ok ran)
+  pub rested : list_all (rests ran.records) ran.asked ≡ true
+  pub of_mode : asks_mode ran.asked ≡ true → asks_mode runs.first.asked ≡ true
+  pub of_shell : asks_shell ran.asked ≡ true → asks_shell runs.first.asked ≡ true
+  pub undoes : UndoAlike ran.records runs.first.records
+  pub loads : way.mode ≡ load → LoadAlike runs.first.records ran.records
+  pub reads : (v : Text) → has v (variables_read ran.asked) ≡ true → has v (reads_in runs) ≡ true
+
+or_first : (a b : Bool) → a ≡ true → (a || b) ≡ true
+or_first true b h = refl
+or_first false b h = absurd (false≢true h)
+
+or_second : (a b : Bool) → b ≡ true → (a || b) ≡ true
+or_second true b h = refl
+or_second false b h = h
+
+read_first : (runs : FileRuns RequestReason) (v : Text) → has v (variables_read runs.first.asked) ≡ true → has v (reads_in runs) ≡ true
+read_first runs v h =
+    list_any-append (bytes_eq v) (variables_read runs.first.asked) (flat_map read_in runs.others)
+    ∙ or_first (has v (variables_read runs.first.asked)) (has v (flat_map read_in runs.others)) h
+
+read_other : (v : Text) (os : List (Result Ran RequestReason)) (o : Result Ran RequestReason) → IsAmong o os → has v (read_in o) ≡ true → has v (flat_map read_in os) ≡ true
+read_other v [] o a h = absurd a
+read_other v (x ∷ os) o (inl e) h =
+    list_any-append (bytes_eq v) (read_in x) (flat_map read_in os)
+    ∙ or_first (has v (read_in x)) (has v (flat_map read_in os)) (subst (λ (y : Result Ran RequestReason). has v (read_in y) ≡ true) e h)
+read_other v (x ∷ os) o (inr a) h =
+    list_any-append (bytes_eq v) (read_in x) (flat_map read_in os)
+    ∙ or_second (has v (read_in x)) (has v (flat_map read_in os)) (read_other v os o a h)
+
+read_later : (runs : FileRuns RequestReason) (v : Text) → has v (flat_map read_in runs.others) ≡ true → has v (reads_in runs) ≡ true
+read_later runs v h =
+    list_any-append (bytes_eq v) (variables_read runs.first.asked) (flat_map read_in runs.others)
+    ∙ or_second (has v (variables_read runs.first.asked)) (has v (flat_map read_in runs.others)) h
+
+-- an outcome of one of the ways
+pub record HasOutcome (site : Site) (m : SiteModule) (first : Ran) (os : List (Result Ran RequestReason)) (way : Way) : Type 0 where
+  pub ran : Ran
+  pub evaluated : EvaluatesBy site way m (Ok ran)
+  pub among : IsAmong (Ok ran) os
+  pub like_first : is_ran_alike first way.mode ran ≡ true
+
+of_way : (site : Site) (m : SiteModule) (first : Ran) (way : Way) (o : Result Ran RequestReason) (os : List (Result Ran RequestReason)) → EvaluatesBy site way m o
+    → is_alike first way o ≡ true → HasOutcome site m first (o ∷ os) way
+of_way site m first way (Ok ran) os h a = record { ran = ran; evaluated = h; among = inl refl; like_first = a }
+of_way site m first way (Err reason) os h a = absurd (false≢true a)
+
+more_outcomes : (site : Site) (m : SiteModule) (first : Ran) (o : Result Ran RequestReason) (os : List (Result Ran RequestReason)) (way : Way) → HasOutcome site m first os way
+    → HasOutcome site m first (o ∷ os) way
+more_outcomes site m first o os way h = record { ran = h.ran; evaluated = h.evaluated; among = inr h.among; like_first = h.like_first }
+
+has_outcome : (site : Site) (m : SiteModule) (first : Ran) (ways : List Way) (os : List (Result Ran RequestReason)) (way : Way) → EvaluateBy site m ways os
+    → are_alike first ways os ≡ true → IsAmong way ways → HasOutcome site m first os way
+has_outcome site m first [] os way h a i = absurd i
+has_outcome site m first (w ∷ ways) [] way h a i = absurd h
+has_outcome site m first (w ∷ ways) (o ∷ os) way h a (inl e) =
+    let p = and_parts (is_alike first w o) (are_alike first ways os) a in
+    subst (HasOutcome site m first (o ∷ os)) (sym e) (of_way site m first w o os h.0 p.0)
+has_outcome site m first (w ∷ ways) (o ∷ os) way h a (inr i) =
+    let p = and_parts (is_alike first w o) (are_alike first ways os) a in
+    more_outcomes site m first o os way (has_outcome site m first ways os way h.1 p.1 i)
+
+first_like : (site : Site) (m : SiteModule) (runs : FileRuns RequestReason) → EvaluatesTo site m (Ok runs) → is_settled runs ≡ true → IsLike site m runs first_way
+first_like site m runs e h =
+    let p = and_parts (keep_answers runs) (list_all is_reversible runs.first.records) h in
+    record {
+      ran = runs.first;
+      evaluated = e.0;
+      rested = first_rests runs p.0;
+      of_mode = λ t. t;
+      of_shell = λ t. t;
+      undoes = refl;
+      loads = λ l. record { reversible = p.1; conflicts = refl };
+      reads = read_first runs;
+    }
+
+other_like : UndoIsTested → (site : Site) (m : SiteModule) (runs : FileRuns RequestReason) (way : Way) → HasOutcome site m runs.first runs.others way → IsLike site m runs way
+other_like tested site m runs way h =
+    let first = runs.first in
+    let ran = h.ran in
+    let p = and_parts (list_all (rests ran.records) ran.asked) (asks_no_more first.asked ran.asked && records_alike way.mode first.records ran.records) h.like_first in
+    let q = and_parts (asks_no_more first.asked ran.asked) (records_alike way.mode first.records ran.records) p.1 in
+    let n = and_parts (not (asks_mode ran.asked) || asks_mode first.asked) (not (asks_shell ran.asked) || asks_shell first.asked) q.0 in
+    let r = and_parts (do_undo_alike first.records ran.records) (loads_alike way.mode first.records ran.records) q.1 in
+    record {
+      ran = ran;
+      evaluated = h.evaluated;
+      rested = p.0;
+      of_mode = not_or (asks_mode ran.asked) (asks_mode first.asked) n.0;
+      of_shell = not_or (asks_shell ran.asked) (asks_shell first.asked) n.1;
+      undoes = sym ((tested first.records ran.records).0 r.0);
+      loads = load_alike way.mode first.records ran.records r.1;
+      reads = λ v t. read_later runs v (read_other v runs.others (Ok ran) h.among t);
+    }
+
+-- in each way that matches one, the evaluation is like the first
+pub in_way : UndoIsTested → (site : Site) (m : SiteModule) (runs : FileRuns RequestReason) (way : Way) → EvaluatesTo site m (Ok runs) → is_settled runs ≡ true
+    → IsWay (asks_mode runs.first.asked) (asks_shell runs.first.asked) way → IsLike site m runs way
+in_way tested site m runs way e h (inl same) = subst (IsLike site m runs) (sym same) (first_like site m runs e h)
+in_way tested site m runs way e h (inr i) =
+    let p = and_parts (keep_answers runs) (list_all is_reversible runs.first.records) h in
+    other_like tested site m runs way
+    (has_outcome site m runs.first (other_ways runs.first.asked) runs.others way e.1 (alike site m runs e p.0) i)
+
+-- ---- what is read
+
+-- a variable that is read, by an evaluation whose questions rest
+pub record IsReadAtRest (v : Text) : Type 0 where
+  pub ran : Ran
+  pub rested : list_all (rests ran.records) ran.asked ≡ true
+  pub read : has v (variables_read ran.asked) ≡ true
+
+or_either : (a b : Bool) → (a || b) ≡ true → (a ≡ true) ⊎ (b ≡ true)
+or_either true b h = inl refl
+or_either false b h = inr h
+
+either_has : (v : Text) (xs ys : List Text) → has v (xs ++ ys) ≡ true → (has v xs ≡ true) ⊎ (has v ys ≡ true)
+either_has v xs ys h = or_either (has v xs) (has v ys) (sym (list_any-append (bytes_eq v) xs ys) ∙ h)
+
+at_rest_in : (v : Text) (first : Ran) (way : Way) (o : Result Ran RequestReason) → is_alike first way o ≡ true → has v (read_in o) ≡ true → IsReadAtRest v
+at_rest_in v first way (Ok ran) a h =
+    record { ran = ran; rested = (and_parts (list_all (rests ran.records) ran.asked) (asks_no_more first.asked ran.asked && records_alike way.mode first.records ran.records) a).0; read = h }
+at_rest_in v first way (Err reason) a h = absurd (false≢true h)
+
+at_rest_later : (v : Text) (first : Ran) (ways : List Way) (os : List (Result Ran RequestReason)) → are_alike first ways os ≡ true → has v (flat_map read_in os) ≡ true → IsReadAtRest v
+at_rest_later v first [] [] a h = absurd (false≢true h)
+at_rest_later v first [] (o ∷ os) a h = absurd (false≢true a)
+at_rest_later v first (way ∷ ways) [] a h = absurd (false≢true a)
+at_rest_later v first (way ∷ ways) (o ∷ os) a h =
+    let p = and_parts (is_alike first way o) (are_alike first ways os) a in
+    by_cases (either_has v (read_in o) (flat_map read_in os) h)
+    (λ t. at_rest_in v first way o p.0 t)
+    (λ t. at_rest_later v first ways os p.1 t)
+
+pub read_at_rest : (site : Site) (m : SiteModule) (runs : FileRuns RequestReason) (v : Text) → EvaluatesTo site m (Ok runs) → is_settled runs ≡ true → has v (reads_in runs) ≡ true
+    → IsReadAtRest v
+read_at_rest site m runs v e h r =
+    let p = and_parts (keep_answers runs) (list_all is_reversible runs.first.records) h in
+    by_cases (either_has v (variables_read runs.first.asked) (flat_map read_in runs.others) r)
+    (λ t. record { ran = runs.first; rested = first_rests runs p.0; read = t })
+    (λ t. at_rest_later v runs.first (other_ways runs.first.asked) runs.others (alike site m runs e p.0) t)
