@@ -44,9 +44,9 @@ pub written_at_end : (path end text : Text) (number : ℕ) (r : Result (Unit {0}
 written_at_end path end text number (Ok u) a b e w = (end, e, w)
 written_at_end path end text number (Err fault) a b e w =
     (no_reason fault (λ r. free_end a path ≡ Err r) w.0, w.1, some_as (failure_of fault) _ _ (λ f h. at_end f h.0 h.1) w.2) where
-  at_end : (f : Failure) (way : Unwritten) → f ≡ failure_by way (new_path end number) end → IsWrite path number a f
-  at_end f Failed h = subst (IsWrite path number a) (sym h) (inr e)
-  at_end f Left h = subst (IsWrite path number a) (sym h) (end, e, refl)
+      at_end : (f : Failure) (way : Unwritten) → f ≡ failure_by way (new_path end number) end → IsWrite path number a f
+      at_end f Failed h = subst (IsWrite path number a) (sym h) (inr e)
+      at_end f Left h = subst (IsWrite path number a) (sym h) (end, e, refl)
 
 -- where the end isn't found, writing failed at the path
 pub unwritten_at : (path : Text) (number : ℕ) (fault : FileFault) (a : Entries) → IfSome (failure_of fault) (λ f. f ≡ unwritten path)

@@ -1,6 +1,6 @@
 -- What the maps don't decide, as faults say it: what the system couldn't do, and that a collection can't be saved
 -- (docs/REFUSALS.md, "Of the function alone"); and the texts of faults.
-use Rattle.std.specs.Prelude.{◌≡◌, ◌⊎◌, ℕ, ◌++◌, codes, decimal, string_bytes, Option, Some, None, Result, Ok}
+use Rattle.std.specs.Prelude.{◌≡◌, ◌⊎◌, ℕ, ◌++◌, codes, decimal, string_bytes, Option, Some, None, Ok}
 use Rattle.message.specs.Messages.{around, quoting}
 use Rattle.envvars.specs.Texts.{Text}
 use Rattle.envvars.specs.Environment.{Environment}

@@ -1,6 +1,5 @@
 use Rattle.std.proofs.Common.{◌≡◌, ◌+◌, length, refl, sym, ap, ◌∙◌}
 use Rattle.std.proofs.lemmas.Slice.Eq.{bytes_eq-Decides}
-use Rattle.envvars.specs.Texts.{Text}
 use Rattle.collectionfiles.specs.Entries.{file}
 use Rattle.collectionfiles.proofs.ReadLemmas.{same_file, whole, whole_again}
 use Rattle.collectionfiles.proofs.save.holds.Goals as goal

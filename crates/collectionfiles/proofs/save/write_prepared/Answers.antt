@@ -1,7 +1,6 @@
-use Rattle.std.proofs.Common.{◌≡◌, ◌⊎◌, refl, inl, ap, ◌∙◌, subst, string_bytes}
+use Rattle.std.proofs.Common.{◌≡◌, refl, inl, subst, string_bytes}
 use Rattle.envvars.specs.Texts.{Text}
 use Rattle.collectionfiles.specs.Ends.{free_end}
-use Rattle.collectionfiles.specs.Failures.{failure_of}
 use Rattle.collectionfiles.specs.Saves.{Writes}
 use Rattle.collectionfiles.proofs.EndLemmas.{folder_unmade, in_made_folder, no_reason}
 use Rattle.std.specs.Prelude.{Err}
