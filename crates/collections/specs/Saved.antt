@@ -1,5 +1,6 @@
 -- What is saved: the text of a collection that is read again as the same.
-use Rattle.std.specs.Prelude.{◌≡◌, ◌≢◌, List, ◌++◌, Bool, ◌&&◌, bytes_eq, codes, string_bytes, Result, Ok, Err, IfOk, IfSome}
+use Rattle.std.specs.Prelude.{◌≡◌, ◌≢◌, List, ◌++◌, Bool, ◌&&◌, bytes_eq, codes, string_bytes, Result, Ok, Err}
+use Rattle.std.specs.Prelude.{IfOk, IfSome}
 use Rattle.std.specs.Cmp.Lexicographic.{pointwise}
 use Rattle.std.specs.declared.string.String.{String}
 use Rattle.std.specs.declared.alloc.Global.{Global}

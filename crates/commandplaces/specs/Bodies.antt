@@ -1,6 +1,7 @@
 -- The bodies in which a command runs others: words in braces of if(n), foreach(n), while(n), for(n), catch(n) and
 -- switch(n), and those of procedures of its name (proc(n)).
-use Rattle.std.specs.Prelude.{ℕ, ◌+◌, ◌-◌, ◌==◌, List, [], ◌∷◌, ◌++◌, Bool, true, false, ◌&&◌, not, nat_lt, bytes_eq, codes}
+use Rattle.std.specs.Prelude.{ℕ, ◌+◌, ◌-◌, ◌==◌, List, [], ◌∷◌, ◌++◌, Bool, true, false, ◌&&◌, not, nat_lt, codes}
+use Rattle.std.specs.Prelude.{bytes_eq}
 use Rattle.std.specs.Prelude.{map, length, drop, reverse, if◌then◌else◌, Option, Some, None, Result, Ok, Err}
 use Rattle.tclchars.specs.Runs.{Text}
 use Rattle.tclscript.specs.Pieces.{between}

@@ -202,7 +202,8 @@ fn push_switch(
     part: Part,
 ) -> Result<(), AllocError>
     ensures { OnOk result (part_texts text.now bodies.new.items ≡ part_texts text.now bodies.old.items
-        ++ spec.alternatives_in (spec.in_braces (word_view (piece_in (between text.now part.begin part.end)) word.now))) }
+        ++ spec.alternatives_in
+        (spec.in_braces (word_view (piece_in (between text.now part.begin part.end)) word.now))) }
 {
     match in_braces(word, part.of(text)) {
         Some(range) => push_list(alloc, bodies, text, part.within(range)),

@@ -95,8 +95,8 @@ pub fn script_of(alloc: Global, text: &str, part: Part) -> Result<Script<ByteRan
 fn unless_memory(
     read: Result<Script<ByteRange>, TextFault>,
 ) -> Result<Option<Script<ByteRange>>, AllocError>
-    ensures { IfOk result (λ script. (view : code_script.Script code.ByteRange → Commands) (outcome : Result Commands TextFault)
-        → Reads view read outcome → option_map view script ≡ if_one outcome) }
+    ensures { IfOk result (λ script. (view : code_script.Script code.ByteRange → Commands)
+        (outcome : Result Commands TextFault) → Reads view read outcome → option_map view script ≡ if_one outcome) }
 {
     match read {
         Ok(script) => Ok(Some(script)),

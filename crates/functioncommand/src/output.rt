@@ -71,9 +71,9 @@ fn added_by(alloc: Global, answer: Answer) -> Vec<String>
 /// the command, and relative directories are taken from the working directory.
 ///
 /// `use` and `unuse` print the text that makes of the environment, as the shell reads it, exactly the one in which
-/// MODULEPATH is the new list, and nothing else differs; the directories of `use` are named. `is-loaded` prints nothing, and its status says whether one of
-/// the names means a loaded module, or without names whether there is one. `subcommand` prints the name of the
-/// subcommand that its word means.
+/// MODULEPATH is the new list, and nothing else differs; of `use` the directories are named besides. `is-loaded` prints
+/// nothing, and its status says whether one of the names means a loaded module, or without names whether there is one.
+/// `subcommand` prints the name of the subcommand that its word means.
 ///
 /// The errors: `Refused`, the words name no shell or no subcommand of this program, or don't fit it, the loaded modules
 /// are inconsistent, or memory ran out; `Unprinted`, the shell has no text for the changes, or memory ran out.
