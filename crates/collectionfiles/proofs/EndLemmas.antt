@@ -1,5 +1,5 @@
 -- What a save comes to as a whole.
-use Rattle.std.proofs.Common.{◌≡◌, inl, inr, Bool, true, false, refl, sym, ap, ◌∙◌, subst, length}
+use Rattle.std.proofs.Common.{◌≡◌, ◌⊎◌, ℕ, inl, inr, Bool, true, false, refl, sym, ap, ◌∙◌, subst, length}
 use Rattle.std.proofs.lemmas.Bool.{false≢true}
 use Rattle.std.specs.Prelude.{if◌then◌else◌, nat_lt, is_ok, Option, Some, None, Result, Ok, Err, IfSome}
 use Rattle.std.specs.List.{list_any, slice_split}
@@ -10,13 +10,16 @@ use Rattle.envvars.specs.Environment.{Environment}
 use Rattle.collections.specs.Lines.{Kept}
 use Rattle.collections.specs.Collections.{CollectionReason, max_length, read, too_long, no_text, something, with_lines, nothing}
 use Rattle.collections.specs.Saved.{IsSaved}
-use Rattle.collectionfiles.specs.Entries.{Entries, bytes_at, end_of, in_folder}
-use Rattle.collectionfiles.specs.Calls.{AddsFolders}
+use Rattle.collectionfiles.specs.Entries.{Entries, bytes_at, end_of, file, in_folder}
+use Rattle.collectionfiles.specs.Calls.{AddsFolders, Puts}
 use Rattle.collectionfiles.specs.Faults.{FileReason, no_collection, no_file, reason_of}
 use Rattle.collectionfiles.specs.Found.{kept_at, kept_in, said_of, short, shown_at}
 use Rattle.collectionfiles.specs.Places.{Folders, folders_for, in_folders}
-use Rattle.collectionfiles.specs.Saves.{Ends, IsNotSaved, Leaves, LeavesBy, Writes, WritesAt, at_free, free_end, is_free}
-use Rattle.collectionfiles.specs.Saves.{left_at, left_by, own_end, own_kept}
+use Rattle.collectionfiles.specs.Ends.{at_free, free_end, is_free}
+use Rattle.collectionfiles.specs.Failures.{Failure, unread, unwritten, left, unsaved, IsSave, IsWrite, failure_by, failure_of, new_path}
+use Rattle.collectionfiles.specs.Prepared.{IsUnprepared}
+use Rattle.collectionfiles.specs.Saves.{Ends, IsNotSaved, Leaves, LeavesBy, Writes, WritesAt, WritesInFolder}
+use Rattle.collectionfiles.specs.Saves.{IsSavedAt, left_at, left_by, own_end, own_kept}
 use Rattle.collectionfiles.specs.declared.fault.FileFault.{FileFault}
 use Rattle.collectionfiles.specs.declared.unwritten.Unwritten.{Unwritten}
 use Rattle.collectionfiles.specs.declared.unwritten.Unwritten.TheVariants.{Failed, Left}
@@ -27,15 +30,36 @@ pub leaves_by : (path : Text) (left : Unwritten) (fault : FileFault) (a b : Entr
 leaves_by path Failed fault a b e h = inl h
 leaves_by path Left fault a b e h = inr (path, e, h)
 
+some_as : {X : Type 0} (o : Option X) (P Q : X → Type 0) → ((x : X) → P x → Q x) → IfSome o P → IfSome o Q
+some_as (Some x) P Q f h = f x h
+some_as None P Q f h = tt
+
 -- a fault without a reason has none that is wrong
 pub no_reason : (fault : FileFault) (P : FileReason → Type 0) → reason_of fault ≡ None → IfSome (reason_of fault) P
 no_reason fault P e = subst (λ (o : Option FileReason). IfSome o P) (sym e) tt
 
 -- a write at the end of a path is one of the path
-pub written_at_end : (path end text : Text) (r : Result (Unit {0}) FileFault) (a b : Entries) → free_end a path ≡ Ok end
-    → WritesAt end text r a b → Writes path text r a b
-written_at_end path end text (Ok u) a b e w = (end, e, w)
-written_at_end path end text (Err fault) a b e w = (no_reason fault (λ r. free_end a path ≡ Err r) w.0, w.1)
+pub written_at_end : (path end text : Text) (number : ℕ) (r : Result (Unit {0}) FileFault) (a b : Entries) → free_end a path ≡ Ok end
+    → WritesAt (new_path end number) end text r a b → Writes path number text r a b
+written_at_end path end text number (Ok u) a b e w = (end, e, w)
+written_at_end path end text number (Err fault) a b e w =
+    (no_reason fault (λ r. free_end a path ≡ Err r) w.0, w.1, some_as (failure_of fault) _ _ (λ f h. at_end f h.0 h.1) w.2) where
+      at_end : (f : Failure) (way : Unwritten) → f ≡ failure_by way (new_path end number) end → IsWrite path number a f
+      at_end f Failed h = subst (IsWrite path number a) (sym h) (inr e)
+      at_end f Left h = subst (IsWrite path number a) (sym h) (end, e, refl)
+
+-- where the end isn't found, writing failed at the path
+pub unwritten_at : (path : Text) (number : ℕ) (fault : FileFault) (a : Entries) → IfSome (failure_of fault) (λ f. f ≡ unwritten path)
+    → IfSome (failure_of fault) (IsWrite path number a)
+unwritten_at path number fault a h =
+    some_as (failure_of fault) (λ f. f ≡ unwritten path) (IsWrite path number a) (λ f e. subst (IsWrite path number a) (sym e) (inl refl)) h
+
+-- a write, once the folder is made
+pub in_made_folder : (folder path text : Text) (number : ℕ) (r : Result (Unit {0}) FileFault) (a m b : Entries) → AddsFolders a m
+    → Writes path number text r m b → WritesInFolder folder path number text r a b
+in_made_folder folder path text number (Ok u) a m b added w = (m, added, w)
+in_made_folder folder path text number (Err fault) a m b added w =
+    (m, added, w.0, w.1, some_as (failure_of fault) (IsWrite path number m) (λ f. (f ≡ unwritten folder) ⊎ IsWrite path number m f) (λ f h. inr h) w.2)
 
 -- no folder is added
 pub none_added : (a : Entries) → AddsFolders a a
@@ -92,9 +116,9 @@ module _ (env : Environment) (name path : Text) (folders : Folders) (found : fol
   reason_as None a h = tt
   reason_as (Some r) a h = own_end_is a ∙ h
 
-  pub ended : (text : Text) (kept : Kept) → IsSaved kept text → is_utf8 text ≡ true
-      → (r : Result (Unit {0}) FileFault) (a b : Entries) → Writes path text r a b → Ends env name kept r a b
-  ended text kept saved utf8 (Ok u) a b w = record {
+  is_saved : (text : Text) (kept : Kept) → IsSaved kept text → is_utf8 text ≡ true → (a b : Entries)
+      → (end : Text) × (free_end a path ≡ Ok end) × Puts end (file text) a b → IsSavedAt env name kept a b
+  is_saved text kept saved utf8 a b w = record {
     end = w.0;
     text = text;
     leads = own_end_is a ∙ w.1;
@@ -104,7 +128,36 @@ module _ (env : Environment) (name path : Text) (folders : Folders) (found : fol
         own_kept_is b
         ∙ reads_back b path text kept (bytes_written path w.0 text a b w.2 (free_leads path w.0 (end_of a path) a w.1)) utf8 saved.read_again;
   }
-  ended text kept saved utf8 (Err fault) a b w = record { reason = reason_as (reason_of fault) a w.0; left = w.1 }
+
+  module _ (number : ℕ) (folder : Text) (is_own : folder ≡ folders.own) (kept : Kept) where
+    failed_as : (a : Entries) (f : Failure) → (f ≡ unwritten folder) ⊎ IsWrite path number a f → IsSave folders name number kept a f
+    failed_as a (unread p) (inl e) = cc
+    failed_as a (unread p) (inr h) = absurd h
+    failed_as a (unwritten p) (inl e) = let same : p ≡ folder = cc in inl (same ∙ is_own)
+    failed_as a (unwritten p) (inr h) = inr (subst (λ (q : Text). IsWrite q number a (unwritten p)) lies h)
+    failed_as a (left p) (inl e) = cc
+    failed_as a (left p) (inr h) = subst (λ (q : Text). IsWrite q number a (left p)) lies h
+    failed_as a (unsaved wrong) (inl e) = cc
+    failed_as a (unsaved wrong) (inr h) = absurd h
+
+    pub ended : (text : Text) → IsSaved kept text → is_utf8 text ≡ true → (r : Result (Unit {0}) FileFault) (a b : Entries)
+        → WritesInFolder folder path number text r a b → (m : Entries) × AddsFolders a m × Ends env name number kept r m b
+    ended text saved utf8 (Ok u) a b w = (w.0, w.1, is_saved text kept saved utf8 w.0 b w.2)
+    ended text saved utf8 (Err fault) a b w = (
+      w.0,
+      w.1,
+      record {
+        reason = reason_as (reason_of fault) w.0 w.2;
+        left = w.3;
+        failure = some_as (failure_of fault) _ _ (λ f h. (folders, found, failed_as w.0 f h)) w.4;
+      },
+    )
+
+-- the folder couldn't be made
+pub folder_unmade : (folder given path : Text) (number : ℕ) (fault : FileFault) (a : Entries) → given ≡ folder
+    → IfSome (failure_of fault) (λ f. f ≡ unwritten given) → IfSome (failure_of fault) (λ f. (f ≡ unwritten folder) ⊎ IsWrite path number a f)
+folder_unmade folder given path number fault a same h =
+    some_as (failure_of fault) _ _ (λ f e. inl (e ∙ ap (λ (t : Text). unwritten t) same)) h
 
 -- where there are no folders for the name, nothing is saved
 refused_reason : (wrong : Option FileReason) (env : Environment) (name : Text) (a : Entries)
@@ -113,6 +166,11 @@ refused_reason None env name a h = tt
 refused_reason (Some r) env name a h =
     ap (λ (f : Result Folders FileReason). in_folders f (λ x. free_end a (in_folder x.own name))) h
 
-pub refused : (env : Environment) (name : Text) (fault : FileFault) (a : Entries)
-    → IfSome (reason_of fault) (λ r. folders_for env name ≡ Err r) → IsNotSaved env name fault a a
-refused env name fault a h = record { reason = refused_reason (reason_of fault) env name a h; left = inl (λ p. refl) }
+pub refused : (env : Environment) (name : Text) (number : ℕ) (kept : Kept) (fault : FileFault) (a : Entries)
+    → IfSome (reason_of fault) (λ r. folders_for env name ≡ Err r) → IfSome (failure_of fault) (IsUnprepared env name kept)
+    → IsNotSaved env name number kept fault a a
+refused env name number kept fault a h k = record {
+  reason = refused_reason (reason_of fault) env name a h;
+  left = inl (λ p. refl);
+  failure = some_as (failure_of fault) _ _ (λ f u. (u.0, u.1, subst (IsSave u.0 name number kept a) (sym u.2.1) u.2.2)) k;
+}

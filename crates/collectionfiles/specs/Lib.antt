@@ -3,6 +3,8 @@ pub mod Calls
 pub mod Names
 pub mod Places
 pub mod Faults
+pub mod Ends
+pub mod Failures
 pub mod Found
 pub mod Saves
 pub mod Removes

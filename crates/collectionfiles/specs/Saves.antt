@@ -1,37 +1,23 @@
 -- What saving does to files (module(1), save): the file has the whole text, or no file differs.
-use Rattle.std.specs.Prelude.{◌≡◌, ◌⊎◌, Bool, true, false, if◌then◌else◌, string_bytes, IfSome, Option, Some, None}
+use Rattle.std.specs.Prelude.{◌≡◌, ◌⊎◌, ℕ, string_bytes, IfSome, Option, Some, None}
 use Rattle.std.specs.Prelude.{Result, Ok, Err}
 use Rattle.envvars.specs.Texts.{Text}
 use Rattle.envvars.specs.Environment.{Environment}
 use Rattle.collections.specs.Lines.{Kept}
 use Rattle.collections.specs.Saved.{IsSaved}
-use Rattle.collectionfiles.specs.Entries.{Entry, Entries, nothing, file, folder, link, other, end_of, in_folder}
+use Rattle.collectionfiles.specs.Entries.{Entries, nothing, file, in_folder}
 use Rattle.collectionfiles.specs.Calls.{AddsFolders, AreSame, Clears, Makes, Moves, Puts}
-use Rattle.collectionfiles.specs.Places.{folders_for, in_folders}
-use Rattle.collectionfiles.specs.Faults.{FileReason, no_file, reason_of}
+use Rattle.collectionfiles.specs.Places.{Folders, folders_for, in_folders}
+use Rattle.collectionfiles.specs.Ends.{free_end}
+use Rattle.collectionfiles.specs.Failures.{IsSave, IsWrite, failure_by, failure_of, unwritten}
+use Rattle.collectionfiles.specs.Faults.{FileReason, reason_of}
 use Rattle.collectionfiles.specs.Found.{kept_at}
 use Rattle.collectionfiles.specs.declared.fault.FileFault.{FileFault}
 use Rattle.collectionfiles.specs.declared.fault.FileFault.TheVariants as faults
 use Rattle.collectionfiles.specs.declared.storage.CreationFault.{CreationFault}
 use Rattle.collectionfiles.specs.declared.storage.CreationFault.TheVariants as creations
 use Rattle.collectionfiles.specs.declared.unwritten.Unwritten.{Unwritten}
-use Rattle.collectionfiles.specs.declared.unwritten.Unwritten.TheVariants as unwritten
-
--- A file can be there: one is, or nothing.
-abbrev pub is_free : Entry → Bool
-is_free nothing = true
-is_free (file bytes) = true
-is_free folder = false
-is_free (link target) = false
-is_free other = false
-
--- the end to which a path leads, if a file can be there
-abbrev pub at_free : Text → Option Text → Entries → Result Text FileReason
-at_free path None entries = Err (no_file path)
-at_free path (Some end) entries = if is_free (entries end) then Ok end else Err (no_file path)
-
-abbrev pub free_end : Entries → Text → Result Text FileReason
-free_end entries path = at_free path (end_of entries path) entries
+use Rattle.collectionfiles.specs.declared.unwritten.Unwritten.TheVariants as ways
 
 -- Nothing differs; or but for a new file at this path.
 abbrev pub Leaves : Option Text → Entries → Entries → Type 0
@@ -40,8 +26,8 @@ Leaves (Some path) old new = Makes path old new
 
 -- the new file that stays where it wasn't put in its place
 abbrev pub left_at : Text → Unwritten → Option Text
-left_at path unwritten.Failed = None
-left_at path unwritten.Left = Some path
+left_at path ways.Failed = None
+left_at path ways.Left = Some path
 
 -- the same by a fault of a save
 abbrev pub left_by : FileFault → Option Text
@@ -64,12 +50,12 @@ LeavesBy fault old new =
 
 -- the new file at the path is no more; or it is still there
 abbrev pub Discards : Text → Unwritten → Entries → Entries → Type 0
-Discards path unwritten.Failed old new = Clears path old new
-Discards path unwritten.Left old new = AreSame old new
+Discards path ways.Failed old new = Clears path old new
+Discards path ways.Left old new = AreSame old new
 
 -- the same where one was made before this fault
 abbrev pub Undoes : Text → CreationFault → Unwritten → Entries → Entries → Type 0
-Undoes path creations.NotMade left old new = (left ≡ unwritten.Failed) × AreSame old new
+Undoes path creations.NotMade left old new = (left ≡ ways.Failed) × AreSame old new
 Undoes path creations.Unfinished left old new = Discards path left old new
 
 -- the new file at the path has this text; or it isn't kept
@@ -92,21 +78,28 @@ abbrev pub Replaces : Text → Text → Text → Result (Unit {0}) Unwritten →
 Replaces path end text (Ok u) old new = Puts end (file text) old new
 Replaces path end text (Err fault) old new = Leaves (left_at path fault) old new
 
--- the file at the end has this text, and nothing else differs; or what is left
-abbrev pub WritesAt : Text → Text → Result (Unit {0}) FileFault → Entries → Entries → Type 0
-WritesAt end text (Ok u) old new = Puts end (file text) old new
-WritesAt end text (Err fault) old new = (reason_of fault ≡ None) × LeavesBy fault old new
+-- by way of this new file the one at the end has this text, and nothing else differs; or what is left
+abbrev pub WritesAt : Text → Text → Text → Result (Unit {0}) FileFault → Entries → Entries → Type 0
+WritesAt path end text (Ok u) old new = Puts end (file text) old new
+WritesAt path end text (Err fault) old new =
+    (reason_of fault ≡ None) × LeavesBy fault old new
+    × IfSome (failure_of fault) (λ f. (way : Unwritten) × (f ≡ failure_by way path end))
 
 -- the file to which a path leads has this text, and nothing else differs; or there is none, or what is left
-abbrev pub Writes : Text → Text → Result (Unit {0}) FileFault → Entries → Entries → Type 0
-Writes path text (Ok u) old new = (end : Text) × (free_end old path ≡ Ok end) × Puts end (file text) old new
-Writes path text (Err fault) old new =
+abbrev pub Writes : Text → ℕ → Text → Result (Unit {0}) FileFault → Entries → Entries → Type 0
+Writes path number text (Ok u) old new = (end : Text) × (free_end old path ≡ Ok end) × Puts end (file text) old new
+Writes path number text (Err fault) old new =
     IfSome (reason_of fault) (λ reason. free_end old path ≡ Err reason) × LeavesBy fault old new
+    × IfSome (failure_of fault) (IsWrite path number old)
 
--- the same, once a folder is made
-abbrev pub WritesInFolder : Text → Text → Result (Unit {0}) FileFault → Entries → Entries → Type 0
-WritesInFolder path text result old new =
-    (middle : Entries) × AddsFolders old middle × Writes path text result middle new
+-- the same, once this folder is made, or couldn't be
+abbrev pub WritesInFolder : Text → Text → ℕ → Text → Result (Unit {0}) FileFault → Entries → Entries → Type 0
+WritesInFolder folder path number text (Ok u) old new =
+    (middle : Entries) × AddsFolders old middle × Writes path number text (Ok u) middle new
+WritesInFolder folder path number text (Err fault) old new =
+    (middle : Entries) × AddsFolders old middle
+    × IfSome (reason_of fault) (λ reason. free_end middle path ≡ Err reason) × LeavesBy fault middle new
+    × IfSome (failure_of fault) (λ f. (f ≡ unwritten folder) ⊎ IsWrite path number middle f)
 
 -- the end to which the user's collection of a name leads
 abbrev pub own_end : Entries → Environment → Text → Result Text FileReason
@@ -126,16 +119,19 @@ pub record IsSavedAt (env : Environment) (name : Text) (kept : Kept) (old new : 
   pub reads : own_kept new env name ≡ Ok kept
 
 -- A collection isn't saved, for this reason: no file that was there differs.
-pub record IsNotSaved (env : Environment) (name : Text) (fault : FileFault) (old new : Entries) : Type 0 where
+pub record IsNotSaved (env : Environment) (name : Text) (number : ℕ) (kept : Kept) (fault : FileFault)
+    (old new : Entries) : Type 0 where
   pub reason : IfSome (reason_of fault) (λ reason. own_end old env name ≡ Err reason)
   pub left : LeavesBy fault old new
+  pub failure : IfSome (failure_of fault)
+      (λ f. (folders : Folders) × (folders_for env name ≡ Ok folders) × IsSave folders name number kept old f)
 
 -- what has become of the entries, once the user's folder is made
-abbrev pub Ends : Environment → Text → Kept → Result (Unit {0}) FileFault → Entries → Entries → Type 0
-Ends env name kept (Ok u) old new = IsSavedAt env name kept old new
-Ends env name kept (Err fault) old new = IsNotSaved env name fault old new
+abbrev pub Ends : Environment → Text → ℕ → Kept → Result (Unit {0}) FileFault → Entries → Entries → Type 0
+Ends env name number kept (Ok u) old new = IsSavedAt env name kept old new
+Ends env name number kept (Err fault) old new = IsNotSaved env name number kept fault old new
 
--- what saving has done: folders where nothing was, and then this
-abbrev pub Saves : Environment → Text → Kept → Result (Unit {0}) FileFault → Entries → Entries → Type 0
-Saves env name kept result old new =
-    (middle : Entries) × AddsFolders old middle × Ends env name kept result middle new
+-- what saving has done: folders where nothing was, and then this; the new file is named by the number
+abbrev pub Saves : Environment → Text → ℕ → Kept → Result (Unit {0}) FileFault → Entries → Entries → Type 0
+Saves env name number kept result old new =
+    (middle : Entries) × AddsFolders old middle × Ends env name number kept result middle new

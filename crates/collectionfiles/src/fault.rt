@@ -1,5 +1,6 @@
 //! Why a call for collections is refused, with the texts.
-ghost use Rattle.std.specs.Prelude.{◌≡◌};
+ghost use Rattle.std.specs.Prelude.{◌≡◌, Some};
+ghost use Rattle.collectionfiles.specs.Failures.{message_of};
 ghost use Rattle.collectionfiles.specs.declared.fault.FileFault.TheVariants.{OutOfMemory};
 
 use collections::{CollectionFault, SaveFault};
@@ -35,6 +36,8 @@ pub enum FileFault {
 }
 
 impl fmt::Display for FileFault {
+    ghost output = { λ fault. Some (message_of fault) };
+
     fn fmt<W: fmt::Write>(&self, f: &mut fmt::Formatter<W>) -> fmt::Result {
         match self {
             FileFault::OutOfMemory => f.write_str("Out of memory"),

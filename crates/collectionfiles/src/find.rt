@@ -1,12 +1,14 @@
 //! Where the collection of a name lies.
-ghost use Rattle.std.specs.Prelude.{◌≡◌, None, IfOk, IfErr, string_bytes};
+ghost use Rattle.std.specs.Prelude.{◌≡◌, None, IfOk, IfErr, IfSome, string_bytes};
 ghost use Rattle.std.specs.Option.{option_map};
 ghost use Rattle.message.specs.Answers.{Gives};
 ghost use Rattle.collectionfiles.specs.Entries as entry;
 ghost use Rattle.collectionfiles.specs.Calls.{InEach, Narrows};
 ghost use Rattle.collectionfiles.specs.Places as places;
+ghost use Rattle.collectionfiles.specs.Failures.{IsElsewhere, IsInFolders, IsLooked, failure_of, unread};
 ghost use Rattle.collectionfiles.specs.Faults.{reason_of};
 ghost use Rattle.collectionfiles.specs.Seen.{folders_view};
+ghost use Rattle.collectionfiles.specs.declared.storage.StorageFault.TheVariants as storage;
 
 use crate::fault::FileFault;
 use crate::folders::Folders;
@@ -18,11 +20,16 @@ use std::alloc::Global;
 
 /// The fault of what couldn't be read at a path.
 pub(crate) fn reading(alloc: Global, path: &str, fault: StorageFault) -> FileFault
-    ensures { reason_of result ≡ None }
+    ensures reason { reason_of result ≡ None }
+    ensures failure { IfSome (failure_of result) (λ f. f ≡ unread path.now) }
+    ensures memory { fault ≡ storage.OutOfMemory → failure_of result ≡ None }
 {
-    match (fault, String::from_str(alloc, path)) {
-        (StorageFault::Failed, Ok(path)) => FileFault::Reading(path),
-        _ => FileFault::OutOfMemory,
+    match fault {
+        StorageFault::OutOfMemory => FileFault::OutOfMemory,
+        StorageFault::Failed => match String::from_str(alloc, path) {
+            Ok(path) => FileFault::Reading(path),
+            Err(_) => FileFault::OutOfMemory,
+        },
     }
 }
 
@@ -36,6 +43,7 @@ pub(crate) fn is_there<S: Storage>(
     ensures answer { IfOk result (λ there. InEach (S.agrees storage.new) (λ entries.
         entry.is_there (entries path.now) ≡ there)) }
     ensures fault { IfErr result (λ fault. reason_of fault ≡ None) }
+    ensures failure { IfErr result (λ fault. IfSome (failure_of fault) (λ f. f ≡ unread path.now)) }
 {
     match storage.look(path) {
         Ok(Seen::Nothing) => Ok(false),
@@ -54,6 +62,8 @@ pub(crate) fn elsewhere<S: Storage>(
     ensures narrows { Narrows (S.agrees storage.old) (S.agrees storage.new) }
     ensures answer { InEach (S.agrees storage.new) (λ entries. Gives reason_of string_bytes result
         (places.elsewhere entries (option_map (λ f. f.now) folder.entry) name.now)) }
+    ensures failure { IfErr result (λ fault. IfSome (failure_of fault)
+        (IsElsewhere (option_map (λ f. f.now) folder.entry) name.now)) }
 {
     if let Some(folder) = folder {
         let path = in_folder(alloc, folder, name)?;
@@ -74,6 +84,8 @@ fn place_of<S: Storage>(
     ensures narrows { Narrows (S.agrees storage.old) (S.agrees storage.new) }
     ensures answer { InEach (S.agrees storage.new) (λ entries. Gives reason_of string_bytes result
         (places.place_of entries (folders_view folders.now) name.now)) }
+    ensures failure { IfErr result (λ fault. IfSome (failure_of fault)
+        (IsInFolders (folders_view folders.now) name.now)) }
 {
     let path = in_folder(alloc, folders.own.as_str(), name)?;
     if is_there(alloc, storage, path.as_str())? {
@@ -84,7 +96,8 @@ fn place_of<S: Storage>(
 
 /// The folders for a name that a collection can have.
 pub(crate) fn folders_for(alloc: Global, env: &Env, name: &str) -> Result<Folders, FileFault>
-    ensures { Gives reason_of folders_view result (places.folders_for env.now name.now) }
+    ensures answer { Gives reason_of folders_view result (places.folders_for env.now name.now) }
+    ensures failure { IfErr result (λ fault. failure_of fault ≡ None) }
 {
     if !is_collection_name(name) {
         return Err(FileFault::BadName(String::from_str(alloc, name)?));
@@ -106,7 +119,8 @@ fn is_site(site: Option<&str>, word: &str) -> bool
 /// user's folder, where something has this name there, else in that of Environment Modules.
 ///
 /// The errors: `BadName`, no collection can have this name; `NoHome`, no variable says where the folders lie; `Missing`,
-/// in none of them is something of this name; `Reading`, the system couldn't say; `OutOfMemory`.
+/// in none of them is something of this name; `Reading`, the system couldn't say what is at this path of them;
+/// `OutOfMemory`.
 pub fn find_collection<S: Storage>(
     alloc: Global,
     storage: &mut S,
@@ -117,6 +131,7 @@ pub fn find_collection<S: Storage>(
     ensures narrows { Narrows (S.agrees storage.old) (S.agrees storage.new) }
     ensures answer { InEach (S.agrees storage.new) (λ entries. Gives reason_of string_bytes result
         (places.found entries env.now (option_map (λ s. s.now) site.entry) word.now)) }
+    ensures failure { IfErr result (λ fault. IfSome (failure_of fault) (IsLooked env.now word.now)) }
 {
     if is_site(site, word) {
         return Ok(String::from_str(alloc, word)?);

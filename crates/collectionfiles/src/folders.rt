@@ -1,9 +1,10 @@
 //! The folders of collections, by the environment.
-ghost use Rattle.std.specs.Prelude.{◌≡◌, IfOk, string_bytes};
+ghost use Rattle.std.specs.Prelude.{◌≡◌, IfErr, IfOk, None, string_bytes};
 ghost use Rattle.std.specs.Option.{option_map};
 ghost use Rattle.message.specs.Answers.{Gives};
 ghost use Rattle.collectionfiles.specs.Entries as entry;
 ghost use Rattle.collectionfiles.specs.Places as places;
+ghost use Rattle.collectionfiles.specs.Failures.{failure_of};
 ghost use Rattle.collectionfiles.specs.Faults.{reason_of};
 ghost use Rattle.collectionfiles.specs.Seen.{folders_view};
 
@@ -58,8 +59,9 @@ fn folders_by(
     settings: Option<&str>,
     home: Option<&str>,
 ) -> Result<Folders, FileFault>
-    ensures { Gives reason_of folders_view result (places.folders_by (option_map (λ s. s.now) settings.entry)
+    ensures answer { Gives reason_of folders_view result (places.folders_by (option_map (λ s. s.now) settings.entry)
         (option_map (λ h. h.now) home.entry)) }
+    ensures failure { IfErr result (λ fault. failure_of fault ≡ None) }
 {
     let own = match (settings, home) {
         (Some(settings), _) => in_folder(alloc, settings, "modulecmd")?,
@@ -76,7 +78,8 @@ impl Folders {
     ///
     /// The errors: `NoHome`, where neither variable says where the first one lies; `OutOfMemory`.
     pub fn of_environment(alloc: Global, env: &Env) -> Result<Folders, FileFault>
-        ensures { Gives reason_of folders_view result (places.folders_of env.now) }
+        ensures answer { Gives reason_of folders_view result (places.folders_of env.now) }
+        ensures failure { IfErr result (λ fault. failure_of fault ≡ None) }
     {
         let settings = absolute(env.get("XDG_CONFIG_HOME"));
         let home = filled(env.get("HOME"));

@@ -1,9 +1,10 @@
 //! What the file of a collection has, and what it keeps.
-ghost use Rattle.std.specs.Prelude.{◌≡◌, IfSome, Ok, Some, string_bytes, vec_items};
+ghost use Rattle.std.specs.Prelude.{◌≡◌, IfErr, IfSome, None, Ok, Some, string_bytes, vec_items};
 ghost use Rattle.message.specs.Answers.{Gives};
 ghost use Rattle.collections.specs.Views.{kept_view};
 ghost use Rattle.collectionfiles.specs.Calls.{InEach, Narrows};
 ghost use Rattle.collectionfiles.specs.Found as found;
+ghost use Rattle.collectionfiles.specs.Failures.{failure_of, unread};
 ghost use Rattle.collectionfiles.specs.Faults.{reason_at, reason_of};
 
 use crate::fault::FileFault;
@@ -21,6 +22,7 @@ fn file_end<S: Storage>(alloc: Global, storage: &mut S, path: &str) -> Result<St
     ensures narrows { Narrows (S.agrees storage.old) (S.agrees storage.new) }
     ensures answer { InEach (S.agrees storage.new) (λ entries. Gives reason_of string_bytes result
         (found.file_end entries path.now)) }
+    ensures failure { IfErr result (λ fault. IfSome (failure_of fault) (λ f. f ≡ unread path.now)) }
 {
     match end_of(alloc, storage, path) {
         Ok(
@@ -38,8 +40,9 @@ fn file_end<S: Storage>(alloc: Global, storage: &mut S, path: &str) -> Result<St
 
 /// The bytes, if a collection may have so many.
 fn short(alloc: Global, path: &str, bytes: Vec<u8>) -> Result<Vec<u8>, FileFault>
-    ensures { (all : _) → bytes.items ≡ found.first all → Gives reason_of vec_items result
+    ensures answer { (all : _) → bytes.items ≡ found.first all → Gives reason_of vec_items result
         (found.short path.now (Some all)) }
+    ensures failure { IfErr result (λ fault. failure_of fault ≡ None) }
 {
     if bytes.len() > MAX_LENGTH {
         let path = String::from_str(alloc, path)?;
@@ -50,8 +53,8 @@ fn short(alloc: Global, path: &str, bytes: Vec<u8>) -> Result<Vec<u8>, FileFault
 
 /// The bytes of the file that a path leads to.
 ///
-/// The errors: `NoFile`, it leads to none; `NoCollection`, a collection can't have so many; `Reading`, the system failed;
-/// `OutOfMemory`.
+/// The errors: `NoFile`, it leads to none; `NoCollection`, a collection can't have so many; `Reading`, the system failed
+/// at this path; `OutOfMemory`.
 pub fn read_bytes<S: Storage>(
     alloc: Global,
     storage: &mut S,
@@ -60,6 +63,7 @@ pub fn read_bytes<S: Storage>(
     ensures narrows { Narrows (S.agrees storage.old) (S.agrees storage.new) }
     ensures answer { InEach (S.agrees storage.new) (λ entries. Gives reason_of vec_items result
         (found.shown_at entries path.now)) }
+    ensures failure { IfErr result (λ fault. IfSome (failure_of fault) (λ f. f ≡ unread path.now)) }
 {
     let end = file_end(alloc, storage, path)?;
     match storage.read(end.as_str(), MAX_LENGTH + 1) {
@@ -70,7 +74,8 @@ pub fn read_bytes<S: Storage>(
 
 /// The fault of a file of this path that keeps no collection.
 fn no_collection(alloc: Global, path: &str, fault: CollectionFault) -> FileFault
-    ensures { IfSome (reason_of result) (λ reason. reason_at path.now fault ≡ Some reason) }
+    ensures reason { IfSome (reason_of result) (λ reason. reason_at path.now fault ≡ Some reason) }
+    ensures failure { failure_of result ≡ None }
 {
     match String::from_str(alloc, path) {
         Ok(path) => FileFault::NoCollection(path, fault),
@@ -80,7 +85,8 @@ fn no_collection(alloc: Global, path: &str, fault: CollectionFault) -> FileFault
 
 /// What the bytes of a file keep.
 fn kept_in(alloc: Global, path: &str, bytes: Vec<u8>) -> Result<Collection, FileFault>
-    ensures { Gives reason_of kept_view result (found.kept_in path.now (Ok bytes.items)) }
+    ensures answer { Gives reason_of kept_view result (found.kept_in path.now (Ok bytes.items)) }
+    ensures failure { IfErr result (λ fault. failure_of fault ≡ None) }
 {
     let Ok(text) = String::from_utf8(bytes) else {
         return Err(no_collection(alloc, path, CollectionFault::NoText));
@@ -102,6 +108,7 @@ pub fn read_collection_file<S: Storage>(
     ensures narrows { Narrows (S.agrees storage.old) (S.agrees storage.new) }
     ensures answer { InEach (S.agrees storage.new) (λ entries. Gives reason_of kept_view result
         (found.kept_at entries path.now)) }
+    ensures failure { IfErr result (λ fault. IfSome (failure_of fault) (λ f. f ≡ unread path.now)) }
 {
     let bytes = read_bytes(alloc, storage, path)?;
     kept_in(alloc, path, bytes)

@@ -1,8 +1,10 @@
 //! Removing a collection.
-ghost use Rattle.std.specs.Prelude.{◌≡◌, Err, IfSome, string_bytes};
+ghost use Rattle.std.specs.Prelude.{◌≡◌, Err, IfErr, IfOk, IfSome, Ok, string_bytes};
 ghost use Rattle.std.specs.Option.{option_map};
 ghost use Rattle.message.specs.Answers.{Gives};
 ghost use Rattle.collectionfiles.specs.Calls.{Changes, InEach, Narrows};
+ghost use Rattle.collectionfiles.specs.Entries.{in_folder};
+ghost use Rattle.collectionfiles.specs.Failures.{IsElsewhere, IsInFolders, IsLooked, IsRemoval, failure_of};
 ghost use Rattle.collectionfiles.specs.Faults.{reason_of};
 ghost use Rattle.collectionfiles.specs.Places as places;
 ghost use Rattle.collectionfiles.specs.Removes as spec;
@@ -26,6 +28,7 @@ fn not_own<S: Storage>(
     ensures narrows { Narrows (S.agrees storage.old) (S.agrees storage.new) }
     ensures answer { InEach (S.agrees storage.new) (λ entries. IfSome (reason_of result) (λ reason.
         spec.not_own (places.elsewhere entries (option_map (λ f. f.now) folder.entry) name.now) ≡ Err reason)) }
+    ensures failure { IfSome (failure_of result) (IsElsewhere (option_map (λ f. f.now) folder.entry) name.now) }
 {
     match elsewhere(alloc, storage, folder, name) {
         Ok(path) => FileFault::Others(path),
@@ -43,6 +46,9 @@ fn removable_in<S: Storage>(
     ensures narrows { Narrows (S.agrees storage.old) (S.agrees storage.new) }
     ensures answer { InEach (S.agrees storage.new) (λ entries. Gives reason_of string_bytes result
         (spec.removable_in entries (folders_view folders.now) name.now)) }
+    ensures own { IfOk result (λ path. string_bytes path ≡ in_folder (folders_view folders.now).own name.now) }
+    ensures failure { IfErr result (λ fault. IfSome (failure_of fault)
+        (IsInFolders (folders_view folders.now) name.now)) }
 {
     let path = in_folder(alloc, folders.own.as_str(), name)?;
     match storage.look(path.as_str()) {
@@ -63,6 +69,9 @@ fn removable<S: Storage>(
     ensures narrows { Narrows (S.agrees storage.old) (S.agrees storage.new) }
     ensures answer { InEach (S.agrees storage.new) (λ entries. Gives reason_of string_bytes result
         (spec.removable entries env.now name.now)) }
+    ensures own { IfOk result (λ path. (folders : places.Folders) × (places.folders_for env.now name.now ≡ Ok folders)
+        × (string_bytes path ≡ in_folder folders.own name.now)) }
+    ensures failure { IfErr result (λ fault. IfSome (failure_of fault) (IsLooked env.now name.now)) }
 {
     let folders = folders_for(alloc, env, name)?;
     removable_in(alloc, storage, &folders, name)
@@ -79,7 +88,8 @@ pub fn remove_collection<S: Storage>(
     env: &Env,
     name: &str,
 ) -> Result<(), FileFault>
-    ensures { Changes (S.agrees storage.old) (S.agrees storage.new) (spec.Removes env.now name.now result) }
+    ensures removes { Changes (S.agrees storage.old) (S.agrees storage.new) (spec.Removes env.now name.now result) }
+    ensures failure { IfErr result (λ fault. IfSome (failure_of fault) (IsRemoval env.now name.now)) }
 {
     let path = removable(alloc, storage, env, name)?;
     match storage.remove(path.as_str()) {

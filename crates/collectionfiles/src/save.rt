@@ -1,20 +1,23 @@
 //! Saving a collection: whole, or not at all.
-ghost use Rattle.std.specs.Prelude.{◌≡◌, true, Err, IfErr, IfOk, IfSome, None, string_bytes};
+ghost use Rattle.std.specs.Prelude.{◌≡◌, ◌↔◌, Err, IfErr, IfOk, IfSome, IsTrue, None, Some, string_bytes};
 ghost use Rattle.message.specs.Answers.{Gives};
 ghost use Rattle.collections.specs.Saved.{IsSaved};
 ghost use Rattle.collections.specs.Views.{kept_view};
 ghost use Rattle.collectionfiles.specs.Entries.{file};
 ghost use Rattle.collectionfiles.specs.Calls.{AddsFolders, Changes, InEach, Narrows};
+ghost use Rattle.collectionfiles.specs.Ends as ends;
+ghost use Rattle.collectionfiles.specs.Failures as failures;
+ghost use Rattle.collectionfiles.specs.Failures.{failure_of, unwritten};
 ghost use Rattle.collectionfiles.specs.Faults.{reason_of};
 ghost use Rattle.collectionfiles.specs.Places.{folders_for};
-ghost use Rattle.collectionfiles.specs.Prepared.{IsPrepared};
+ghost use Rattle.collectionfiles.specs.Prepared.{IsPrepared, IsUnprepared, IsUnsaved};
 ghost use Rattle.collectionfiles.specs.Saves as spec;
 
 use crate::fault::FileFault;
 use crate::find::folders_for;
 use crate::follow::{End, end_of};
 use crate::paths::{beside, in_folder};
-use crate::storage::{CreationFault, Seen, Storage};
+use crate::storage::{CreationFault, Seen, Storage, StorageFault};
 use crate::unwritten::Unwritten;
 use collections::{Collection, save_text};
 use envvars::Env;
@@ -22,7 +25,8 @@ use std::alloc::{AllocError, Global};
 
 /// The fault of what couldn't be written at a path.
 fn writing(alloc: Global, path: &str) -> FileFault
-    ensures { reason_of result ≡ None }
+    ensures reason { reason_of result ≡ None }
+    ensures failure { IfSome (failure_of result) (λ f. f ≡ unwritten path.now) }
 {
     match String::from_str(alloc, path) {
         Ok(path) => FileFault::Writing(path),
@@ -34,7 +38,8 @@ fn writing(alloc: Global, path: &str) -> FileFault
 fn free_end<S: Storage>(alloc: Global, storage: &mut S, path: &str) -> Result<String, FileFault>
     ensures narrows { Narrows (S.agrees storage.old) (S.agrees storage.new) }
     ensures answer { InEach (S.agrees storage.new) (λ entries. Gives reason_of string_bytes result
-        (spec.free_end entries path.now)) }
+        (ends.free_end entries path.now)) }
+    ensures failure { IfErr result (λ fault. IfSome (failure_of fault) (λ f. f ≡ unwritten path.now)) }
 {
     match end_of(alloc, storage, path) {
         Ok(
@@ -51,14 +56,13 @@ fn free_end<S: Storage>(alloc: Global, storage: &mut S, path: &str) -> Result<St
 }
 
 /// Whether a file is at the path and has this text.
-fn holds<S: Storage>(storage: &mut S, path: &str, text: &str) -> bool
+fn holds<S: Storage>(storage: &mut S, path: &str, text: &str) -> Result<bool, StorageFault>
     ensures narrows { Narrows (S.agrees storage.old) (S.agrees storage.new) }
-    ensures same { result ≡ true → InEach (S.agrees storage.new) (λ entries. entries path.now ≡ file text.now) }
+    ensures answer { IfOk result (λ same. InEach (S.agrees storage.new) (λ entries.
+        IsTrue same ↔ (entries path.now ≡ file text.now))) }
 {
-    match storage.read(path, text.len() + 1) {
-        Ok(bytes) => bytes.as_slice() == text.as_bytes(),
-        Err(_) => false,
-    }
+    let bytes = storage.read(path, text.len() + 1)?;
+    Ok(bytes.as_slice() == text.as_bytes())
 }
 
 /// Removes the new file at the path, which isn't put in its place.
@@ -86,10 +90,10 @@ fn undo<S: Storage>(storage: &mut S, path: &str, fault: CreationFault) -> Unwrit
 fn compare<S: Storage>(storage: &mut S, path: &str, text: &str) -> Result<(), Unwritten>
     ensures { Changes (S.agrees storage.old) (S.agrees storage.new) (spec.Compares path.now text.now result) }
 {
-    if holds(storage, path, text) {
-        return Ok(());
+    match holds(storage, path, text) {
+        Ok(true) => Ok(()),
+        Ok(false) | Err(_) => Err(discard(storage, path)),
     }
-    Err(discard(storage, path))
 }
 
 /// Makes a file with this text where nothing was.
@@ -121,7 +125,9 @@ fn replace<S: Storage>(storage: &mut S, path: &str, end: &str, text: &str) -> Re
 }
 
 /// The path of a new file beside another one, by a number.
-fn new_path(alloc: Global, path: &str, number: u32) -> Result<String, AllocError> {
+fn new_path(alloc: Global, path: &str, number: u32) -> Result<String, AllocError>
+    ensures { IfOk result (λ new. string_bytes new ≡ failures.new_path path.now number) }
+{
     let name = format!(in alloc; ".new.{number}")?;
     beside(alloc, path, name.as_str())
 }
@@ -130,6 +136,7 @@ fn new_path(alloc: Global, path: &str, number: u32) -> Result<String, AllocError
 fn fault_of(left: Unwritten, new: String, end: String) -> FileFault
     ensures reason { reason_of result ≡ None }
     ensures left { spec.left_by result ≡ spec.left_at (string_bytes new) left }
+    ensures failure { failure_of result ≡ Some (failures.failure_by left (string_bytes new) (string_bytes end)) }
 {
     match left {
         Unwritten::Failed => FileFault::Writing(end),
@@ -145,7 +152,7 @@ fn write_by<S: Storage>(
     text: &str,
 ) -> Result<(), FileFault>
     ensures { Changes (S.agrees storage.old) (S.agrees storage.new)
-        (spec.WritesAt (string_bytes end) text.now result) }
+        (spec.WritesAt (string_bytes new) (string_bytes end) text.now result) }
 {
     match replace(storage, new.as_str(), end.as_str(), text) {
         Ok(()) => Ok(()),
@@ -162,7 +169,7 @@ fn write_at<S: Storage>(
     number: u32,
 ) -> Result<(), FileFault>
     ensures { Changes (S.agrees storage.old) (S.agrees storage.new)
-        (spec.WritesAt (string_bytes end) text.now result) }
+        (spec.WritesAt (failures.new_path (string_bytes end) number) (string_bytes end) text.now result) }
 {
     match new_path(alloc, end.as_str(), number) {
         Ok(new) => write_by(storage, new, end, text),
@@ -178,7 +185,7 @@ fn write<S: Storage>(
     text: &str,
     number: u32,
 ) -> Result<(), FileFault>
-    ensures { Changes (S.agrees storage.old) (S.agrees storage.new) (spec.Writes path.now text.now result) }
+    ensures { Changes (S.agrees storage.old) (S.agrees storage.new) (spec.Writes path.now number text.now result) }
 {
     match free_end(alloc, storage, path) {
         Ok(end) => write_at(alloc, storage, end, text, number),
@@ -190,6 +197,7 @@ fn write<S: Storage>(
 fn text_of(alloc: Global, collection: &Collection) -> Result<String, FileFault>
     ensures saved { IfOk result (λ text. IsSaved (kept_view collection.now) (string_bytes text)) }
     ensures fault { IfErr result (λ fault. reason_of fault ≡ None) }
+    ensures failure { IfErr result (λ fault. IfSome (failure_of fault) (IsUnsaved (kept_view collection.now))) }
 {
     match save_text(alloc, collection) {
         Ok(text) => Ok(text),
@@ -218,6 +226,8 @@ fn prepare(
     ensures ready { IfOk result (IsPrepared env.now name.now (kept_view collection.now)) }
     ensures fault { IfErr result (λ fault. IfSome (reason_of fault) (λ reason.
         folders_for env.now name.now ≡ Err reason)) }
+    ensures failure { IfErr result (λ fault. IfSome (failure_of fault)
+        (IsUnprepared env.now name.now (kept_view collection.now))) }
 {
     let folders = folders_for(alloc, env, name)?;
     let path = in_folder(alloc, folders.own.as_str(), name)?;
@@ -233,6 +243,7 @@ fn prepare(
 fn make<S: Storage>(alloc: Global, storage: &mut S, folder: &str) -> Result<(), FileFault>
     ensures made { Changes (S.agrees storage.old) (S.agrees storage.new) AddsFolders }
     ensures fault { IfErr result (λ fault. reason_of fault ≡ None) }
+    ensures failure { IfErr result (λ fault. IfSome (failure_of fault) (λ f. f ≡ unwritten folder.now)) }
 {
     match storage.make_folder(folder) {
         Ok(()) => Ok(()),
@@ -248,7 +259,8 @@ fn write_prepared<S: Storage>(
     number: u32,
 ) -> Result<(), FileFault>
     ensures { Changes (S.agrees storage.old) (S.agrees storage.new)
-        (spec.WritesInFolder (string_bytes prepared.now.path) (string_bytes prepared.now.text) result) }
+        (spec.WritesInFolder (string_bytes prepared.now.folder) (string_bytes prepared.now.path) number
+        (string_bytes prepared.now.text) result) }
 {
     match make(alloc, storage, prepared.folder.as_str()) {
         Ok(()) => write(
@@ -268,7 +280,8 @@ fn write_prepared<S: Storage>(
 ///
 /// The errors: `BadName`, no collection can have this name; `NoHome`, no variable says where it would lie; `Unsaved`, no
 /// file can keep the collection; `NoFile`, a folder, a pipe or too many links are where the file should be; `Writing`,
-/// the system failed, or there is no room; `Left`, the same, and the new file is there; `OutOfMemory`.
+/// the system failed at this path, or there is no room; `Left`, the same, and the new file of this path is there;
+/// `OutOfMemory`.
 pub fn save_collection<S: Storage>(
     alloc: Global,
     storage: &mut S,
@@ -278,7 +291,7 @@ pub fn save_collection<S: Storage>(
     collection: &Collection,
 ) -> Result<(), FileFault>
     ensures { Changes (S.agrees storage.old) (S.agrees storage.new)
-        (spec.Saves env.now name.now (kept_view collection.now) result) }
+        (spec.Saves env.now name.now number (kept_view collection.now) result) }
 {
     match prepare(alloc, env, name, collection) {
         Ok(prepared) => write_prepared(alloc, storage, &prepared, number),

@@ -1,5 +1,6 @@
 -- What is saved: the text of a collection that is read again as the same.
-use Rattle.std.specs.Prelude.{◌≡◌, ◌≢◌, List, Bool, ◌&&◌, bytes_eq, string_bytes, Result, Ok, Err, IfOk, IfSome}
+use Rattle.std.specs.Prelude.{◌≡◌, ◌≢◌, List, ◌++◌, Bool, ◌&&◌, bytes_eq, codes, string_bytes, Result, Ok, Err}
+use Rattle.std.specs.Prelude.{IfOk, IfSome}
 use Rattle.std.specs.Cmp.Lexicographic.{pointwise}
 use Rattle.std.specs.declared.string.String.{String}
 use Rattle.std.specs.declared.alloc.Global.{Global}
@@ -8,7 +9,7 @@ use Rattle.envvars.specs.Texts.{Text}
 use Rattle.collections.specs.Lines.{Kept}
 use Rattle.collections.specs.Collections.{read}
 use Rattle.collections.specs.Spelling.{written}
-use Rattle.collections.specs.Views.{reason_of}
+use Rattle.collections.specs.Views.{reason_of, text_of}
 use Rattle.collections.specs.declared.collection.Collection.{Collection}
 use Rattle.collections.specs.declared.fault.CollectionFault.{CollectionFault}
 use Rattle.collections.specs.declared.fault.CollectionFault.TheVariants.{OutOfMemory, BadLine, SaysNothing}
@@ -38,6 +39,14 @@ abbrev pub IsSaveFault : Kept → SaveFault → Type 0
 IsSaveFault kept saves.OutOfMemory = Unit {0}
 IsSaveFault kept (saves.Unreadable fault) = IfSome (reason_of fault) (λ reason. read (saved kept) ≡ Err reason)
 IsSaveFault kept saves.Differs = IfOk (read (saved kept)) (λ other. other ≢ kept)
+
+-- what is said of it
+abbrev pub text_of_save : SaveFault → Text
+text_of_save saves.OutOfMemory = codes "Out of memory"
+text_of_save (saves.Unreadable SaysNothing) =
+    codes "Nothing to save: no module is loaded, and MODULEPATH names no directory"
+text_of_save (saves.Unreadable fault) = codes "No collection can keep this: " ++ text_of fault
+text_of_save saves.Differs = codes "No collection can keep this: it would be read as another one"
 
 -- the fault of a text that is no collection
 abbrev pub of_fault : CollectionFault → SaveFault

@@ -1,7 +1,7 @@
 //! What is saved: a text that is read again as the same.
-ghost use Rattle.std.specs.Prelude.{◌≡◌, string_bytes, IfErr, IfOk};
+ghost use Rattle.std.specs.Prelude.{◌≡◌, string_bytes, IfErr, IfOk, Some};
 ghost use Rattle.collections.specs.Views.{kept_view};
-ghost use Rattle.collections.specs.Saved.{IsSaveFault, IsSaved, are_same, keep_same, of_fault};
+ghost use Rattle.collections.specs.Saved.{IsSaveFault, IsSaved, are_same, keep_same, of_fault, text_of_save};
 ghost use Rattle.collections.specs.declared.save.SaveFault.TheVariants.{OutOfMemory};
 
 use crate::collection::Collection;
@@ -24,6 +24,8 @@ pub enum SaveFault {
 }
 
 impl fmt::Display for SaveFault {
+    ghost output = { λ fault. Some (text_of_save fault) };
+
     fn fmt<W: fmt::Write>(&self, f: &mut fmt::Formatter<W>) -> fmt::Result {
         match self {
             SaveFault::OutOfMemory => f.write_str("Out of memory"),

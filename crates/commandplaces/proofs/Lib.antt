@@ -1,2 +1,5 @@
 mod OffsetLemmas
 mod PlaceLemmas
+mod WordLemmas
+mod PartLemmas
+mod BodyLemmas

@@ -1,11 +1,16 @@
 //! The commands of a script that stands in a text, by their places.
-ghost use Rattle.std.specs.Prelude.{◌≡◌, drop, length, map, IfOk};
+ghost use Rattle.std.specs.Prelude.{◌≡◌, drop, length, map, IfOk, Result};
+ghost use Rattle.std.specs.Option.{option_map};
 ghost use Rattle.tclchars.specs.Runs.{Text};
 ghost use Rattle.tclchars.specs.Whole.{Reads};
 ghost use Rattle.tclscript.specs.Pieces.{between};
 ghost use Rattle.tclscript.specs.Text.{script_of};
+ghost use Rattle.tclscript.specs.Tree.{Commands};
 ghost use Rattle.tclscript.specs.View.{script_view};
+ghost use Rattle.commandplaces.specs.Bodies.{if_one, piece_in, script_in};
+ghost use Rattle.tclchars.specs.declared.fault.TextFault.{TextFault};
 ghost use Rattle.tclscript.specs.declared.piece.ByteRange as code;
+ghost use Rattle.tclscript.specs.declared.tree.Script as code_script;
 ghost use Rattle.commandplaces.specs.Places.{behind, first_begin, offsets_of, place_view, places};
 
 use std::alloc::{AllocError, Global};
@@ -82,6 +87,54 @@ pub fn script_of(alloc: Global, text: &str, part: Part) -> Result<Script<ByteRan
         (script_of (between text.now part.begin part.end)) }
 {
     parse_pieces(alloc, &part.of(text))
+}
+
+/// The script that was read, if the text is one.
+///
+/// It fails for want of memory alone.
+fn unless_memory(
+    read: Result<Script<ByteRange>, TextFault>,
+) -> Result<Option<Script<ByteRange>>, AllocError>
+    ensures { IfOk result (λ script. (view : code_script.Script code.ByteRange → Commands)
+        (outcome : Result Commands TextFault) → Reads view read outcome → option_map view script ≡ if_one outcome) }
+{
+    match read {
+        Ok(script) => Ok(Some(script)),
+        Err(TextFault::OutOfMemory) => Err(AllocError),
+        Err(
+            TextFault::OpenBrace(_)
+            | TextFault::OpenQuote(_)
+            | TextFault::OpenBracket(_)
+            | TextFault::JoinedToClose(_)
+            | TextFault::TooDeep
+            | TextFault::BadCharacter(_)
+            | TextFault::BadExpression(_)
+            | TextFault::TooLong,
+        ) => Ok(None),
+    }
+}
+
+/// The script that a part of a text is, if it is one.
+///
+/// It fails for want of memory alone.
+pub fn script_if_one(
+    alloc: Global,
+    text: &str,
+    part: Part,
+) -> Result<Option<Script<ByteRange>>, AllocError>
+    ensures { IfOk result (λ script. option_map (script_view (piece_in (between text.now part.begin part.end))) script
+        ≡ script_in (between text.now part.begin part.end)) }
+{
+    unless_memory(script_of(alloc, text, part))
+}
+
+/// The script that a whole text is, if it is one.
+///
+/// It fails for want of memory alone.
+pub fn whole_if_one(alloc: Global, text: &str) -> Result<Option<Script<ByteRange>>, AllocError>
+    ensures { IfOk result (λ script. option_map (script_view (piece_in text.now)) script ≡ script_in text.now) }
+{
+    unless_memory(whole_script(alloc, text))
 }
 
 /// The offsets of the commands of a script in it.

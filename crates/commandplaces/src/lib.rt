@@ -7,5 +7,7 @@ mod commands;
 mod cuts;
 
 pub use bodies::bodies_of;
-pub use commands::{CommandPlace, Part, places_of, script_of, whole_script};
+pub use commands::{
+    CommandPlace, Part, places_of, script_if_one, script_of, whole_if_one, whole_script,
+};
 pub use cuts::{blanked, line_of};

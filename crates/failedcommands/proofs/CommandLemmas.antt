@@ -14,6 +14,7 @@ use Rattle.modulefile.specs.Files.{FileReason, RunsFile}
 use Rattle.modulerun.specs.Running.{file_reason_of, ran_view}
 use Rattle.modulerun.specs.declared.run.FileRun.{FileRun}
 use Rattle.modulerun.specs.declared.run_fault.RunFault.{RunFault}
+use Rattle.commandplaces.specs.Bodies.{if_one, script_in}
 use Rattle.commandplaces.specs.Places.{Place, offsets_of, place_view, places}
 use Rattle.commandplaces.specs.declared.commands.CommandPlace.{CommandPlace}
 use Rattle.failedcommands.specs.Failing.{IsCommandOf, IsNotShown, NoneIsShown, Words, most_commands}
@@ -45,6 +46,13 @@ command_there source begin end script found parsed same (Ok (Some place)) h =
     record { script = script; parsed = parsed; there = subst (λ (l : List Place). Contains l (place_view place)) same h }
 command_there source begin end script found parsed same (Ok None) h = tt
 command_there source begin end script found parsed same (Err e) h = tt
+
+-- the script of a text that is one
+pub script_there : (text : Text) (s : Commands) → Some s ≡ script_in text → script_of text ≡ Ok s
+script_there text s e = go (script_of text) e where
+  go : (r : Result Commands TextFault) → Some s ≡ if_one r → r ≡ Ok s
+  go (Ok t) h = cc
+  go (Err fault) h = cc
 
 length_places : (begin end : ℕ) (offsets : List ℕ) → length (places begin end offsets) ≡ length offsets
 length_places begin end [] = refl

@@ -8,7 +8,9 @@ ghost use Rattle.failedcommands.specs.Failing.{HasFailed, IsCommandOf, IsNotShow
 ghost use Rattle.failedcommands.specs.Views.{HasFailedWithin, IsInwards, context_in, words_view};
 
 use crate::trials::{MOST_TRIALS, RefusedFile, failed_one, first_failed};
-use commandplaces::{CommandPlace, Part, blanked, bodies_of, places_of, script_of, whole_script};
+use commandplaces::{
+    CommandPlace, Part, blanked, bodies_of, places_of, script_if_one, whole_script,
+};
 use std::alloc::AllocError;
 use tclchars::TextFault;
 
@@ -94,7 +96,7 @@ fn failed_in(
     ensures there { IfOk result (λ o. IfSome o (λ place.
         IsCommandOf (between text.now part.begin part.end) part.begin part.end (place_view place))) }
 {
-    let Ok(script) = script_of(refused.alloc, text, part) else {
+    let Some(script) = script_if_one(refused.alloc, text, part)? else {
         return Ok(None);
     };
     let places = places_of(refused.alloc, &script, part)?;

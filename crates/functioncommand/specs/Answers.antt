@@ -21,33 +21,33 @@ use Rattle.functioncommand.specs.Faults.{FunctionReason, inconsistent, bad_argum
 use Rattle.functioncommand.specs.Faults.{not_here, no_path}
 use Rattle.functioncommand.specs.Options.{words_to_unuse, words_to_use}
 
--- what a command answers: of the environment that the shell has, the one that it is to have; a subcommand that a word
--- means; or yes or no
+-- what a command answers: of the environment that the shell has, the one that it is to have, with the directories that
+-- are searched from then on; a subcommand that a word means; or yes or no
 pub data Answer : Type 0 where
-  makes : (old new : Environment) → Answer
+  makes : (old new : Environment) → (added : List Text) → Answer
   subcommand_is : Subcommand → Answer
   truth : Bool → Answer
 
 abbrev pub Answered : Type 0
 Answered = Result Answer FunctionReason
 
--- the environment in which MODULEPATH is this text, and nothing else differs
-abbrev pub made : Environment → Result (Option Text) PathReason → Answered
-made e (Ok text) = Ok (makes e (with_path e text))
-made e (Err reason) = Err (no_path reason)
+-- the environment in which MODULEPATH is this text, and nothing else differs, with these directories
+abbrev pub made : Environment → List Text → Result (Option Text) PathReason → Answered
+made e added (Ok text) = Ok (makes e (with_path e text) added)
+made e added (Err reason) = Err (no_path reason)
 
--- the text of MODULEPATH with these directories at that end, or without these
-abbrev pub text_used : Option Text → Environment → End → Result (List Text) PathReason → Result (Option Text) PathReason
-text_used working e end (Ok paths) = used_text working end paths (lookup e modulepath)
-text_used working e end (Err reason) = Err reason
+-- MODULEPATH with these directories at that end, or without these
+abbrev pub with_these : Option Text → Environment → End → Result (List Text) PathReason → Answered
+with_these working e end (Ok paths) = made e paths (used_text working end paths (lookup e modulepath))
+with_these working e end (Err reason) = Err (no_path reason)
 
-abbrev pub text_unused : Option Text → Environment → Result (List Text) PathReason → Result (Option Text) PathReason
-text_unused working e (Ok paths) = unused_text working paths (lookup e modulepath)
-text_unused working e (Err reason) = Err reason
+abbrev pub without_these : Option Text → Environment → Result (List Text) PathReason → Answered
+without_these working e (Ok paths) = made e [] (unused_text working paths (lookup e modulepath))
+without_these working e (Err reason) = Err (no_path reason)
 
 -- what `use` makes with words for an end of MODULEPATH
 abbrev pub used_at : Option Text → Environment → Result (End × List Text) FunctionReason → Answered
-used_at working e (Ok (end, words)) = made e (text_used working e end (each (holdable working) words))
+used_at working e (Ok (end, words)) = with_these working e end (each (holdable working) words)
 used_at working e (Err reason) = Err reason
 
 -- `use`: the directories of its words are searched first, or last
@@ -56,7 +56,7 @@ used working e words = used_at working e (words_to_use Front words)
 
 -- what `unuse` makes with its words
 abbrev pub unused_by : Option Text → Environment → Result (List Text) FunctionReason → Answered
-unused_by working e (Ok words) = made e (text_unused working e (each (named working) words))
+unused_by working e (Ok words) = without_these working e (each (named working) words)
 unused_by working e (Err reason) = Err reason
 
 -- `unuse`: the directories of its words are searched no more

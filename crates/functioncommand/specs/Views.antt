@@ -4,6 +4,7 @@ use Rattle.std.specs.Borrow.{Bor}
 use Rattle.std.specs.declared.alloc.Global.{Global}
 use Rattle.message.specs.Messages.{Text}
 use Rattle.envvars.specs.Changes.{AreChanges, new_values_in}
+use Rattle.envvars.specs.Texts.{texts_in}
 use Rattle.envpaths.specs.declared.adding.End.{End}
 use Rattle.shelltext.specs.declared.shell.Shell.{Shell}
 use Rattle.shelltext.specs.declared.print.PrintFault.{PrintFault}
@@ -27,13 +28,14 @@ end_view p = (p.0, texts_of p.1)
 
 -- an answer of the code: the changes are the difference to the environment that is to be made
 abbrev pub IsAnswer : code.Answer → Answer → Type 0
-IsAnswer (answers.Changes changes) (makes old new) = AreChanges old new (new_values_in changes)
-IsAnswer (answers.Changes changes) (subcommand_is s) = ⊥
-IsAnswer (answers.Changes changes) (truth b) = ⊥
-IsAnswer (answers.Name name) (makes old new) = ⊥
+IsAnswer (answers.Changes changes added) (makes old new directories) =
+    AreChanges old new (new_values_in changes) × (texts_in added ≡ directories)
+IsAnswer (answers.Changes changes added) (subcommand_is s) = ⊥
+IsAnswer (answers.Changes changes added) (truth b) = ⊥
+IsAnswer (answers.Name name) (makes old new directories) = ⊥
 IsAnswer (answers.Name name) (subcommand_is s) = name ≡ s
 IsAnswer (answers.Name name) (truth b) = ⊥
-IsAnswer (answers.Truth a) (makes old new) = ⊥
+IsAnswer (answers.Truth a) (makes old new directories) = ⊥
 IsAnswer (answers.Truth a) (subcommand_is s) = ⊥
 IsAnswer (answers.Truth a) (truth b) = a ≡ b
 
@@ -50,19 +52,25 @@ AnswersInShell (Err fault) outcome = HasReason fault outcome
 
 -- the text that is printed for an answer
 abbrev pub IsPrinted : Shell → code.Answer → Text → Type 0
-IsPrinted shell (answers.Changes changes) text = TextSays shell text (new_values_in changes)
+IsPrinted shell (answers.Changes changes added) text = TextSays shell text (new_values_in changes)
 IsPrinted shell (answers.Name subcommand) text = text ≡ name_line subcommand
 IsPrinted shell (answers.Truth b) text = text ≡ []
 
 -- why an answer has no text
 abbrev pub IsUnprinted : Shell → code.Answer → PrintFault → Type 0
-IsUnprinted shell (answers.Changes changes) fault = IsPrintFault shell (new_values_in changes) fault
+IsUnprinted shell (answers.Changes changes added) fault = IsPrintFault shell (new_values_in changes) fault
 IsUnprinted shell (answers.Name subcommand) fault = fault ≡ prints.OutOfMemory
 IsUnprinted shell (answers.Truth b) fault = fault ≡ prints.OutOfMemory
 
 -- the status of an answer
 abbrev pub status_in : code.Answer → ℕ
-status_in (answers.Changes changes) = 0
+status_in (answers.Changes changes added) = 0
 status_in (answers.Name subcommand) = 0
 status_in (answers.Truth true) = 0
 status_in (answers.Truth false) = 1
+
+-- the directories that are searched from then on
+abbrev pub added_in : code.Answer → List Text
+added_in (answers.Changes changes added) = texts_in added
+added_in (answers.Name subcommand) = []
+added_in (answers.Truth b) = []

@@ -6,8 +6,13 @@ use subcommands::Subcommand;
 /// What a command answers.
 #[derive(Drop)]
 pub(crate) enum Answer {
-    /// The changes that the shell is to make.
-    Changes(Vec<Change>),
+    /// The shell is to change its environment.
+    Changes {
+        /// The changes that it is to make.
+        changes: Vec<Change>,
+        /// The directories that are searched from then on, each as often as it was named.
+        added: Vec<String>,
+    },
     /// A subcommand, whose name is printed.
     Name(Subcommand),
     /// Yes or no.

@@ -10,7 +10,6 @@ use crate::answer::Answer;
 use crate::edits::{answer_of_unuse, answer_of_use};
 use crate::fault::FunctionFault;
 use crate::loaded::answer_of_loaded;
-use crate::notice::DirectoryNotice;
 use envvars::Env;
 use shelltext::Shell;
 use std::alloc::Global;
@@ -44,19 +43,18 @@ fn answer_of_word<'a>(words: &'a [String]) -> Result<Answer, FunctionFault<'a>>
 }
 
 /// What a subcommand with these words answers.
-fn answer_by<'a, N: DirectoryNotice>(
+fn answer_by<'a>(
     alloc: Global,
     subcommand: Subcommand,
     words: &'a [String],
     env: &Env,
     working: Option<&str>,
-    notice: &mut N,
 ) -> Result<Answer, FunctionFault<'a>>
     ensures { Answers result (spec.answer_by (option_map (λ w. w.now) working.entry) env.now subcommand
         (map string_bytes words.entry.now)) }
 {
     match subcommand {
-        Subcommand::Use => answer_of_use(alloc, words, env, working, notice),
+        Subcommand::Use => answer_of_use(alloc, words, env, working),
         Subcommand::Unuse => answer_of_unuse(alloc, words, env, working),
         Subcommand::IsLoaded => answer_of_loaded(alloc, words, env),
         other => Err(FunctionFault::NotHere(other)),
@@ -64,12 +62,11 @@ fn answer_by<'a, N: DirectoryNotice>(
 }
 
 /// What the words of a command answer; the first is the subcommand, or `subcommand` itself.
-fn answer_to<'a, N: DirectoryNotice>(
+fn answer_to<'a>(
     alloc: Global,
     words: &'a [String],
     env: &Env,
     working: Option<&str>,
-    notice: &mut N,
 ) -> Result<Answer, FunctionFault<'a>>
     ensures { Answers result
         (spec.answer_to (option_map (λ w. w.now) working.entry) env.now (map string_bytes words.entry.now)) }
@@ -81,16 +78,15 @@ fn answer_to<'a, N: DirectoryNotice>(
         return answer_of_word(names);
     }
     let subcommand = meaning_of(word.as_str())?;
-    answer_by(alloc, subcommand, names, env, working, notice)
+    answer_by(alloc, subcommand, names, env, working)
 }
 
 /// What a command with these arguments answers, for the shell that the first of them names.
-pub(crate) fn answer_of<'a, N: DirectoryNotice>(
+pub(crate) fn answer_of<'a>(
     alloc: Global,
     args: &'a [String],
     env: &Env,
     working: Option<&str>,
-    notice: &mut N,
 ) -> Result<(Shell, Answer), FunctionFault<'a>>
     ensures { AnswersInShell result
         (spec.answer_of (option_map (λ w. w.now) working.entry) env.now (map string_bytes args.entry.now)) }
@@ -101,5 +97,5 @@ pub(crate) fn answer_of<'a, N: DirectoryNotice>(
     let Some(shell) = Shell::named(word.as_str()) else {
         return Err(FunctionFault::UnknownShell(word.as_str()));
     };
-    Ok((shell, answer_to(alloc, words, env, working, notice)?))
+    Ok((shell, answer_to(alloc, words, env, working)?))
 }

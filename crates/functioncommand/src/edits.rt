@@ -6,27 +6,18 @@ ghost use Rattle.functioncommand.specs.Views.{Answers};
 
 use crate::answer::Answer;
 use crate::fault::FunctionFault;
-use crate::notice::DirectoryNotice;
 use crate::options::{words_to_unuse, words_to_use};
 use envpaths::End;
 use envvars::{Env, WorkingCopy};
 use modulepath::{directories_to_unuse, directories_to_use, unuse_directories, use_directories};
 use std::alloc::Global;
 
-/// Tells of each directory that is added.
-fn tell<N: DirectoryNotice>(notice: &mut N, paths: &[String]) {
-    for path in paths {
-        notice.added(path.as_str());
-    }
-}
-
 /// What `use` with these words answers.
-pub(crate) fn answer_of_use<'a, N: DirectoryNotice>(
+pub(crate) fn answer_of_use<'a>(
     alloc: Global,
     words: &'a [String],
     env: &Env,
     working: Option<&str>,
-    notice: &mut N,
 ) -> Result<Answer, FunctionFault<'a>>
     ensures { Answers result
         (spec.used (option_map (λ w. w.now) working.entry) env.now (map string_bytes words.entry.now)) }
@@ -35,8 +26,11 @@ pub(crate) fn answer_of_use<'a, N: DirectoryNotice>(
     let paths = directories_to_use(alloc, working, words)?;
     let mut copy = WorkingCopy::over(env);
     use_directories(alloc, &mut copy, working, end, paths.as_slice())?;
-    tell(notice, paths.as_slice());
-    Ok(Answer::Changes(copy.into_changes()?))
+    let changes = copy.into_changes()?;
+    Ok(Answer::Changes {
+        changes,
+        added: paths,
+    })
 }
 
 /// What `unuse` with these words answers.
@@ -53,5 +47,9 @@ pub(crate) fn answer_of_unuse<'a>(
     let paths = directories_to_unuse(alloc, working, words)?;
     let mut copy = WorkingCopy::over(env);
     unuse_directories(alloc, &mut copy, working, paths.as_slice())?;
-    Ok(Answer::Changes(copy.into_changes()?))
+    let changes = copy.into_changes()?;
+    Ok(Answer::Changes {
+        changes,
+        added: Vec::new(alloc),
+    })
 }

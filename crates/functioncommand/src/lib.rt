@@ -1,5 +1,5 @@
 //! A command of the function `module`: its words in, the text for a shell or a status out (module(1)).
-//! Takes memory; reads the environment and the working directory, and tells the notice, that it is given.
+//! Takes memory; reads the environment and the working directory that it is given.
 #![tactic(auto)]
 
 mod answer;
@@ -7,14 +7,12 @@ mod command;
 mod edits;
 mod fault;
 mod loaded;
-mod notice;
 mod options;
 mod output;
 mod output_fault;
 mod site;
 
 pub use fault::FunctionFault;
-pub use notice::DirectoryNotice;
 pub use output::{FunctionOutput, function_output};
 pub use output_fault::OutputFault;
 pub use site::site_directories;

@@ -1,13 +1,13 @@
 //! What a command of the function prints, and its status.
 ghost use Rattle.std.specs.Prelude.{◌≡◌, map, IfOk, IfErr, string_bytes};
 ghost use Rattle.std.specs.Option.{option_map};
+ghost use Rattle.envvars.specs.Texts.{texts_in};
 ghost use Rattle.functioncommand.specs.Answers.{answer_of};
 ghost use Rattle.functioncommand.specs.Outputs.{GivesOutput, name_line};
-ghost use Rattle.functioncommand.specs.Views.{IsPrinted, IsUnprinted, status_in};
+ghost use Rattle.functioncommand.specs.Views.{IsPrinted, IsUnprinted, added_in, status_in};
 
 use crate::answer::Answer;
 use crate::command::answer_of;
-use crate::notice::DirectoryNotice;
 use crate::output_fault::OutputFault;
 use envvars::Env;
 use shelltext::{PrintFault, Shell, print_changes};
@@ -21,6 +21,8 @@ pub struct FunctionOutput {
     pub text: String,
     /// The status: 1 for no, and else 0.
     pub status: u8,
+    /// The absolute paths of the directories that `use` adds, in the order of its words, each as often as it is named.
+    pub added: Vec<String>,
 }
 
 /// The line with the name of a subcommand.
@@ -38,7 +40,7 @@ fn text_of(alloc: Global, shell: Shell, answer: &Answer) -> Result<String, Print
     ensures fault { IfErr result (IsUnprinted shell answer.now) }
 {
     match answer {
-        Answer::Changes(changes) => print_changes(alloc, shell, changes.as_slice()),
+        Answer::Changes { changes, .. } => print_changes(alloc, shell, changes.as_slice()),
         Answer::Name(subcommand) => Ok(name_line(alloc, *subcommand)?),
         Answer::Truth(_) => Ok(String::new(alloc)),
     }
@@ -50,7 +52,18 @@ fn status_of(answer: &Answer) -> u8
 {
     match answer {
         Answer::Truth(false) => 1,
-        Answer::Changes(_) | Answer::Name(_) | Answer::Truth(true) => 0,
+        Answer::Changes { .. } | Answer::Name(_) | Answer::Truth(true) => 0,
+    }
+}
+
+/// The directories that are searched from then on.
+fn added_by(alloc: Global, answer: Answer) -> Vec<String>
+    ensures { texts_in result ≡ added_in answer }
+{
+    match answer {
+        Answer::Changes { added, .. } => added,
+        Answer::Name(_) => Vec::new(alloc),
+        Answer::Truth(_) => Vec::new(alloc),
     }
 }
 
@@ -58,24 +71,28 @@ fn status_of(answer: &Answer) -> u8
 /// the command, and relative directories are taken from the working directory.
 ///
 /// `use` and `unuse` print the text that makes of the environment, as the shell reads it, exactly the one in which
-/// MODULEPATH is the new list, and nothing else differs. `is-loaded` prints nothing, and its status says whether one of
-/// the names means a loaded module, or without names whether there is one. `subcommand` prints the name of the
-/// subcommand that its word means.
+/// MODULEPATH is the new list, and nothing else differs; of `use` the directories are named besides. `is-loaded` prints
+/// nothing, and its status says whether one of the names means a loaded module, or without names whether there is one.
+/// `subcommand` prints the name of the subcommand that its word means.
 ///
 /// The errors: `Refused`, the words name no shell or no subcommand of this program, or don't fit it, the loaded modules
 /// are inconsistent, or memory ran out; `Unprinted`, the shell has no text for the changes, or memory ran out.
-pub fn function_output<'a, N: DirectoryNotice>(
+pub fn function_output<'a>(
     alloc: Global,
     args: &'a [String],
     env: &Env,
     working: Option<&str>,
-    notice: &mut N,
 ) -> Result<FunctionOutput, OutputFault<'a>>
     ensures { GivesOutput result
         (answer_of (option_map (λ w. w.now) working.entry) env.now (map string_bytes args.entry.now)) }
 {
-    let (shell, answer) = answer_of(alloc, args, env, working, notice)?;
+    let (shell, answer) = answer_of(alloc, args, env, working)?;
     let text = text_of(alloc, shell, &answer)?;
     let status = status_of(&answer);
-    Ok(FunctionOutput { text, status })
+    let added = added_by(alloc, answer);
+    Ok(FunctionOutput {
+        text,
+        status,
+        added,
+    })
 }

@@ -28,7 +28,7 @@ use functioncommand::{FunctionOutput, function_output};
 use given::Given;
 use listing_commands::do_listing_command;
 use message::{Message, RefusalKind};
-use missing::MissingDirectories;
+use missing::tell_missing;
 use own_commands::do_own_command;
 use program::{Program, called_as};
 use shown_modules::do_module_report;
@@ -76,12 +76,11 @@ fn run_module(rt: &HostRuntime) -> ExitCode {
         Some(place) => Some(place.as_str()),
         None => None,
     };
-    let mut missing = MissingDirectories::new(rt);
     let arguments = given.arguments.as_slice();
-    match function_output(rt.alloc(), arguments, &given.env, working, &mut missing) {
+    match function_output(rt.alloc(), arguments, &given.env, working) {
         Ok(output) => {
             // A command that is refused says nothing but its reason.
-            missing.tell();
+            tell_missing(rt, output.added.as_slice());
             print(rt, &output)
         }
         Err(fault) => refused(rt, fault.message()),

@@ -10,7 +10,7 @@ pub returns-clause-listed : goal.returns-clause-listed
 returns-clause-listed g c =
     let folders = c.in_ok-folders.folders in (
       folders_view folders,
-      c.in_ok-folders.ensures,
+      c.in_ok-folders.ensures.answer,
       λ e b q.
           c.in_ok-add_others.ensures.added e b q
           ∙ ap (λ (t : Bool). t || is_in_some e (option_map string_bytes folders.others) q)

@@ -11,24 +11,24 @@ use Rattle.collectionfiles.specs.Found as found
 use Rattle.collectionfiles.proofs.FoundLemmas.{kept_is, no_text_kept, wrong_kept}
 use Rattle.collectionfiles.proofs.read.kept_in.Goals as goal
 
-pub returns-in_default : goal.returns-in_default
-returns-in_default c =
+pub returns-in_default-clause-answer : goal.returns-in_default-clause-answer
+returns-in_default-clause-answer c =
     no_text_kept (reason_of c.no_collection.result) c.args.path.now c.args.bytes.items
-    (λ u. absurd (false≢true (c.in_default.ensures.succeeds u))) c.no_collection.ensures
+    (λ u. absurd (false≢true (c.in_default.ensures.succeeds u))) c.no_collection.ensures.reason
 
-pub returns-in-Ok-read_collection : goal.returns-in-Ok-read_collection
-returns-in-Ok-read_collection c =
+pub returns-in-Ok-read_collection-clause-answer : goal.returns-in-Ok-read_collection-clause-answer
+returns-in-Ok-read_collection-clause-answer c =
     let text = string_bytes c.in-Ok.text in
     let same : text ≡ c.args.bytes.items = ap (λ v. vec_items v) c.in-Ok.ensures.ok in
     subst (λ (t : Text). found.kept_in c.args.path.now (Ok t) ≡ Ok (kept_view c.in-Ok-read_collection.collection)) same
     (kept_is c.args.path.now text (kept_view c.in-Ok-read_collection.collection)
     (is_utf8-from_IsUtf8 text (IsUtf8-string_bytes c.in-Ok.text)) (ap read (sym c.as_str.ensures.value) ∙ c.in-Ok-read_collection.ensures))
 
-pub returns : goal.returns
-returns c =
+pub returns-clause-answer : goal.returns-clause-answer
+returns-clause-answer c =
     let text = string_bytes c.in-Ok.text in
     let same : text ≡ c.args.bytes.items = ap (λ v. vec_items v) c.in-Ok.ensures.ok in
     let wrong = subst (λ (t : Text). IfSome (views.reason_of c.in-Err.fault) (λ r. read t ≡ Err r)) c.as_str.ensures.value c.in-Err.ensures in
     subst (λ (t : Text). IfSome (reason_of c.no_collection-in-Err.result) (λ r. found.kept_in c.args.path.now (Ok t) ≡ Err r)) same
     (wrong_kept (reason_of c.no_collection-in-Err.result) (views.reason_of c.in-Err.fault) c.args.path.now text
-    (is_utf8-from_IsUtf8 text (IsUtf8-string_bytes c.in-Ok.text)) wrong c.no_collection-in-Err.ensures)
+    (is_utf8-from_IsUtf8 text (IsUtf8-string_bytes c.in-Ok.text)) wrong c.no_collection-in-Err.ensures.reason)

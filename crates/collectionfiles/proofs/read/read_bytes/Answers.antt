@@ -13,4 +13,4 @@ returns-in-Ok-clause-answer g c = λ e b.
     let leads = c.in_ok-end.ensures.answer e (c.read.ensures.narrows e b) in
     subst (λ (o : Option Text). Gives reason_of vec_items c.short.result (short c.args.path.now o))
     (sym (bytes_led e c.args.path.now (string_bytes c.in_ok-end.end) r.0 leads (ap e (sym c.as_str.ensures.value) ∙ r.1)))
-    (c.short.ensures r.0 r.2)
+    (c.short.ensures.answer r.0 r.2)

@@ -11,14 +11,10 @@ returns-in-Ok g c = λ new b.
     let ready = c.in-Ok.ensures.ready in (
       x.0,
       x.1,
-      (
-        x.2.0,
-        x.2.1,
-        ended c.args.env.now c.args.name.now (string_bytes p.path) ready.0 ready.1 ready.2 (string_bytes p.text) (kept_view c.args.collection.now) ready.3
-            (is_utf8-from_IsUtf8 (string_bytes p.text) (IsUtf8-string_bytes p.text)) c.write_prepared.result x.2.0 new x.2.2,
-      ),
+      ended c.args.env.now c.args.name.now (string_bytes p.path) ready.0 ready.1 ready.2 c.args.number (string_bytes p.folder) ready.4 (kept_view c.args.collection.now) (string_bytes p.text)
+          ready.3 (is_utf8-from_IsUtf8 (string_bytes p.text) (IsUtf8-string_bytes p.text)) c.write_prepared.result x.0 new x.2,
     )
 
 pub returns-in-Err : goal.returns-in-Err
 returns-in-Err g c = λ new b.
-    (new, b, (new, none_added new, refused c.args.env.now c.args.name.now c.in-Err.fault new c.in-Err.ensures.fault))
+    (new, b, (new, none_added new, refused c.args.env.now c.args.name.now c.args.number (kept_view c.args.collection.now) c.in-Err.fault new c.in-Err.ensures.fault c.in-Err.ensures.failure))

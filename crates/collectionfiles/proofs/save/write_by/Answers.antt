@@ -1,8 +1,11 @@
-use Rattle.std.proofs.Common.{subst, string_bytes}
+use Rattle.std.proofs.Common.{◌≡◌, refl, subst, sym, string_bytes}
+use Rattle.std.specs.Prelude.{IfSome, Option}
 use Rattle.envvars.specs.Texts.{Text}
 use Rattle.collectionfiles.specs.Entries.{file}
 use Rattle.collectionfiles.specs.Calls.{Puts}
+use Rattle.collectionfiles.specs.Failures.{Failure, failure_by}
 use Rattle.collectionfiles.specs.Saves.{Leaves, left_at}
+use Rattle.collectionfiles.specs.declared.unwritten.Unwritten.{Unwritten}
 use Rattle.collectionfiles.proofs.EndLemmas.{leaves_by}
 use Rattle.collectionfiles.proofs.save.write_by.Goals as goal
 
@@ -21,5 +24,7 @@ returns-in-Err g c = λ new b.
         c.fault_of.ensures.reason,
         leaves_by (string_bytes c.args.new) left c.fault_of.result x.0 new c.fault_of.ensures.left
             (subst (λ (t : Text). Leaves (left_at t left) x.0 new) c.as_str.ensures.value x.2),
+        subst (λ (o : Option Failure). IfSome o (λ f. (way : Unwritten) × (f ≡ failure_by way (string_bytes c.args.new) (string_bytes c.args.end)))) (sym c.fault_of.ensures.failure)
+            (left, refl),
       ),
     )

@@ -1,11 +1,19 @@
-use Rattle.std.proofs.Common.{map, ap, List, ◌∙◌}
+use Rattle.std.proofs.Common.{◌≡◌, map, ap, List, ◌∙◌, subst, Option}
+use Rattle.std.specs.Option.{option_map}
 use Rattle.tclscript.specs.Pieces.{between}
+use Rattle.tclscript.specs.View.{script_view}
+use Rattle.tclscript.specs.declared.piece.ByteRange.{ByteRange}
+use Rattle.tclscript.specs.declared.tree.Script.{Script}
+use Rattle.commandplaces.specs.Bodies.{piece_in, script_in}
 use Rattle.commandplaces.specs.Places.{place_view}
 use Rattle.commandplaces.specs.declared.commands.CommandPlace.{CommandPlace}
-use Rattle.failedcommands.proofs.CommandLemmas.{command_there}
+use Rattle.failedcommands.proofs.CommandLemmas.{command_there, script_there}
 use Rattle.failedcommands.proofs.failed_command.failed_in.Goals as goal
 
 pub returns-clause-there : goal.returns-clause-there
 returns-clause-there c =
-    command_there (between c.args.text.now c.args.part.begin c.args.part.end) c.args.part.begin c.args.part.end _ c.as_slice.result.now c.in-Ok.ensures
-    (ap (λ (l : List CommandPlace). map place_view l) c.as_slice.ensures.value ∙ c.in_ok-places.ensures _) c.failed_one.result c.failed_one.ensures.there
+    let source = between c.args.text.now c.args.part.begin c.args.part.end in
+    command_there source c.args.part.begin c.args.part.end (script_view (piece_in source) c.in-Some.script) c.as_slice.result.now
+    (script_there source (script_view (piece_in source) c.in-Some.script)
+    (subst (λ (o : Option (Script ByteRange)). option_map (script_view (piece_in source)) o ≡ script_in source) c.in-Some.is c.in_ok-script.ensures))
+    (ap (λ (l : List CommandPlace). map place_view l) c.as_slice.ensures.value ∙ c.in_ok-places.ensures (piece_in source)) c.failed_one.result c.failed_one.ensures.there

@@ -1,4 +1,4 @@
-use Rattle.std.proofs.Common.{ap, map, string_bytes, String}
+use Rattle.std.proofs.Common.{ap, refl, map, string_bytes, String}
 use Rattle.std.specs.declared.alloc.Global.{Global}
 use Rattle.std.specs.Option.{option_map}
 use Rattle.envvars.specs.Texts.{texts_in}
@@ -7,9 +7,9 @@ use Rattle.functioncommand.proofs.AnswerLemmas.{use_made}
 use Rattle.functioncommand.proofs.edits.answer_of_use.Goals as goal
 
 pub returns : goal.returns
-returns g c =
+returns c =
     use_made (option_map (λ w. w.now) c.args.working) c.args.env.now c.in_ok-end.end (map (λ (s : String Global). string_bytes s) c.args.words.now) (texts_of c.in_ok-end.words)
     (texts_in c.in_ok-paths.paths) (map (λ (s : String Global). string_bytes s) c.as_slice.result.now) c.over-copy.result.old c.over-copy.result.new
-    c.use_directories.new.env.old c.use_directories.new.env.new c.in_ok-into_changes.field-0 c.in_ok-use_directories.ensures.edits.0
+    c.use_directories.new.env.old c.use_directories.new.env.new c.in_ok-changes.changes c.in_ok-paths.paths c.in_ok-use_directories.ensures.edits.0
     c.in_ok-end.ensures c.in_ok-paths.ensures (ap (map (λ (s : String Global). string_bytes s)) c.as_slice.ensures.value) c.over-copy.ensures.new c.over-copy.ensures.old
-    c.in_ok-use_directories.ensures.edits.1 c.in_ok-use_directories.ensures.edits.2 c.in_ok-use_directories.ensures.base c.in_ok-into_changes.ensures.ok
+    c.in_ok-use_directories.ensures.edits.1 c.in_ok-use_directories.ensures.edits.2 c.in_ok-use_directories.ensures.base c.in_ok-changes.ensures.ok refl
