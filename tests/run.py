@@ -32,7 +32,6 @@ PROGRAMS = {
     "module": ("module_main", "module_main"),
     "cases_tcl": ("cases_tcl", "cases_tcl"),
     "cases_environment": ("cases_environment", "cases_environment"),
-    "cases_requests": ("cases_requests", "cases_requests"),
 }
 
 # What the suites take of Debian beside Python: a module, and its package.
