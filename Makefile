@@ -1,4 +1,4 @@
-# Builds, shows and tests the programs modulecmd, modcheck and module, which is modaudit and modport too.
+# Builds, shows and tests the programs modulecmd and module, which is modcheck, modaudit and modport too.
 #
 #   make build   proves the crates that the programs stand on, side by side, and leaves them in build/bin, linked
 #                statically by the system's compiler where it is there; JOBS=N says how many processors may be used
@@ -20,7 +20,7 @@ PREFIX ?= /opt/modulecmd
 DESTDIR ?=
 CRATE ?=
 ONLY ?=
-PROGRAMS = build/bin/modulecmd build/bin/modcheck build/bin/module
+PROGRAMS = build/bin/modulecmd build/bin/module
 
 .PHONY: build check deps install uninstall package demo test bench clean
 

@@ -96,7 +96,7 @@ class Tool:
 
 def installed(program, prefix):
     """The init file for bash of the product, laid out below a prefix. None where it can't be."""
-    names = ("modulecmd", "modcheck", "module")
+    names = ("modulecmd", "module")
     programs = [os.path.join(os.path.dirname(program), name) for name in names]
     words = ["sh", os.path.join(os.path.dirname(HERE), "tools", "product.sh"), "install", "", prefix, *programs]
     done = subprocess.run(words, stdin=subprocess.DEVNULL, capture_output=True, check=False)

@@ -29,7 +29,7 @@ if test "$action" = uninstall; then
     exec sh "$here/tools/product.sh" uninstall "${DESTDIR-}" "$prefix"
 fi
 bin=$here/bin
-sh "$here/tools/product.sh" install "${DESTDIR-}" "$prefix" "$bin/modulecmd" "$bin/modcheck" "$bin/module"
+sh "$here/tools/product.sh" install "${DESTDIR-}" "$prefix" "$bin/modulecmd" "$bin/module"
 
 # Prints the commands that load a module and unload it again, for an init file: `works` is printed where all is well.
 commands() {

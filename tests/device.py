@@ -158,6 +158,12 @@ def test_an_unload_of_what_is_gone(folder, refuses_each_failure):
     refuses_each_failure(["sh", "unload", "gone"], env, ERRORS)
 
 
+def test_an_unload_beside_another_module_of_its_name(folder, refuses_each_failure):
+    """Each call that fails is at the recorded path."""
+    env = {**three_directories(folder), b"LOADEDMODULES": b"ver/1.9", b"_LMFILES_": folder.at("ver/1.9"), b"V": b"1.9"}
+    refuses_each_failure(["sh", "unload", "ver"], {**env, b"MODULEPATH": os.path.join(folder.path, b"last")})
+
+
 def test_an_unload_of_what_is_no_modulefile_any_more(folder, refuses_each_failure):
     folder.file("plain/1", "setenv A 1\n")
     refuses_each_failure(["sh", "unload", "plain"], loaded(folder, "plain/1"))

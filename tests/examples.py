@@ -15,7 +15,7 @@ import itertools
 import os
 import re
 
-from tests.harness import examples
+from tests.harness import HERE, examples
 
 MARKS = {"n": "\n", "t": "\t", "r": "\r", "v": "\v", "f": "\f", "s": " ", "z": "\0"}
 ESCAPE = re.compile(r"\\(?:x([0-9a-f]{2})|(.))")
@@ -23,6 +23,10 @@ SIGN = re.compile("[␀-␟␤]")
 ALTERNATIVES = re.compile(r"\{([^{}]*,[^{}]*)\}")
 FOLDER = re.compile(rb"(?<![A-Za-z0-9_])/([mno])(?=[/:'&\n]|$)")
 COOKIE = b"#%Module\n"
+
+# The rows of the table in REFUSALS.md, and what stands in their texts for a name or a number.
+ROW = re.compile(r"^\| `\w+`[^|]*\| ([0-9, ]+) \| `([^`]*)` \|", re.MULTILINE)
+MARK = re.compile(r"\b(N|X|MESSAGE|LINE)\b")
 
 
 def character(escape):
@@ -105,3 +109,19 @@ def first_modules(name):
     for line in filter(is_put, lines):
         kind, path, text = line.split(" ", 2)
         yield path, f"{meant(text)}\n" if kind == "module" else meant(text).removeprefix(COOKIE.decode())
+
+
+def refusals():
+    """The numbers of refusals, each with the texts that it may have."""
+    with open(os.path.join(os.path.dirname(HERE), "docs", "REFUSALS.md"), encoding="utf-8") as file:
+        rows = ROW.findall(file.read())
+    texts = [(numbers, re.compile(MARK.sub(".*", re.escape(text)))) for numbers, text in rows]
+    return [(int(number), text) for numbers, text in texts for number in numbers.split(",")]
+
+
+REFUSALS = refusals()
+
+
+def is_refusal(number, text):
+    """Whether REFUSALS.md has such a text for the number."""
+    return any(one == number and form.fullmatch(text) for one, form in REFUSALS)

@@ -1,6 +1,8 @@
 /* For tests: a system of whose reads one fails, the FAIL_AT-th, or each from the FAIL_FROM-th on: by errno FAIL_WITH, or
  * EIO. With FAIL_SEEN only those are counted that look at, open or read what was looked at before, and was there.
- * The path of each that is counted is a line of the file CALLS_TO. Nothing is at the path ABSENT, whoever asks.
+ * The path of each that is counted is a line of the file CALLS_TO, and that of each file that is read to its end one of
+ * the file ENDS_TO. Nothing is at the path ABSENT, whoever asks. A name in a directory is listed as another that isn't
+ * longer, where LISTED_AS is NAME=OTHER.
  * And one whose file changes meanwhile: the OTHER_AT-th read that gives the cookie of a modulefile gives another. And
  * one that lists the environment of a process otherwise: the file ENVIRON_IN is opened in place of its list. */
 #define _GNU_SOURCE
@@ -67,9 +69,9 @@ static const char *path_of(int file)
     return file >= 0 && file < 1024 && opened[file] ? opened[file] : "";
 }
 
-static void write_down(const char *path)
+static void write_down(const char *variable, const char *path)
 {
-    const char *list = getenv("CALLS_TO");
+    const char *list = getenv(variable);
     FILE *file = list ? fopen(list, "a") : NULL;
     if (!file)
         return;
@@ -102,7 +104,7 @@ static int fails(const char *path, int is_open)
     if (only_seen && !is_open && !was_seen(path))
         return 0;
     asked += 1;
-    write_down(path);
+    write_down("CALLS_TO", path);
     if (asked != one && (all == 0 || asked < all))
         return 0;
     errno = with ? (int)with : EIO;
@@ -119,6 +121,22 @@ static void change(char *bytes, ssize_t count)
     begun += 1;
     if (begun == number_in("OTHER_AT"))
         bytes[0] = ' ';
+}
+
+/* Among these entries of a directory each that is to be listed otherwise is. */
+static void rename_listed(char *entries, ssize_t size)
+{
+    const char *name = getenv("LISTED_AS");
+    const char *other = name ? strchr(name, '=') : NULL;
+    if (!other)
+        return;
+    size_t length = other - name;
+    for (ssize_t at = 0; at < size;) {
+        struct dirent64 *entry = (struct dirent64 *)(entries + at);
+        if (strlen(entry->d_name) == length && strncmp(entry->d_name, name, length) == 0)
+            strcpy(entry->d_name, other + 1);
+        at += entry->d_reclen;
+    }
 }
 
 static const char *opened_for(const char *path)
@@ -164,6 +182,8 @@ ssize_t read(int file, void *to, size_t count)
     if (fails(path_of(file), 1))
         return -1;
     ssize_t given = real(file, to, count);
+    if (given == 0)
+        write_down("ENDS_TO", path_of(file));
     change(to, given);
     return given;
 }
@@ -175,7 +195,11 @@ ssize_t getdents64(int dir, void *to, size_t count)
         real = dlsym(RTLD_NEXT, "getdents64");
     /* So the system ends the list of a directory that was removed. */
     int is_end = number_in("FAIL_SEEN") && number_in("FAIL_WITH") == ENOENT;
-    return !is_end && fails(path_of(dir), 1) ? -1 : real(dir, to, count);
+    if (!is_end && fails(path_of(dir), 1))
+        return -1;
+    ssize_t given = real(dir, to, count);
+    rename_listed(to, given);
+    return given;
 }
 
 int statx(int dir, const char *restrict path, int flags, unsigned int mask, struct statx *restrict to)

@@ -11,7 +11,7 @@ import time
 
 import pytest
 
-from tests.harness import HERE, refuses_each, same, true
+from tests.harness import HERE, MOST_RUNS, refuses_each, same, true
 from tests.worked import FILES, real, write
 
 TOP = os.path.dirname(HERE)
@@ -512,6 +512,143 @@ def test_memory_that_is_refused(folder, shim):
 
 def test_reads_that_fail(folder, shim):
     answers_or_loses(Check(folder, PATH="/usr/bin:/bin"), shim("failing_calls"), b"Reading failed")
+
+
+# Sessions of which each read fails, and each growth of memory is refused: the variables, the lines, what is said of them
+# with sound reads and ample memory, and the text by the numbers of the requests that are accepted.
+VERSIONS = {f"/n/ver/{version}": f"setenv V {version}\n" for version in ("1.9", "1.10", "1.10-rc")}
+CHOSEN = {"/n/ver/.version": 'set ModulesVersion "1.9"\n'}
+OTHER = {"/o/ver/1.9": "setenv V other\n"}
+NOT_FOUND = "1 refused: Unable to locate a modulefile for 'nope'"
+RECORDED = {"V": "1.9", "LOADEDMODULES": "ver/1.9:gone/1", "_LMFILES_": "/n/ver/1.9:/n/gone/1"}
+
+
+def text_of(**values):
+    """The text for sh that sets these variables, and unsets those without a value."""
+    lines = (f"{name}='{value}'; export {name};\n" if value else f"unset {name};\n" for name, value in values.items())
+    return "".join(lines)
+
+
+def loads_ver(version, file):
+    return text_of(LOADEDMODULES=f"ver/{version}", V=version, _LMFILES_=file)
+
+
+AFTER_ADDING = {
+    (1,): text_of(LOADEDMODULES="mp/1", MODULEPATH="/n:/m:/o", _LMFILES_="/m/mp/1"),
+    (2,): text_of(LOADEDMODULES="ver/1.9", V="other", _LMFILES_="/o/ver/1.9"),
+    (1, 2): text_of(LOADEDMODULES="mp/1:ver/1.9", MODULEPATH="/n:/m:/o", V="1.9", _LMFILES_="/m/mp/1:/n/ver/1.9"),
+}
+LOSSES = {
+    "a load of the greatest version": (
+        {"modulepath": "/n", "files": VERSIONS},
+        "load ver\n",
+        ["1 accepted", "ver/1.10-rc: Plain"],
+        {(1,): loads_ver("1.10-rc", "/n/ver/1.10-rc")},
+    ),
+    "a load of a default": (
+        {"modulepath": "/n", "files": {**VERSIONS, **CHOSEN}},
+        "load ver\n",
+        ["1 accepted", "ver/1.9: Plain"],
+        {(1,): loads_ver("1.9", "/n/ver/1.9")},
+    ),
+    "avail": ({"modulepath": "/n", "files": {**VERSIONS, **CHOSEN}}, "avail\n", ["1 accepted"], {(1,): ""}),
+    "a load from the first of two directories": (
+        {"modulepath": "/n:/o", "files": {**VERSIONS, **CHOSEN, **OTHER}},
+        "load ver/1.9\n",
+        ["1 accepted", "ver/1.9: Plain"],
+        {(1,): loads_ver("1.9", "/n/ver/1.9")},
+    ),
+    "a name that isn't there": ({"modulepath": "/n:/o", "files": {**VERSIONS, **OTHER}}, "load nope\n", [NOT_FOUND], {}),
+    "an unload": (
+        {"modulepath": "/o", "files": {**VERSIONS, **OTHER}, **RECORDED},
+        "unload ver\n",
+        ["1 accepted"],
+        {(1,): text_of(LOADEDMODULES="gone/1", V=None, _LMFILES_="/n/gone/1")},
+    ),
+    "an unload of what is gone": (
+        {"modulepath": "/o", "files": {**VERSIONS, **OTHER}, **RECORDED},
+        "unload gone\n",
+        ["1 refused: No file at '/n/gone/1'"],
+        {},
+    ),
+    # The verdict is on another file than the one that was loaded, and reads it.
+    "a verdict": (
+        {"modulepath": "/m:/o", "files": {**VERSIONS, **OTHER}},
+        "load mp\nload ver/1.9\n",
+        ["1 accepted", "2 accepted", "mp/1: Plain", "ver/1.9: Plain"],
+        AFTER_ADDING,
+    ),
+    "a verdict on what isn't there": (
+        {"modulepath": "/m:/o", "files": VERSIONS},
+        "load mp\nload ver/1.9\n",
+        ["1 accepted", "2 accepted", "mp/1: Plain", "ver/1.9: Unable to locate a modulefile for 'ver/1.9'"],
+        AFTER_ADDING,
+    ),
+}
+
+
+class Losses:
+    """A session, with what is said of it without a loss, and what else may be said."""
+
+    def __init__(self, folder, given, sound, texts, **how):
+        self.check = Check(folder, **how)
+        self.given = given
+        self.sound = sound
+        self.texts = {(): "", **texts}
+        self.met = set()
+
+    def run(self, asked):
+        done = self.check.folder.run("sh", env={**self.check.env, **asked}, given=self.given.encode())
+        return done.stdout, done.stderr, done.returncode
+
+    def ended(self, lines):
+        """What is written where this is said: the text of the requests that were accepted, and the status."""
+        accepted = tuple(int(line.split(" ")[0]) for line in lines if line.endswith(" accepted"))
+        text = real(self.check.folder, self.texts.get(accepted, "no text"))
+        return text, real(self.check.folder, "".join(f"{line}\n" for line in lines)), int(len(accepted) < self.requests())
+
+    def requests(self):
+        return self.given.count("\n")
+
+    def is_lost(self, said, done):
+        """Whether the whole call, or a request or a verdict, is lost for this reason; the others are as without it."""
+        out, err, status = done
+        if (out, err, status) == (b"", f"ERROR: {said}\n".encode(), 1):
+            return True
+        place = os.fsdecode(self.check.folder.path)
+        lines = err.decode().replace(place, "").splitlines()
+        lost = [line for line in lines if line.endswith(f": {said}")]
+        others = [*self.sound, "2 refused: Unable to locate a modulefile for 'ver/1.9'"]
+        self.met.update(lost)
+        return bool(lost) and all(line in lost or line in others for line in lines) and done == self.ended(lines)
+
+
+@pytest.mark.parametrize("library, said", [("failing_calls", "Reading failed"), ("failing_malloc", "Out of memory")])
+@pytest.mark.parametrize("name", LOSSES)
+def test_a_loss_in(name, library, said, folder, shim):
+    how, given, sound, texts = LOSSES[name]
+    losses = Losses(folder, given, sound, texts, **how)
+    same(losses.run({}), losses.ended(sound), "what is said without a loss")
+    refuses_each(shim(library), losses.run, lambda done: losses.is_lost(said, done), name)
+    wanted = {f"{number} refused: {said}" for number in range(1, losses.requests() + 1)}
+    wanted |= {f"ver/1.9: {said}"} if "verdict" in name else set()
+    same(wanted - losses.met, set(), f"which losses {losses.met} are not among")
+
+
+def test_a_request_alone_whose_memory_is_refused(folder, shim):
+    """The requests before it and after it are done."""
+    check = Check(folder, PATH="/opt/x/bin:/bin")
+    lines = b"1 accepted\n2 refused: Out of memory\n3 accepted\nx/1: Plain\nz/1: Plain\n"
+    text = text_of(LOADEDMODULES="x/1:z/1", P="/s", _LMFILES_="/m/x/1:/m/z/1", __MODULES_SHARE_PATH="/opt/x/bin:2")
+    library = shim("failing_malloc")
+
+    def does(number):
+        env = {**check.env, b"LD_PRELOAD": library, b"FAIL_AT": b"%d" % number}
+        return folder.run("sh", env=env, given=b"load x\nload y\nload z\n")
+
+    done = next((it for it in map(does, range(1, MOST_RUNS)) if it.stderr == lines), None)
+    true(done, "no growth is one of the second request alone")
+    same((done.stdout, done.returncode), (real(folder, text), 1), "the text and the status")
 
 
 # What users are told.

@@ -15,41 +15,19 @@ examples.py says how that text is written, and a newline in a message and in a v
 """
 
 import copy
-import os
 import re
 import subprocess
 
 import pytest
 
-from tests.examples import meant, written
-from tests.harness import HERE, SECONDS, examples, same, true
+from tests.examples import is_refusal, meant, written
+from tests.harness import SECONDS, examples, same, true
 from tests.plain import FAMILIES, printed
 from tests.worked import real, write
 
 OTHER = "other/1"
 REFUSAL = re.compile(r"(\d+) (.*)")
 CHANGE = re.compile(r"(\w+)(?:=(.*)| is unset)")
-
-# The rows of the table in REFUSALS.md, and what stands in their texts for a name or a number.
-ROW = re.compile(r"^\| `\w+`[^|]*\| ([0-9, ]+) \| `([^`]*)` \|", re.MULTILINE)
-MARK = re.compile(r"\b(N|X|MESSAGE|LINE)\b")
-
-
-def refusals():
-    """The numbers of refusals, each with the texts that it may have."""
-    with open(os.path.join(os.path.dirname(HERE), "docs", "REFUSALS.md"), encoding="utf-8") as file:
-        rows = ROW.findall(file.read())
-    texts = [(numbers, re.compile(MARK.sub(".*", re.escape(text)))) for numbers, text in rows]
-    return [(int(number), text) for numbers, text in texts for number in numbers.split(",")]
-
-
-REFUSALS = refusals()
-
-
-def is_refusal(number, text):
-    """Whether REFUSALS.md has such a text for the number."""
-    return any(one == number and form.fullmatch(text) for one, form in REFUSALS)
-
 
 # The answers to an accepted command, each with the verdicts that the file may have; it has none where its load is
 # refused.

@@ -1,9 +1,8 @@
 """The number of the refusal where memory is refused within a request, and nothing is changed: 31 for the request itself,
 41 where files are searched for or read, 11 where they are evaluated.
 
-Each growth of memory is refused in turn. Until the request is asked for, and after it, the program cases_requests itself
-may be refused. It asks each request of `run` and of a session too. A growth is refused within one of the three, so that they
-answer otherwise then is passed over; with ample memory it is not.
+Each growth of memory is refused in turn. Until the request is asked for, and after it, the program cases_environment itself
+may be refused.
 """
 
 import subprocess
@@ -14,7 +13,6 @@ from tests.harness import SECONDS, refuses_each, same
 
 REQUEST, SEARCH, EVALUATION = (f"{number} Out of memory" for number in (31, 41, 11))
 NUMBERS = {REQUEST, SEARCH, EVALUATION}
-OTHERS = ("run answers otherwise", "session answers otherwise")
 
 GCC = "module /m/gcc/9 setenv GCC 9\n"
 MPI = "module /m/mpi/1 prereq gcc\\npushenv CC mpicc\n"
@@ -22,7 +20,7 @@ K = "module /m/k/1 catch {error x} m\\nputs stderr $m\\nsetenv M [string length 
 N = "module /m/n/1 conflict k\\nappend-path -d {;} P /a\n"
 D = """module /m/d/1 module-whatis A {B c}\\nforeach v {a b} {prepend-path P /$v}
 module /m/d/.modulerc module-version d/1 default
-dir /m/d 1 .modulerc
+folder /m/d 1 .modulerc
 """
 START = "from MODULEPATH=/m CC=cc P=/b\n"
 BOTH = (
@@ -39,7 +37,7 @@ REQUESTS = (
     (MPI + K + BOTH, "switch mpi k/1"),
     (GCC + MPI + BOTH, "purge"),
     (BOTH, "list"),
-    (D + "dir /m d\n" + START, "avail"),
+    (D + "folder /m d\n" + START, "avail"),
     (D + START, "show d"),
     (D + START, "whatis d/1"),
 )
@@ -47,17 +45,12 @@ REQUESTS = (
 
 def answers(program, there, words, asked):
     """What the request answers and what the variables are then, None where the program had no memory to say so."""
-    text = f"requests\n{there}ask {words}\nvars\n"
+    text = f"requests\n{there}ask sh {words}\nvars\n"
     done = subprocess.run(
         [program], input=text.encode(), env=asked, capture_output=True, timeout=SECONDS, check=False
     )
-    found = done.stdout.decode().split("> ")
-    answer = next((part for part in found if part.startswith(f"ask {words}\n")), None)
-    left = next((part for part in found if part.startswith("vars\n")), None)
-    if any("fault: " in part for part in found) or left is None:
-        return None
-    lines = [line for line in answer.split("\n")[1:] if not asked or line not in OTHERS]
-    return "\n".join(lines).strip(), left
+    answer, shown, left = done.stdout.decode().partition(f"> ask sh {words}\n")[2].partition("> vars\n")
+    return (answer.removeprefix("!").strip(), left) if shown and done.returncode == 0 else None
 
 
 def numbers_of(words):
@@ -67,7 +60,7 @@ def numbers_of(words):
 
 @pytest.fixture(scope="session")
 def program(built):
-    return built("cases_requests")
+    return built("cases_environment")
 
 
 @pytest.fixture(scope="module")

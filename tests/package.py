@@ -44,7 +44,7 @@ OF_OTHERS = (
 LIBRARY = re.compile(r"(/\S+) \(0x")
 
 # The programs of the product, and files without which an install fails: of each kind one, the first and the last.
-PROGRAMS = ("modulecmd", "modcheck", "module")
+PROGRAMS = ("modulecmd", "module")
 NEEDED = ("VERSION", "init/sh", "init/zsh", "libexec/ml.csh", "init/pager", "man/module.1", "etc/modulespath", "bin/module")
 
 # The utilities that install.sh and the init files take.

@@ -100,7 +100,7 @@ def install(built):
     """Installs the product below a prefix."""
 
     def below(prefix):
-        programs = [built(name) for name in ("modulecmd", "modcheck", "module")]
+        programs = [built(name) for name in ("modulecmd", "module")]
         command = ["sh", os.path.join(TOP, "tools", "product.sh"), "install", "", prefix, *programs]
         subprocess.run(command, stdout=subprocess.DEVNULL, check=True)
 

@@ -121,6 +121,47 @@ def test_a_write_that_failed_is_not_tried_again(folder, shim, error, stream, wor
     ends(folder, words, b"", LOST, 1, "where one write fails", env=env)
 
 
+# Streams that take few bytes and then fail: how many bytes standard output and standard error take, how they fail, and
+# the words; then how the command ends, and what the streams hold. A command that is cut short has not even written why.
+NOT_FOUND = b"ERROR: Unable to locate a modulefile for 'nope'\n"
+FAILURES = {"interrupted": errno.EINTR, "zero": 0, "pipe": errno.EPIPE}
+NARROW = (
+    (5, 100, "interrupted", "load foo/1.0", "reported", b"FOO='", LOST),
+    (5, 8, "interrupted", "load foo/1.0", "cut short", b"FOO='", b"ERROR: W"),
+    (0, 0, "interrupted", "load foo/1.0", "cut short", b"", b""),
+    (0, 100, "interrupted", "load nope", "reported", b"", NOT_FOUND),
+    (100, 9, "interrupted", "load nope", "cut short", b"", b"ERROR: Un"),
+    (100, 0, "interrupted", "load nope", "cut short", b"", b""),
+    (5, 100, "zero", "load foo/1.0", "reported", b"FOO='", LOST),
+    (5, 8, "zero", "load foo/1.0", "cut short", b"FOO='", b"ERROR: W"),
+    (0, 0, "zero", "load foo/1.0", "cut short", b"", b""),
+    (0, 100, "zero", "load nope", "reported", b"", NOT_FOUND),
+    (100, 9, "zero", "load nope", "cut short", b"", b"ERROR: Un"),
+    (5, 100, "pipe", "load foo/1.0", "reported", b"FOO='", LOST),
+    (5, 8, "pipe", "load foo/1.0", "cut short", b"FOO='", b"ERROR: W"),
+    (0, 100, "pipe", "load nope", "reported", b"", NOT_FOUND),
+    (200, 0, "pipe", "load foo", "success", None, b""),
+    (200, 0, "pipe", "list", "cut short", b"", b""),
+    (200, 5, "pipe", "list", "cut short", b"", b"No Mo"),
+    (200, 0, "pipe", "load hi/1", "cut short", b"", b""),
+    (200, 4, "pipe", "load hi/1", "cut short", b"", b"hi\nn"),
+    (0, 0, "pipe", "purge", "success", b"", b""),
+)
+
+
+@pytest.mark.parametrize("out_room, err_room, kind, words, end, out, err", NARROW)
+def test_streams_that_take_few_bytes(folder, shim, out_room, err_room, kind, words, end, out, err):
+    folder.module("foo/1.0", FOO)
+    folder.module("hi/1", "puts stderr hi\nputs -nonewline stderr {no end}\n")
+    # (the text of a whole load is as long as the path of the folder is)
+    out_room = 1000 if out is None else out_room
+    env = folder.environment(PATH="/usr/bin:/bin", ROOM_1=str(out_room), ROOM_2=str(err_room))
+    env.update({b"LD_PRELOAD": shim("failing_write"), b"FAIL_WITH": b"%d" % FAILURES[kind]})
+    wanted = loads_foo(folder) if out is None else out
+    ends(folder, words.split(), wanted, err, 0 if end == "success" else 1, f"where streams fail: {kind}", env=env)
+    same(end == "reported", err.startswith(b"ERROR: ") and err.endswith(b"\n"), "whether the reason is written whole")
+
+
 def test_nothing_to_write(folder):
     folder.module("foo/1.0", FOO)
     env = loaded(folder, "foo/1.0")

@@ -28,11 +28,9 @@ NOT_RUN = "not run: "
 # What the gate leaves in the folder out/ of a crate, by the name that the tests outside it know it by.
 PROGRAMS = {
     "modulecmd": ("modulecmd_main", "modulecmd_main"),
-    "modcheck": ("modcheck", "modcheck"),
     "module": ("module_main", "module_main"),
     "cases_tcl": ("cases_tcl", "cases_tcl"),
     "cases_environment": ("cases_environment", "cases_environment"),
-    "cases_requests": ("cases_requests", "cases_requests"),
 }
 
 # What the suites take of Debian beside Python: a module, and its package.

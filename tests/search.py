@@ -1,12 +1,149 @@
-"""Searches real directories by the program cases_requests, which answers lines of standard input."""
+"""Searches real directories by the program, which loads what a name means, or lists what can be loaded.
+
+The examples stand in searches.txt, each after a title, `# TITLE`; what they expect is typed by hand from the rules of
+the search. Each also finds the files of those before it, since the last `new`; examples.py says how files are put.
+`listed NAME as OTHER` has directories list one of its names otherwise from there on, which no disk does.
+
+`> locate MODULEPATH NAME` stands above the name and the file of the module, and `> avail MODULEPATH` above the modules
+behind their directories, where a directory stands once; or above the number and the text of a refusal. Behind that
+stands how often a search asks for another file than before, and for a directory, and how many of these answers the disk
+knows before it is asked: a default file that the list of its folder hasn't, what was read or listed before, and that a
+file is no directory. The program has to ask the system for the rest, and for nothing else. After `whole` stands how
+many files it reads to their end.
+"""
 
 import os
+import re
 
 import pytest
 
-from tests.harness import NOBODY, refuses_each, same, true
+from tests.examples import is_put, is_refusal, put, real
+from tests.harness import NOBODY, examples, refuses_each, same, true
+from tests.plain import printed
 
 COOKIE = "#%Module\n"
+
+COUNTED = re.compile(r"(.*?) ?\[(\d+) read, (\d+) listed; (\d+) and (\d+) known\]")
+WHOLE = re.compile(r"(.*) \[(\d+) whole\]")
+REFUSED = re.compile(r"(\d+) (.*)")
+
+# What the program reads beside the files of a search.
+OWN_ENVIRONMENT = "/proc/self/environ"
+
+
+def reported(text):
+    """The modules of a report of avail in one line, behind their directories; one that stands twice in a row stands once."""
+    rows, directory = [], None
+    for row in text.splitlines():
+        if row != directory:
+            rows.append(row)
+        directory = row if row.endswith(":") else directory
+    return " ".join(rows)
+
+
+class Search:
+    """One search, as the program makes it over a folder: its answer, and what the system was asked for."""
+
+    def __init__(self, folder, words, modulepath, user=None, **variables):
+        self.folder = folder
+        env = {b"MODULEPATH": os.fsencode(modulepath)}
+        env.update((os.fsencode(name), os.fsencode(value)) for name, value in variables.items())
+        done = folder.run("sh", *words, env=env, user=user)
+        self.done = done.stdout.decode(errors="replace"), done.stderr.decode(errors="replace"), done.returncode
+
+    def answer(self):
+        """The name and the file of the module, or the modules; or the reason of a refusal."""
+        out, err, status = self.done
+        if status != 0:
+            same(out, "", "standard output of a refused search")
+            return err.removeprefix("ERROR: ").removesuffix("\n")
+        if err or not out:
+            return reported(err)
+        made = printed("sh", out)
+        return f"{made['LOADEDMODULES']} {made['_LMFILES_']}"
+
+    def says(self, wanted, what):
+        """The answer is this one: of a refusal, its number and its text."""
+        refused = REFUSED.fullmatch(wanted)
+        same(self.answer(), refused[2] if refused else wanted, what)
+        same(self.done[2], 1 if refused else 0, f"status of {what}")
+        place = os.fsdecode(self.folder.path)
+        true(not refused or is_refusal(int(refused[1]), refused[2].replace(place, "")), f"REFUSALS.md has {wanted!r}")
+
+
+class Asked:
+    """What the searches that it makes ask the system for."""
+
+    def __init__(self, folder, library):
+        self.folder = folder
+        self.library = library
+        self.listed_as = {}
+
+    def search(self, words, modulepath):
+        """Makes a search, and takes down what it asks for: other files than the directories of MODULEPATH, directories,
+        and which files are read to their end."""
+        lists = {name: os.path.join(os.fsdecode(self.folder.path), name) for name in ("CALLS_TO", "ENDS_TO")}
+        for path in lists.values():
+            with open(path, "wb"):
+                pass
+        found = Search(self.folder, words, modulepath, LD_PRELOAD=self.library, **self.listed_as, **lists)
+        paths, self.ended = ({*lines(path)} - {OWN_ENVIRONMENT} for path in lists.values())
+        self.listed = {path.rstrip("/") for path in paths if path.endswith("/") and os.path.isdir(path)}
+        self.read = {path.rstrip("/") for path in paths} - {path.rstrip("/") for path in modulepath.split(":")}
+        return found
+
+    def counts(self):
+        return len(self.read), len(self.listed)
+
+
+def lines(path):
+    with open(path, encoding="utf-8", errors="surrogateescape") as file:
+        return file.read().splitlines()
+
+
+def answers(asked, line, wanted):
+    """The program answers a line of an example, and asks the system for what isn't known before."""
+    is_whole, line = line.startswith("whole "), line.removeprefix("whole ")
+    kind, modulepath, *name = ["" if word == "''" else word for word in line.split(" ")]
+    words = ["load", *name] if kind == "locate" else ["avail"]
+    found = asked.search(words, modulepath)
+    counted = (WHOLE if is_whole else COUNTED).fullmatch(wanted)
+    found.says(counted[1] if counted else wanted, line)
+    if is_whole:
+        same(len(asked.ended), int(counted[2]), f"how many files are read to their end by {line}")
+    elif counted:
+        read, listed, known_files, known_lists = map(int, counted.groups()[1:])
+        same(asked.counts(), (read - known_files, listed - known_lists), f"what is asked for by {line}")
+
+
+def real_words(folder, text):
+    """A text with the folders of the example in each of its words."""
+    return " ".join(os.fsdecode(real(folder, word)) for word in text.split(" "))
+
+
+def whole():
+    """The examples, each with the files of those before it."""
+    files = []
+    for title, rows in examples("searches.txt"):
+        if rows[0] == "new":
+            files, rows = [], rows[1:]
+        yield pytest.param([*files, *rows], id=title)
+        files += filter(is_put, rows)
+
+
+@pytest.mark.parametrize("rows", whole())
+def test_searches(rows, folder, shim):
+    asked, rest = Asked(folder, shim("failing_calls")), list(rows)
+    while rest:
+        line = rest.pop(0)
+        if is_put(line):
+            put(folder, line)
+        elif line.startswith("listed "):
+            _, name, _, other = line.split(" ")
+            asked.listed_as = {"LISTED_AS": f"{name}={other}"}
+        else:
+            line, wanted = (real_words(folder, text) for text in (line.removeprefix("> "), rest.pop(0)))
+            answers(asked, line, wanted)
 
 
 class Disk:
@@ -19,26 +156,13 @@ class Disk:
     def file(self, name, text=COOKIE):
         return self.folder.file(name, text)
 
-    def run(self, line, variables=None, user=None):
-        env = {os.fsencode(name): os.fsencode(value) for name, value in (variables or {}).items()}
-        done = self.folder.run(env=env, given=f"searches\n{line}\n".encode(), user=user)
-        return done.stdout.decode(errors="replace"), done.stderr.decode(errors="replace"), done.returncode
+    def locates(self, name, wanted, user=None, variables=None, modulepath=None):
+        found = Search(self.folder, ["load", name], modulepath or self.m, user, **(variables or {}))
+        found.says(wanted.replace("M/", f"{self.m}/"), name)
 
-    def answer(self, line, user=None, variables=None):
-        out, err, status = self.run(line, user=user, variables=variables)
-        true(status == 0, f"{line}: status {status}, {err!r}")
-        return out.rstrip("\n").rsplit(" [", 1)
-
-    def locates(self, name, wanted, user=None, variables=None):
-        same(self.answer(f"disk locate {self.m} {name}", user, variables)[0].replace(self.m, "M"), wanted, name)
-
-    def lists(self, wanted, user=None):
-        same(self.answer(f"disk avail {self.m}", user)[0].replace(self.m, "M"), wanted, "avail")
-
-
-@pytest.fixture(scope="session")
-def program(built):
-    return built("cases_requests")
+    def lists(self, wanted, user=None, modulepath=None):
+        found = Search(self.folder, ["avail"], modulepath or self.m, user)
+        found.says(wanted.replace("M:", f"{self.m}:"), "avail")
 
 
 @pytest.fixture
@@ -93,8 +217,8 @@ def test_default_files_that_compute(disk):
 
 def test_a_directory_is_named_as_it_is_spelled(disk):
     disk.file("ver/1")
-    same(disk.answer(f"disk locate {disk.m}/:/nowhere ver")[0], f"ver/1 {disk.m}//ver/1", "a slash at the end")
-    same(disk.answer(f"disk avail /nowhere:{disk.m}/")[0], f"{disk.m}/: ver/1", "a slash at the end")
+    disk.locates("ver", f"ver/1 {disk.m}//ver/1", modulepath=f"{disk.m}/:/nowhere")
+    disk.lists(f"{disk.m}/: ver/1", modulepath=f"/nowhere:{disk.m}/")
 
 
 def test_odd_names_are_passed_over(disk):
@@ -183,38 +307,34 @@ def test_names_and_texts_that_are_not_utf8(disk):
     disk.lists("43 Reading failed")
 
 
-def test_a_directory_of_many_names(disk):
+def test_a_directory_of_many_names(disk, shim):
     folder = os.path.join(disk.m, "many")
     os.mkdir(folder)
     for number in range(20000):
         with open(os.path.join(folder, str(number)), "w") as out:
             out.write(COOKIE)
     disk.file("one/1")
-    # A load reads what is asked for, and the listing, the default files and the greatest version of its folder, each once.
-    same(disk.answer(f"disk locate {disk.m} one")[1], "4 read, 1 listed]", "one")
-    same(disk.answer(f"disk locate {disk.m} many/7")[1], "1 read, 0 listed]", "many/7")
-    said = disk.answer(f"disk locate {disk.m} many")
-    same(said[0], f"many/19999 {folder}/19999", "many")
-    same(said[1], "4 read, 1 listed]", "many")
-    said = disk.answer(f"disk avail {disk.m}")
-    rows = said[0].split()
-    same(rows[0], f"{disk.m}:", "avail")
-    same(rows[1:], [f"many/{number}" for number in range(20000)] + ["one/1"], "avail")
+    asked = Asked(disk.folder, shim("failing_calls"))
+    # A load reads what is asked for, and the listing, the default files and the greatest version of its folder, each once;
+    # that there are no default files is known.
+    answers(asked, f"locate {disk.m} one", f"one/1 {disk.m}/one/1 [4 read, 1 listed; 2 and 0 known]")
+    answers(asked, f"locate {disk.m} many/7", f"many/7 {folder}/7 [1 read, 0 listed; 0 and 0 known]")
+    answers(asked, f"locate {disk.m} many", f"many/19999 {folder}/19999 [4 read, 1 listed; 2 and 0 known]")
     # Each file is read once and asked once for a folder, with two default files in each of the two folders.
-    same(said[1], f"{2 + 20001 + 4} read, {3 + 20001} listed]", "avail")
+    names = " ".join([*(f"many/{number}" for number in range(20000)), "one/1"])
+    counts = f"[{2 + 20001 + 4} read, {3 + 20001} listed; 4 and 20001 known]"
+    answers(asked, f"avail {disk.m}", f"{disk.m}: {names} {counts}")
 
 
-def is_refused(found):
-    """Whether the memory ran out in the search, or before it or after it."""
-    out, err, _ = found
-    return out.startswith("41 Out of memory [") or "OutOfMemory" in err or "ut of memory" in err
-
-
-@pytest.mark.parametrize("question", ["locate {} ver", "locate {} nope", "avail {}"])
-def test_growths_of_memory_that_are_refused(disk, shim, question):
+@pytest.mark.parametrize("words", [["load", "ver"], ["load", "nope"], ["avail"]], ids=" ".join)
+def test_growths_of_memory_that_are_refused(disk, shim, words):
     for version in ("1.9", "1.10"):
         disk.file(f"ver/{version}")
     disk.file("ver/.modulerc", COOKIE + "foreach v {7 8} {module-version ver/$v default}")
     disk.file("ver/.version", COOKIE + "set ModulesVersion 1.[expr {3 * 3}]")
-    line = f"disk {question.format(disk.m)}"
-    refuses_each(shim("failing_malloc"), lambda variables: disk.run(line, variables=variables), is_refused, line)
+
+    def run(asked):
+        variables = {os.fsdecode(name): os.fsdecode(value) for name, value in asked.items()}
+        return Search(disk.folder, words, disk.m, **variables).done
+
+    refuses_each(shim("failing_malloc"), run, ("", "ERROR: Out of memory\n", 1).__eq__, words)

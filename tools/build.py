@@ -43,7 +43,7 @@ def below_once(crate):
 rtlib.Crate.below = below_once
 
 # The crates of the product's programs, and the programs whose name is not that of their crate.
-PRODUCT = ["modulecmd_main", "modcheck", "module_main"]
+PRODUCT = ["modulecmd_main", "module_main"]
 NAMES = {"modulecmd_main": "modulecmd", "module_main": "module"}
 MOST_JOBS = 4  # of one crate: more of them gain nothing
 SHOWN_LINES = 30

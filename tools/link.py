@@ -11,10 +11,10 @@ import struct
 import subprocess
 
 # The programs of the product, by the names that they are installed by, and the folder of each below the prefix.
-PRODUCT = {"modulecmd": "bin", "modcheck": "bin", "module": "libexec"}
+PRODUCT = {"modulecmd": "bin", "module": "libexec"}
 
 # Other names of a program, by which it does something else: links to it.
-ALIASES = {"modaudit": "module", "modport": "module"}
+ALIASES = {"modcheck": "module", "modaudit": "module", "modport": "module"}
 
 # The folder beside a program where the dynamically linked one stands.
 DYNAMIC = "dynamic"

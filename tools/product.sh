@@ -53,9 +53,9 @@ for file in $examples; do
     files="$files share/examples/$file"
 done
 runs='init/pager'
-programs='bin/modulecmd bin/modcheck libexec/module'
+programs='bin/modulecmd libexec/module'
 # Other names of the program `module`, by which it is another one.
-aliases='bin/modaudit bin/modport'
+aliases='bin/modcheck bin/modaudit bin/modport'
 folders='bin init libexec completion etc share/man/man1 share/man/man5 share/man share/doc'
 for file in $examples; do
     folders="$folders share/examples/${file%/*}"

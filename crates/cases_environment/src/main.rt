@@ -1,4 +1,4 @@
-//! Worked examples of the environment: answers lines on variables, MODULEPATH, collections, disks and texts for shells.
+//! Worked examples of the environment: answers lines on variables, disks, shells, collections and requests.
 //! Touches standard input and output, its own arguments and environment, and files and directories of the disk.
 //! Nothing stands above it; the files `stdin` and `stdout` of this crate are these lines and their answers.
 //!
@@ -26,6 +26,13 @@
 //! directories behind `+`, and for the text of directories and modules (`save DIRECTORIES MODULES`, with commas between,
 //! `-` for none). Each line is shown after `> `, and a fault behind `!`.
 //!
+//! `requests` asks calls of `modules` and `sessions` over files in memory and variables, which its lines share; each is
+//! shown after `> `. `module PATH TEXT` puts a modulefile behind its cookie, `folder PATH NAME...` a directory, `from
+//! NAME=VALUE...` are the variables from there on, and `vars` shows them. `ask SHELL WORD...` answers what a request
+//! changes, and below that its report; `nameless KIND` what one without names does, as no words make one; `verdict NAME`
+//! what is said of a module; `rehearse SHELL REQUEST, SHELL REQUEST...` for each request `accepted` and the text that it
+//! prints, or `none`, and then the variables at the end. Behind `!` stand the number and the text of a refusal.
+//!
 //! `names` takes the public names that no call of these lines has: each fault of the environment, with its number.
 //!
 //! After a mark, which is `^` in the calls and a backslash elsewhere, `n`, `t` and `s` mean a newline, a tab and a
@@ -41,6 +48,7 @@ mod names;
 mod printing;
 mod processes;
 mod queries;
+mod request_lines;
 mod shown;
 mod system_lines;
 mod texts;
@@ -56,6 +64,7 @@ fn answer_about(rt: &HostRuntime, subject: &str, lines: &[String]) -> io::Result
         "shells" => printing::answer(rt, lines),
         "directories" => directories::answer(rt, lines),
         "collections" => kept::answer(rt, lines),
+        "requests" => request_lines::answer(rt, lines),
         "names" => names::answer(rt),
         _ => println!(rt; "no such lines: {subject}"),
     }

@@ -12,7 +12,7 @@ use std::io;
 const TWO_ANSWERS: &str = "the two differ";
 
 /// Sets the variable of a word.
-fn set_one(env: &mut Env, word: &str) -> Result<(), EnvFault> {
+pub(crate) fn set_one(env: &mut Env, word: &str) -> Result<(), EnvFault> {
     let (name, value) = word.split_once('=').unwrap_or((word, ""));
     env.set(name, value)
 }

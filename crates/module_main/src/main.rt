@@ -1,6 +1,6 @@
 //! The program `module SHELL SUBCOMMAND [WORD...]`: what the function `module` does beside `modulecmd`.
 //! Touches its arguments, environment, working directory and standard streams, reads files, and writes collections.
-//! Its file is `modaudit` and `modport` too, by these names. It has no clause, so it has little code.
+//! Its file is `modcheck`, `modaudit` and `modport` too, by these names. It has no clause, so it has little code.
 #![tactic(auto)]
 
 mod automatic_commands;
@@ -91,6 +91,7 @@ fn run_module(rt: &HostRuntime) -> ExitCode {
 fn main(rt: HostRuntime) -> ExitCode {
     match called_as(&rt) {
         Program::Module => run_module(&rt),
+        Program::Modcheck => modcheck::run(rt),
         Program::Modaudit => modaudit::run(rt),
         Program::Modport => modport::run(rt),
     }

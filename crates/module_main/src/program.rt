@@ -6,6 +6,8 @@ use std::rt::Env;
 pub enum Program {
     /// What the function `module` does beside `modulecmd`.
     Module,
+    /// The check of requests (modcheck(1)).
+    Modcheck,
     /// The audit of a site (modaudit(1)).
     Modaudit,
     /// The translation of modulefiles (modport(1)).
@@ -22,7 +24,9 @@ fn is_called(path: &[u8], name: &[u8], behind_slash: &[u8]) -> bool {
 
 /// The program of this path; `module` where its last part is no other's name.
 fn program_at(path: &[u8]) -> Program {
-    if is_called(path, b"modaudit", b"/modaudit") {
+    if is_called(path, b"modcheck", b"/modcheck") {
+        Program::Modcheck
+    } else if is_called(path, b"modaudit", b"/modaudit") {
         Program::Modaudit
     } else if is_called(path, b"modport", b"/modport") {
         Program::Modport

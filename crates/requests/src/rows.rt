@@ -1,4 +1,4 @@
-//! Worked examples of requests, conditions and reports, proved by computation. More stand in `cases_requests`,
+//! Worked examples of requests, conditions and reports, proved by computation. More stand in `tests/requests.txt`,
 //! and of whole commands in `tests/commands.txt`.
 ghost use Rattle.std.specs.Prelude.{◌≡◌, [], ◌∷◌, codes, Some, None, Ok, Err};
 ghost use Rattle.modulefile.specs.Records.{Conflict};

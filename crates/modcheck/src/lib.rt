@@ -1,13 +1,14 @@
 //! The program `modcheck SHELL`: reports what the requests of standard input would do, and which modules are plain.
 //! Touches its arguments, its environment and the standard streams, and reads files and directories of the disk.
-//! Nothing stands above it; it has no clause, so it has little code.
+//! It is one of the names of the program `module`; it has no clause, so it has little code.
 #![tactic(auto)]
 
 use modulecmd::{DiskTree, ProcessInput, modcheck, process_input, write_refusal};
 use std::process::ExitCode;
 
-/// Checks standard input, and ends with the status of the check.
-fn main(rt: HostRuntime) -> ExitCode {
+/// Checks standard input by what the process is given, and gives the status of the check, with which the process has to
+/// end (modcheck(1)).
+pub fn run(rt: HostRuntime) -> ExitCode {
     let mut input = rt.stdin();
     let mut out = rt.stdout();
     let mut err = rt.stderr();
