@@ -33,7 +33,7 @@ from tests.harness import same, true
 from tests.properties import SPELLINGS, examples, several
 from tests.sentence import Lost
 from tests.standings import MODULEPATH, SiteModule
-from tests.ways import OTHER, Question
+from tests.ways import OTHER, TYPES, Question
 
 # How many sites the model alone goes through until a clause that is left out loses something, at most.
 MOST_SITES = 20_000
@@ -519,6 +519,41 @@ def test_what_is_lost_without_the_clause(clause, monkeypatch, note):
     lost = case_lost(CASES[clause])
     true(lost, "something is lost")
     note(f"without it {lost}")
+
+
+# Modules that ask for their way, and do no harm: what they say, set and add in each way, in each shell.
+
+HARMLESS = {
+    "n": [("by way", "loads", ("says", "hello"), ("says", "bye")), ("by way", "in csh", SETS, ("setenv", "V", "y"))],
+    "w_1": [
+        ("by way", "switches", ("says", "for another"), AT_END),
+        ("by way", "in fish", ADDS, ("prepend-path", ":", "P", ["/q"])),
+    ],
+    "m/1": [
+        ("conflict", ["m"]),
+        ("gives", "shell", ("pushenv", "S")),
+        ("by way", "unloads", ("reads", "HOME", "is there", ("says", "at home"), AT_END), AT_END),
+    ],
+    "m/2": [("conflict", ["m"]), ("gives", "type", ("setenv", "T"))],
+}
+THROUGH = ["load n m/1", "switch n w_1", "switch m/1 m/2", "load n", "unload w_1", "switch m m/1", "purge"]
+
+
+@pytest.mark.parametrize("shell", sentence.SHELLS)
+def test_modules_that_ask_for_their_way(programs, product, tmp_path, shell):
+    top = sentence.emptied(tmp_path / "top")
+    directory = f"{top}/tree/one"
+    files = {f"{directory}/{name}": sentence.Module([(line, 0) for line in its]) for name, its in HARMLESS.items()}
+    site = Site(sentence.Tree((directory,), files, {}), directory, {"HOME": HOME})
+    start = sentence.in_a_shell({"HOME": HOME, "PWD": top, "P": "/q:/r", MODULEPATH: directory}, shell)
+    commands = [words.split() for words in THROUGH]
+    names = [name for name in TYPES if TYPES[name] == TYPES[shell]]
+    session = Session(site, product, shell, site.tree, start, commands, 0, names)
+    same([module.name for module in site.certified], sorted(HARMLESS, key=sentence.NAMES.index), "who is certified")
+    session.tree.write()
+    audited(programs["modaudit"], session)
+    sentence.follows(programs["modulecmd"], session, top)
+    same([status for *_, status in session.commands], [0] * len(THROUGH), "the statuses")
 
 
 # Which of those that clash are certified.

@@ -66,6 +66,8 @@ class SiteModule:
         self.path = path
         self.first = left(FIRST)
         self.others = {} if self.first.fault else {way: left(way) for way in other_ways(self.first.asked)}
+        # Whether it is settled, by what is left out of the definition.
+        self.settled = {}
 
     @property
     def records(self):
@@ -160,10 +162,17 @@ def asks(module):
     return not all(keeps_answer(question, module) for question in module.first.asked)
 
 
-def is_settled(module):
+def keeps_its_answers(module):
+    """It is accepted, each of its questions keeps its answer, and unloading undoes its records."""
     if module.first.fault is not None:
         return False
     return is_without("that modules are settled") or (not asks(module) and all(map(undone, module.records)))
+
+
+def is_settled(module):
+    if WITHOUT not in module.settled:
+        module.settled[WITHOUT] = keeps_its_answers(module)
+    return module.settled[WITHOUT]
 
 
 def steps_out(module):
