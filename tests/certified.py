@@ -1,16 +1,17 @@
 """Sessions of certified modules, tried by the built program in a real shell: the law of sites.
 
 Random trees of modulefiles, of which each uses variables as it likes, and of which some read variables and leave what
-these say, some ask for the mode, the switch or the shell, and undo the same in each way or don't, some ask for something
-else, undo nothing or are refused; a random environment that agrees with some of what the certified modules of the site
-use (`standings.py` says which these are, and which starts agree), and mostly has the values of the audit; and random
-lists of loads, unloads, switches and purges, in which each accepted load is of a certified module with whose uses the
-start agrees and whose reads have in it the values of the audit, and each unload of one that the session loaded. The
-commands call the program by the names of several shells; in the model these are of all families. Between them changes by
-hand, by the uses and reads of the modules that are live then (`hands.py`): so a variable that none of them uses or reads
-is changed freely, and the start by which the next load is judged is what the changes have made of it. After each command
-and each change the exported variables of the shell are those that a model makes (`sentence.py`, `runs.py`), in which
-what is loaded stands over the start as its file means; and after the last one `env -0` writes what it wrote at the start.
+these say, some ask for the mode, the switch or the shell, and undo the same in each way or don't, some ask for
+something else, undo nothing or are refused; a random environment that agrees with some of what the certified modules of
+the site use (`standings.py` says which these are, and which starts agree), and mostly has the values of the audit; and
+random lists of loads, unloads, switches and purges, in which each accepted load is of a certified module with whose
+uses the start agrees and whose reads have in it the values of the audit, and each unload of one that the session
+loaded. The commands call the program by the names of several shells; in the model these are of all families. Between
+them changes by hand, by the uses and reads of the modules that are live then (`hands.py`): so a variable that none of
+them uses or reads is changed freely, and the start by which the next load is judged is what the changes have made of
+it. After each command and each change the exported variables of the shell are those that a model makes (`sentence.py`,
+`runs.py`), in which what is loaded stands over the start as its file means; and after the last one `env -0` writes what
+it wrote at the start.
 
 The program `modaudit` has to say the same of each site: how its modules stand, in which order, their certificate, and
 where the start doesn't agree with it.
@@ -122,8 +123,8 @@ def given_in(ways):
 
 
 def asking(ways, found, unseen, reading):
-    """Lines that ask for the way: of records that undo the same, of what is read or asked in some ways alone, of what no
-    unload sees, and of any."""
+    """Lines that ask for the way: of records that undo the same, of what is read or asked in some ways alone, of what
+    no unload sees, and of any."""
     some = st.one_of(*found)
     deeper = st.one_of(*reading, by_way(sentence.QUIET), by_way(some, some))
     return [
@@ -228,8 +229,8 @@ class Session(hands.ByHand):
     @property
     def ways(self):
         """How the live modules use variables, by what they recorded."""
-        modules = [SiteModule(name, path, standings.in_all_ways(records)) for name, path, records in self.live_modules()]
-        return truly(standings.uses_by, modules)
+        live = self.live_modules()
+        return truly(standings.uses_by, [SiteModule(*place, standings.in_all_ways(records)) for *place, records in live])
 
     def is_read(self, name):
         return not standings.may_be_changed(name, [self.places[place] for place in self.live()])
@@ -417,8 +418,8 @@ def test_each_clause_is_needed(clause, monkeypatch, note):
     note(f"without it {loss_of(found)}")
 
 
-# What clauses about questions are there for, by hand: the lines of modules, of which the first isn't certified but where
-# the clause is left out; and a start and commands, each with the name of a shell, that lose something then.
+# What clauses about questions are there for, by hand: without its clause the first module of a case is certified, and
+# the session loses something. Each command begins with the name of a shell.
 
 
 class Case:
@@ -432,38 +433,38 @@ class Case:
 
 
 ADDS, SETS = ("append-path", ":", "P", ["/q"]), ("setenv", "V", "x")
-AT_END = ("nothing",)
+NONE = ("nothing",)
 TO_AND_FRO = ["sh load n", "sh unload n"]
 
 CASES = {
     "that the ways undo alike": Case(
-        {"n": [("by way", "unloads", ADDS, AT_END)]}, "asks", {"P": "/q"}, TO_AND_FRO
+        {"n": [("by way", "unloads", ADDS, NONE)]}, "asks", {"P": "/q"}, TO_AND_FRO
     ),
     "that loads are undone in each way": Case(
-        {"n": [("by way", "in csh", ("unsetenv", "P", None), AT_END)]}, "asks", {"P": "/q"}, ["csh load n", "csh unload n"]
+        {"n": [("by way", "in csh", ("unsetenv", "P", None), NONE)]}, "asks", {"P": "/q"}, ["csh load n", "csh unload n"]
     ),
     # Both set V where csh loads them, and the unload of one takes it from the other.
     "that loads are in conflict with the same names in each way": Case(
-        {"n": [SETS, ("by way", "in csh", AT_END, ("conflict", ["w_1"]))], "w_1": [SETS]},
+        {"n": [SETS, ("by way", "in csh", NONE, ("conflict", ["w_1"]))], "w_1": [SETS]},
         "asks",
         {},
         ["csh load n", "csh load w_1", "csh unload n"],
     ),
     "that what another way asks rests": Case(
-        {"n": [("by way", "unloads", ("reads", model.NAMES, "is", "n", ADDS, AT_END), AT_END)]},
+        {"n": [("by way", "unloads", ("reads", model.NAMES, "is", "n", ADDS, NONE), NONE)]},
         "asks",
         {"P": "/q"},
         TO_AND_FRO,
     ),
     # The mode is asked for in sh, and what csh would do isn't seen.
     "that another way asks no more": Case(
-        {"n": [("by way", "unloads", ("by way", "in csh", ADDS, AT_END), AT_END)]},
+        {"n": [("by way", "unloads", ("by way", "in csh", ADDS, NONE), NONE)]},
         "asks",
         {"P": "/q"},
         ["sh load n", "csh unload n"],
     ),
     "that what another way reads counts": Case(
-        {"n": [("by way", "unloads", ("reads", "V", "is there", ADDS, AT_END), AT_END)], "w_1": [SETS]},
+        {"n": [("by way", "unloads", ("reads", "V", "is there", ADDS, NONE), NONE)], "w_1": [SETS]},
         "reads-used",
         {"P": "/q"},
         ["sh load n", "sh load w_1", "sh unload n"],
@@ -472,8 +473,8 @@ CASES = {
     "that a reader's conflicts don't free it": Case(
         {
             "n": [
-                ("reads", "V", "is", "", ("conflict", ["w_1"]), AT_END),
-                ("reads", "V", "is", "x", ADDS, AT_END),
+                ("reads", "V", "is", "", ("conflict", ["w_1"]), NONE),
+                ("reads", "V", "is", "x", ADDS, NONE),
             ],
             "w_1": [SETS],
         },
@@ -526,13 +527,13 @@ def test_what_is_lost_without_the_clause(clause, monkeypatch, note):
 HARMLESS = {
     "n": [("by way", "loads", ("says", "hello"), ("says", "bye")), ("by way", "in csh", SETS, ("setenv", "V", "y"))],
     "w_1": [
-        ("by way", "switches", ("says", "for another"), AT_END),
+        ("by way", "switches", ("says", "for another"), NONE),
         ("by way", "in fish", ADDS, ("prepend-path", ":", "P", ["/q"])),
     ],
     "m/1": [
         ("conflict", ["m"]),
         ("gives", "shell", ("pushenv", "S")),
-        ("by way", "unloads", ("reads", "HOME", "is there", ("says", "at home"), AT_END), AT_END),
+        ("by way", "unloads", ("reads", "HOME", "is there", ("says", "at home"), NONE), NONE),
     ],
     "m/2": [("conflict", ["m"]), ("gives", "type", ("setenv", "T"))],
 }

@@ -250,8 +250,8 @@ class Session:
         return text.replace("/m", os.fsdecode(self.folder.modules))
 
     def does(self, words):
-        """Runs a command, and has sh evaluate what it prints; or changes a variable by hand. It is for sh, where no shell is
-        named that is read as sh is."""
+        """Runs a command, and has sh evaluate what it prints; or changes a variable by hand. A command may begin with the
+        name of a shell that is read as sh is."""
         if "=" in words:
             self.env.update([words.split("=")])
             return

@@ -201,7 +201,10 @@ ROWS = {
         {"/m/a/1": "if {[module-info mode switch]} {setenv V x}\n"},
         [("a/1", "asks", "module-info mode switch")],
     ),
-    "an element by the mode": ({"/m/a/1": "append-path P /[module-info mode]\n"}, [("a/1", "asks", "module-info mode")]),
+    "an element by the mode": (
+        {"/m/a/1": "append-path P /[module-info mode]\n"},
+        [("a/1", "asks", "module-info mode")],
+    ),
     "an element by the shell": (
         {"/m/a/1": "getenv HOME\nappend-path P /[module-info shell]\n"},
         [("a/1", "asks", "module-info shell")],
@@ -530,7 +533,10 @@ ROWS = {
         [("a/1", "asks", "is-loaded b")],
     ),
     "a directory that a module adds which says something": (
-        {"/m/a/1": "append-path MODULEPATH /n\nif {[module-info mode load]} {puts stderr hello}\n", "/n/b/1": "setenv V y\n"},
+        {
+            "/m/a/1": "append-path MODULEPATH /n\nif {[module-info mode load]} {puts stderr hello}\n",
+            "/n/b/1": "setenv V y\n",
+        },
         [("a/1", "certified", ""), ("b/1", "certified", "")],
     ),
     "a directory by the shell": (
@@ -923,7 +929,7 @@ def test_the_document_says_the_same(folder):
     files = {
         "/m/a/1": "setenv V x\nunsetenv W y\nappend-path -d , P /b\npushenv S z\nconflict q\n",
         "/m/a/.version": "nope\n",
-        "/m/b/1": "getenv HOME\nmodule-info mode load\n",
+        "/m/b/1": "getenv HOME\nappend-path B /[module-info mode load]\n",
         "/m/c/1": "unsetenv V\n",
         "/m/d/1": "setenv D 1\npushenv D 2\n",
         "/m/e/1": "setenv E 1\n",

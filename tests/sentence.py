@@ -6,9 +6,9 @@ the exported variables of the shell are those that a model makes (`runs.py` has 
 refusals stand here, from the rules in the crates' pages), standard error and the status too; and after the last one
 `env -0` writes what it wrote at the start, but for the order of its entries.
 
-Some modules ask for what they are evaluated, and for which shell, and leave in each way what undoes the same: each command
-of a session calls the program by the name of a shell of its family, so that a module is loaded for one and unloaded for
-another.
+Some modules ask for what they are evaluated, and for which shell, and leave in each way what undoes the same: each
+command of a session calls the program by the name of a shell of its family, so that a module is loaded for one and
+unloaded for another.
 
 In tcsh and fish PATH and LANG stay, since these shells change what they hold, and in tcsh a change whose value has a newline
 is refused.
@@ -531,8 +531,8 @@ def directories(top):
 
 @functools.cache
 def callings(shell=None):
-    """By which names of shells the commands of a session call the program, in turn: those that are read as this one is, or
-    any."""
+    """By which names of shells the commands of a session call the program, in turn: those that are read as this one is,
+    or any."""
     names = [name for name, kind in TYPES.items() if shell is None or kind == TYPES[shell]]
     return st.lists(st.sampled_from(names), min_size=1, max_size=3).map(tuple)
 
@@ -591,8 +591,8 @@ def is_apart(modules):
 
 class Session:
     """A tree, a start, and commands, with what each that is taken has to do. The bits of the ends say which of the modules
-    that are left are unloaded one by one. What it begins with stays the start, but for changes by hand. The commands call
-    the program by these names of shells in turn, and the last ones by that of the shell."""
+    that are left are unloaded one by one. What it begins with stays the start, but for changes by hand. Commands call the
+    program by these names of shells in turn, and the last ones by that of the shell."""
 
     def __init__(self, shell, tree, start, words, ends, called=()):
         self.shell = shell
@@ -664,7 +664,7 @@ class Session:
     def unsaid(self, before, shell):
         """The first variable whose new value the shell has no text for, or none."""
         changed = [name for name, value in self.env.items() if before.get(name) != value]
-        return min([name for name in changed if "\n" in self.env[name]], default=None) if TYPES[shell] == "csh" else None
+        return min((name for name in changed if "\n" in self.env[name] and TYPES[shell] == "csh"), default=None)
 
 
 class Reversible(Session):

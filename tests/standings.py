@@ -3,9 +3,9 @@
 It is written from the rules in the crates' pages (sites, certificates), and shares nothing with the definitions that
 the prover reads nor with the programs. `runs.py` has the edits of environments.
 
-A module's file is a function of the way in which it is evaluated (`ways.py`), and of the environment of the audit. A use
-of a variable is what `runs.py` calls a way: ("fixed", None) where a module sets it, ("fixed", value) where it
-unsets this value, ("path", delimiter), or ("stack",).
+A module's file is a function of the way in which it is evaluated (`ways.py`), in the environment of the audit. A use of
+a variable is what `runs.py` calls a way: ("fixed", None) where a module sets it, ("fixed", value) where it unsets this
+value, ("path", delimiter), or ("stack",).
 """
 
 from tests import runs as model
@@ -76,8 +76,9 @@ class SiteModule:
     @property
     def reads(self):
         """The variables that its evaluations read, each with its value."""
-        counted = [self.first] if is_without("that what another way reads counts") else [self.first, *self.others.values()]
-        return {question.name: question.value for ran in counted for question in ran.asked if question.of == VARIABLE}
+        others = [] if is_without("that what another way reads counts") else self.others.values()
+        asked = [question for ran in [self.first, *others] for question in ran.asked]
+        return {question.name: question.value for question in asked if question.of == VARIABLE}
 
 
 def in_all_ways(records, asked=(), fault=None):
@@ -124,8 +125,8 @@ def is_named(name, records):
 
 
 def rests(question, records):
-    """It is of the way, or reads a variable that is none of the tool's, none that shells change, and none that the records
-    name."""
+    """It is of the way, or reads a variable that is none of the tool's, none that shells change, and none that the
+    records name."""
     if question.of == VARIABLE:
         return not (is_of_tool(question.name) or question.name in OF_SHELLS or is_named(question.name, records))
     return question.of in (MODE, SHELL)
