@@ -122,15 +122,16 @@ def given_in(ways):
     return given + [("setenv", name) for name, way in ways if way == ("fixed", None)] + [("conflict",)]
 
 
-def asking(ways, found, unseen, reading):
-    """Lines that ask for the way: of records that undo the same, of what is read or asked in some ways alone, of what
-    no unload sees, and of any."""
+def asking(ways, found, unseen, read):
+    """Lines that ask for the way: of records that undo the same; of what no unload sees; of records that are there where
+    more is asked or read alone; and of any."""
     some = st.one_of(*found)
-    deeper = st.one_of(*reading, by_way(sentence.QUIET), by_way(some, some))
+    silent = st.tuples(st.just("reads"), read, CONDITIONS, st.sampled_from(TEXTS), *[st.one_of(NOTHING, some)] * 2)
     return [
         *(sentence.twins(one) for one in found),
         by_way(unseen),
-        by_way(deeper),
+        by_way(silent),
+        by_way(by_way(some)),
         by_way(some, st.one_of(NOTHING, some)),
         st.tuples(st.just("gives"), sentence.ANSWERS, st.sampled_from(given_in(ways))),
     ]
@@ -150,6 +151,13 @@ def conflicts(folder):
     return st.sampled_from([("conflict", [folder]), ("conflict", versions), ("conflict", versions[:1])])
 
 
+def shared_line(folder, way, condition):
+    """The line of each module of a folder by which its modules exclude each other in this way, or none."""
+    oldest = f"{folder}/{sentence.FOLDERS[folder][0]}"
+    in_all = ("conflict", [folder])
+    return {"all": in_all, "first": ("conflict", [oldest]), "asked": ("by way", condition, in_all, ("nothing",))}.get(way)
+
+
 @st.composite
 def lines(draw, dirs, kinds):
     """A line of a modulefile in a folder, for each of which there are kinds of records."""
@@ -163,7 +171,7 @@ def sites(draw, shell, dirs):
     variables = sentence.variables(shell)
     ways = [(name, draw(sentence.ways(shell))) for name in variables]
     strays = draw(st.lists(st.tuples(st.sampled_from(variables), sentence.ways(shell)), max_size=2))
-    exclusive = {folder: draw(st.sampled_from(["", "some", "all", "first"])) for folder in sentence.FOLDERS}
+    exclusive = {folder: draw(st.sampled_from(["", "some", "all", "first", "asked"])) for folder in sentence.FOLDERS}
     found = {(name, way): sentence.records(name, way, dirs) for name, way in ways + strays}
     some = [*found.values(), added_directories(dirs)]
     needs = model.needs(OTHERS, ("conflict", "conflict", "prereq"))
@@ -171,16 +179,17 @@ def sites(draw, shell, dirs):
     values = [kind for name, way in ways for kind in added_value(name, way)]
     # (hypothesis takes a strategy that stands there twice for one)
     reading = [readers(read, st.one_of(*some, needs), values) for _ in range(6)]
-    its_asking = asking(ways, [*found.values()], st.one_of(sentence.QUIET, needs), reading)
-    every = [*some, odd_lines(variables), sentence.QUIET, *reading, *its_asking]
+    odd = odd_lines(variables)
+    unseen = st.one_of(sentence.QUIET, needs, odd)
+    alone = st.sampled_from([*READ, *OWN * 2, *variables])
+    every = [*some, odd, sentence.QUIET, *reading, *asking(ways, [*found.values()], unseen, alone)]
     shared = [found[name, way] for name, way in ways if way[0] != "fixed"] * 4
     shared += [*every, needs]
     kinds = {"": st.one_of(*shared)}
     for folder, way in exclusive.items():
-        own = [conflicts(folder) for _ in range(4)] + [by_way(conflicts(folder))] if way == "some" else []
+        own = [conflicts(folder) for _ in range(4)] if way == "some" else []
         kinds[folder] = st.one_of(*every, *own) if way else kinds[""]
-    oldest = {folder: [f"{folder}/{versions[0]}"] for folder, versions in sentence.FOLDERS.items()}
-    in_all = {folder: {"all": [folder], "first": oldest[folder]}.get(way) for folder, way in exclusive.items()}
+    in_all = {folder: shared_line(folder, way, draw(sentence.BY_WAY)) for folder, way in exclusive.items()}
     tree = draw(sentence.trees(dirs, lines(dirs, kinds), in_all))
     first = draw(st.lists(st.sampled_from(dirs), min_size=1, max_size=3, unique=True))
     others = {"HOME": HOME, "OTHER": draw(st.sampled_from([*TEXTS, *sentence.startable(shell)]))}

@@ -330,13 +330,13 @@ def places(dirs):
 
 
 @st.composite
-def trees(draw, dirs, lines, conflicts=None):
+def trees(draw, dirs, lines, shared=None):
     """A tree in these directories, drawn line by line: each has its place, its record and how that is spelled. All
-    modules of some folders have a conflict."""
+    modules of some folders share a line."""
     modules, defaults = {}, {}
     for path, *line in draw(several(lines, 64)):
-        shared = (conflicts or {}).get(folder_of(path))
-        modules.setdefault(path, [(("conflict", shared), 0)] if shared else []).append(line)
+        its = (shared or {}).get(folder_of(path))
+        modules.setdefault(path, [(its, 0)] if its else []).append(line)
     for path, name, at in draw(default_files(dirs)):
         folder = folder_of(f"{path}/")
         defaults[path] = (name, folder, FOLDERS[folder][at % len(FOLDERS[folder])])
