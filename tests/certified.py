@@ -523,6 +523,10 @@ def test_what_a_clause_keeps_from_being_certified(case):
     same(case_lost(case), None, "what is lost")
 
 
+def test_each_rare_clause_has_a_case():
+    true(set(standings.RARE) <= set(CASES) <= {*standings.RARE, *standings.CLAUSES}, "the clauses of the cases")
+
+
 @pytest.mark.parametrize("clause", CASES)
 def test_what_is_lost_without_the_clause(clause, monkeypatch, note):
     monkeypatch.setattr(standings, "WITHOUT", clause)

@@ -31,18 +31,22 @@ CLAUSES = (
     "that names match by their parts",
     "that modules are settled",
     "that the ways undo alike",
-    "that loads are undone in each way",
     "that loads are in conflict with the same names in each way",
-    "that what another way asks rests",
     "that another way asks no more",
     "that what another way reads counts",
-    "that a reader's conflicts don't free it",
     "that a reader's own records don't name it",
     "that the tool's own variables aren't read",
     "that nobody uses what is read",
     "that the start agrees with what is loaded",
     "that the start has the value of the audit",
     "that hands leave what is read",
+)
+
+# Clauses without which random sites lose something too seldom: they have cases by hand alone.
+RARE = (
+    "that loads are undone in each way",
+    "that what another way asks rests",
+    "that a reader's conflicts don't free it",
 )
 
 # Of the choice among modules that clash, each with what it is for.
