@@ -1,21 +1,23 @@
 """Sessions of certified modules, tried by the built program in a real shell: the law of sites.
 
 Random trees of modulefiles, of which each uses variables as it likes, and of which some read variables and leave what
-these say, some ask, undo nothing or are refused; a random environment that agrees with some of what the certified
-modules of the site use (`standings.py` says which these are, and which starts agree), and mostly has the values of
-the audit; and random lists of loads, unloads, switches and purges, in which each accepted load is of a certified
-module with whose uses the start agrees and whose reads have in it the values of the audit, and each unload of one
-that the session loaded. Between them changes by hand, by the uses and reads of the modules that are live then
-(`hands.py`): so a variable that none of them uses or reads is changed freely, and the start by which the next load is
-judged is what the changes have made of it. After each command and each change the exported variables of the shell are
-those that a model makes (`sentence.py`, `runs.py`), in which what is loaded stands over the start as its file means;
-and after the last one `env -0` writes what it wrote at the start.
+these say, some ask for the mode, the switch or the shell, and undo the same in each way or don't, some ask for
+something else, undo nothing or are refused; a random environment that agrees with some of what the certified modules of
+the site use (`standings.py` says which these are, and which starts agree), and mostly has the values of the audit; and
+random lists of loads, unloads, switches and purges, in which each accepted load is of a certified module with whose
+uses the start agrees and whose reads have in it the values of the audit, and each unload of one that the session
+loaded. The commands call the program by the names of several shells; in the model these are of all families. Between
+them changes by hand, by the uses and reads of the modules that are live then (`hands.py`): so a variable that none of
+them uses or reads is changed freely, and the start by which the next load is judged is what the changes have made of
+it. After each command and each change the exported variables of the shell are those that a model makes (`sentence.py`,
+`runs.py`), in which what is loaded stands over the start as its file means; and after the last one `env -0` writes what
+it wrote at the start.
 
 The program `modaudit` has to say the same of each site: how its modules stand, in which order, their certificate, and
 where the start doesn't agree with it.
 
 The model alone is run too, and besides with clauses of the definition left out, each of which has to lose a start or what
-is loaded.
+is loaded; and what some of these are there for by hand.
 """
 
 import json
@@ -32,6 +34,7 @@ from tests.harness import same, true
 from tests.properties import SPELLINGS, examples, several
 from tests.sentence import Lost
 from tests.standings import MODULEPATH, SiteModule
+from tests.ways import OTHER, TYPES, Question
 
 # How many sites the model alone goes through until a clause that is left out loses something, at most.
 MOST_SITES = 20_000
@@ -44,6 +47,7 @@ class Site:
         self.tree = tree
         self.modulepath = modulepath
         self.at_hand = {**others, MODULEPATH: modulepath}
+        self.known = {}
         self.directories = standings.site_directories(modulepath, self.modules_in)
         self.modules = standings.site_modules(modulepath, self.modules_in)
         self.certified = standings.certified(self.modules)
@@ -55,20 +59,23 @@ class Site:
         return [self.site_module(name, path) for name, path in paths if path in self.tree.modules]
 
     def site_module(self, name, path):
+        """The module, which is evaluated once in each way."""
         module = self.tree.modules[path]
-        return SiteModule(name, path, *module.evaluated(name, self.at_hand), module.fault)
+        if path not in self.known:
+            self.known[path] = SiteModule(name, path, lambda way: module.evaluated(name, dict(self.at_hand), way))
+        return self.known[path]
 
 
 # Random sites: most modules use a variable in one way, and those of some folders exclude each other.
 
 
 ODD_LINES = [
-    ("asks", "module-info mode load"),
-    ("asks", "if {[is-loaded nothing]} {}"),
-    ("asks", "info exists env(PWD)"),
-    ("asks", "module-info shell"),
+    ("asks", "if {[is-loaded nothing]} {}", Question(OTHER)),
+    ("asks", "module-info specified", Question(OTHER)),
+    ("asks", "info exists env(PWD)", Question(OTHER)),
     *[("exits",)] * 3,
 ]
+NOTHING = st.just(("nothing",))
 # What may be read besides what modules use: what hands change too, and what is the tool's own.
 READ = ("HOME", "OTHER", "HOME", "OTHER", "EDITOR")
 OWN = (model.NAMES, model.FILES)
@@ -103,6 +110,33 @@ def readers(draw, names, records, values):
     return "reads", name if draw(st.integers(0, 7)) else model.named(one) or name, how, text, one, other
 
 
+def by_way(one, other=NOTHING):
+    """Lines that have one of these in some ways, and else one of those."""
+    return st.tuples(st.just("by way"), sentence.BY_WAY, one, other)
+
+
+def given_in(ways):
+    """Kinds of records that have an answer about the way in them, where variables are used so."""
+    kinds = {"fixed": ("setenv",), "stack": ("pushenv",), "path": ("prepend-path", "append-path")}
+    given = [(kind, *way[1:], name) for name, way in ways if way[0] != "fixed" for kind in kinds[way[0]]]
+    return given + [("setenv", name) for name, way in ways if way == ("fixed", None)] + [("conflict",)]
+
+
+def asking(ways, found, unseen, read):
+    """Lines that ask for the way: of records that undo the same; of what no unload sees; of records that are there where
+    more is asked or read alone; and of any."""
+    some = st.one_of(*found)
+    silent = st.tuples(st.just("reads"), read, CONDITIONS, st.sampled_from(TEXTS), *[st.one_of(NOTHING, some)] * 2)
+    return [
+        *(sentence.twins(one) for one in found),
+        by_way(unseen),
+        by_way(silent),
+        by_way(by_way(some)),
+        by_way(some, st.one_of(NOTHING, some)),
+        st.tuples(st.just("gives"), sentence.ANSWERS, st.sampled_from(given_in(ways))),
+    ]
+
+
 def added_directories(dirs):
     """Records that add a directory; rarely otherwise than as a path with colons."""
     kinds = ("prepend-path", "append-path")
@@ -115,6 +149,13 @@ def conflicts(folder):
     """Conflicts of a module with others of its folder."""
     versions = [f"{folder}/{version}" for version in sentence.FOLDERS[folder]]
     return st.sampled_from([("conflict", [folder]), ("conflict", versions), ("conflict", versions[:1])])
+
+
+def shared_line(folder, way, condition):
+    """The line of each module of a folder by which its modules exclude each other in this way, or none."""
+    oldest = f"{folder}/{sentence.FOLDERS[folder][0]}"
+    in_all = ("conflict", [folder])
+    return {"all": in_all, "first": ("conflict", [oldest]), "asked": ("by way", condition, in_all, ("nothing",))}.get(way)
 
 
 @st.composite
@@ -130,7 +171,7 @@ def sites(draw, shell, dirs):
     variables = sentence.variables(shell)
     ways = [(name, draw(sentence.ways(shell))) for name in variables]
     strays = draw(st.lists(st.tuples(st.sampled_from(variables), sentence.ways(shell)), max_size=2))
-    exclusive = {folder: draw(st.sampled_from(["", "some", "all", "first"])) for folder in sentence.FOLDERS}
+    exclusive = {folder: draw(st.sampled_from(["", "some", "all", "first", "asked"])) for folder in sentence.FOLDERS}
     found = {(name, way): sentence.records(name, way, dirs) for name, way in ways + strays}
     some = [*found.values(), added_directories(dirs)]
     needs = model.needs(OTHERS, ("conflict", "conflict", "prereq"))
@@ -138,15 +179,17 @@ def sites(draw, shell, dirs):
     values = [kind for name, way in ways for kind in added_value(name, way)]
     # (hypothesis takes a strategy that stands there twice for one)
     reading = [readers(read, st.one_of(*some, needs), values) for _ in range(6)]
-    every = [*some, odd_lines(variables), sentence.QUIET, *reading]
+    odd = odd_lines(variables)
+    unseen = st.one_of(sentence.QUIET, needs, odd)
+    alone = st.sampled_from([*READ, *OWN * 2, *variables])
+    every = [*some, odd, sentence.QUIET, *reading, *asking(ways, [*found.values()], unseen, alone)]
     shared = [found[name, way] for name, way in ways if way[0] != "fixed"] * 4
     shared += [*every, needs]
     kinds = {"": st.one_of(*shared)}
     for folder, way in exclusive.items():
         own = [conflicts(folder) for _ in range(4)] if way == "some" else []
         kinds[folder] = st.one_of(*every, *own) if way else kinds[""]
-    oldest = {folder: [f"{folder}/{versions[0]}"] for folder, versions in sentence.FOLDERS.items()}
-    in_all = {folder: {"all": [folder], "first": oldest[folder]}.get(way) for folder, way in exclusive.items()}
+    in_all = {folder: shared_line(folder, way, draw(sentence.BY_WAY)) for folder, way in exclusive.items()}
     tree = draw(sentence.trees(dirs, lines(dirs, kinds), in_all))
     first = draw(st.lists(st.sampled_from(dirs), min_size=1, max_size=3, unique=True))
     others = {"HOME": HOME, "OTHER": draw(st.sampled_from([*TEXTS, *sentence.startable(shell)]))}
@@ -194,11 +237,9 @@ class Session(hands.ByHand):
 
     @property
     def ways(self):
-        """How the live modules use variables."""
-        return truly(standings.uses_by, [self.places[place] for place in self.live()])
-
-    def live_modules(self):
-        return [(one.name, one.path, one.records) for one in (self.places[place] for place in self.live())]
+        """How the live modules use variables, by what they recorded."""
+        live = self.live_modules()
+        return truly(standings.uses_by, [SiteModule(*place, standings.in_all_ways(records)) for *place, records in live])
 
     def is_read(self, name):
         return not standings.may_be_changed(name, [self.places[place] for place in self.live()])
@@ -234,7 +275,8 @@ def truly(function, *arguments):
 
 
 @st.composite
-def sessions(draw, shell, top, product="", folders=("one", "two", "three", "four")):
+def sessions(draw, shell, top, product="", folders=("one", "two", "three", "four"), called=None):
+    """Sessions in a shell, whose commands call the program by names of shells that are read as it is, or by these."""
     site = draw(sites(shell, tuple(f"{top}/tree/{name}" for name in folders)))
     start = {**draw(starts(site, shell)), "PWD": top}
     sure = sorted({module.name for module in site.certified})
@@ -243,7 +285,8 @@ def sessions(draw, shell, top, product="", folders=("one", "two", "three", "four
     commands = [sentence.commands(names, not model.loaded_in(start)) for _ in range(2)]
     changes = hands.hands(dict(site.uses), sentence.variables(shell))
     words = draw(several(st.one_of(*commands, changes), 40))
-    return Session(site, product, shell, site.tree, start, words, draw(sentence.ENDS))
+    called = sentence.callings(shell) if called is None else called
+    return Session(site, product, shell, site.tree, start, words, draw(sentence.ENDS), draw(called))
 
 
 # The program that judges sites.
@@ -363,7 +406,7 @@ def test_sessions_in_other_shells(programs, product, tmp_path, shell, data):
 
 
 @examples(500)
-@given(sessions("sh", "/t"))
+@given(sessions("sh", "/t", called=sentence.callings()))
 def test_the_model_loses_nothing(session):
     begun(session).follow()
 
@@ -379,17 +422,159 @@ def loss_of(session):
 @pytest.mark.parametrize("clause", standings.CLAUSES)
 def test_each_clause_is_needed(clause, monkeypatch, note):
     monkeypatch.setattr(standings, "WITHOUT", clause)
-    dense = sessions("sh", "/t", folders=("one",))
+    dense = sessions("sh", "/t", folders=("one",), called=sentence.callings())
     found = find(dense, loss_of, settings=settings(max_examples=MOST_SITES, phases=[Phase.generate]))
     note(f"without it {loss_of(found)}")
+
+
+# What clauses about questions are there for, by hand: without its clause the first module of a case is certified, and
+# the session loses something. Each command begins with the name of a shell.
+
+
+class Case:
+    """Modules by their names, how the first stands, and a session over their site."""
+
+    def __init__(self, modules, stands, start, commands):
+        self.modules = modules
+        self.stands = stands
+        self.start = start
+        self.commands = [words.split() for words in commands]
+
+
+ADDS, SETS = ("append-path", ":", "P", ["/q"]), ("setenv", "V", "x")
+NONE = ("nothing",)
+TO_AND_FRO = ["sh load n", "sh unload n"]
+
+CASES = {
+    "that the ways undo alike": Case(
+        {"n": [("by way", "unloads", ADDS, NONE)]}, "asks", {"P": "/q"}, TO_AND_FRO
+    ),
+    "that loads are undone in each way": Case(
+        {"n": [("by way", "in csh", ("unsetenv", "P", None), NONE)]}, "asks", {"P": "/q"}, ["csh load n", "csh unload n"]
+    ),
+    # Both set V where csh loads them, and the unload of one takes it from the other.
+    "that loads are in conflict with the same names in each way": Case(
+        {"n": [SETS, ("by way", "in csh", NONE, ("conflict", ["w_1"]))], "w_1": [SETS]},
+        "asks",
+        {},
+        ["csh load n", "csh load w_1", "csh unload n"],
+    ),
+    "that what another way asks rests": Case(
+        {"n": [("by way", "unloads", ("reads", model.NAMES, "is", "n", ADDS, NONE), NONE)]},
+        "asks",
+        {"P": "/q"},
+        TO_AND_FRO,
+    ),
+    # The mode is asked for in sh, and what csh would do isn't seen.
+    "that another way asks no more": Case(
+        {"n": [("by way", "unloads", ("by way", "in csh", ADDS, NONE), NONE)]},
+        "asks",
+        {"P": "/q"},
+        ["sh load n", "csh unload n"],
+    ),
+    "that what another way reads counts": Case(
+        {"n": [("by way", "unloads", ("reads", "V", "is there", ADDS, NONE), NONE)], "w_1": [SETS]},
+        "reads-used",
+        {"P": "/q"},
+        ["sh load n", "sh load w_1", "sh unload n"],
+    ),
+    # Where the other is loaded, the conflict isn't there.
+    "that a reader's conflicts don't free it": Case(
+        {
+            "n": [
+                ("reads", "V", "is", "", ("conflict", ["w_1"]), NONE),
+                ("reads", "V", "is", "x", ADDS, NONE),
+            ],
+            "w_1": [SETS],
+        },
+        "reads-used",
+        {},
+        ["sh load w_1", "sh load n", "sh unload w_1", "sh unload n"],
+    ),
+}
+
+
+def session_of(case):
+    """The session of a case, over its site."""
+    files = {f"/t/one/{name}": sentence.Module([(line, 0) for line in its]) for name, its in case.modules.items()}
+    tree = sentence.Tree(("/t/one",), files, {})
+    site = Site(tree, "/t/one", {})
+    session = Session(site, "", "sh", tree, {**case.start, MODULEPATH: "/t/one"}, [], 0)
+    for words in case.commands:
+        session.does(words)
+    return session
+
+
+def case_lost(case):
+    """What the session of a case loses, or none."""
+    try:
+        session_of(case).follow()
+    except Lost as lost:
+        return str(lost)
+    return None
+
+
+@pytest.mark.parametrize("case", CASES.values(), ids=CASES)
+def test_what_a_clause_keeps_from_being_certified(case):
+    modules = session_of(case).site.modules
+    others = dict.fromkeys(list(case.modules)[1:], "certified")
+    wanted = {"n": case.stands, **others}
+    same({one.name: standings.standing_of(one, modules) for one in modules}, wanted, "how the modules stand")
+    same(case_lost(case), None, "what is lost")
+
+
+def test_each_rare_clause_has_a_case():
+    true(set(standings.RARE) <= set(CASES) <= {*standings.RARE, *standings.CLAUSES}, "the clauses of the cases")
+
+
+@pytest.mark.parametrize("clause", CASES)
+def test_what_is_lost_without_the_clause(clause, monkeypatch, note):
+    monkeypatch.setattr(standings, "WITHOUT", clause)
+    lost = case_lost(CASES[clause])
+    true(lost, "something is lost")
+    note(f"without it {lost}")
+
+
+# Modules that ask for their way, and do no harm: what they say, set and add in each way, in each shell.
+
+HARMLESS = {
+    "n": [("by way", "loads", ("says", "hello"), ("says", "bye")), ("by way", "in csh", SETS, ("setenv", "V", "y"))],
+    "w_1": [
+        ("by way", "switches", ("says", "for another"), NONE),
+        ("by way", "in fish", ADDS, ("prepend-path", ":", "P", ["/q"])),
+    ],
+    "m/1": [
+        ("conflict", ["m"]),
+        ("gives", "shell", ("pushenv", "S")),
+        ("by way", "unloads", ("reads", "HOME", "is there", ("says", "at home"), NONE), NONE),
+    ],
+    "m/2": [("conflict", ["m"]), ("gives", "type", ("setenv", "T"))],
+}
+THROUGH = ["load n m/1", "switch n w_1", "switch m/1 m/2", "load n", "unload w_1", "switch m m/1", "purge"]
+
+
+@pytest.mark.parametrize("shell", sentence.SHELLS)
+def test_modules_that_ask_for_their_way(programs, product, tmp_path, shell):
+    top = sentence.emptied(tmp_path / "top")
+    directory = f"{top}/tree/one"
+    files = {f"{directory}/{name}": sentence.Module([(line, 0) for line in its]) for name, its in HARMLESS.items()}
+    site = Site(sentence.Tree((directory,), files, {}), directory, {"HOME": HOME})
+    start = sentence.in_a_shell({"HOME": HOME, "PWD": top, "P": "/q:/r", MODULEPATH: directory}, shell)
+    commands = [words.split() for words in THROUGH]
+    names = [name for name in TYPES if TYPES[name] == TYPES[shell]]
+    session = Session(site, product, shell, site.tree, start, commands, 0, names)
+    same([module.name for module in site.certified], sorted(HARMLESS, key=sentence.NAMES.index), "who is certified")
+    session.tree.write()
+    audited(programs["modaudit"], session)
+    sentence.follows(programs["modulecmd"], session, top)
+    same([status for *_, status in session.commands], [0] * len(THROUGH), "the statuses")
 
 
 # Which of those that clash are certified.
 
 
-
 def site_module(name, *records):
-    return SiteModule(name, f"/m/{name}", list(records))
+    return SiteModule(name, f"/m/{name}", standings.in_all_ways(records))
 
 
 LIB = [site_module(f"lib/{number:03}", ("prepend-path", ":", "PYTHONPATH", ["/x"])) for number in range(200)]

@@ -298,7 +298,7 @@ def sessions(draw, shell, top, product="", names=()):
         if name not in ways_of:
             start.update(draw(anything(name, shell, tree.dirs)))
     words = draw(several(st.one_of(commands, hands(ways_of, names)), 40))
-    return Session(product, ways_of, shell, tree, start, words, draw(ENDS))
+    return Session(product, ways_of, shell, tree, start, words, draw(ENDS), draw(sentence.callings(shell)))
 
 
 WAYS = {shell: st.one_of(*[sentence.ways(shell)] * 6, st.none()) for shell in sentence.SHELLS}

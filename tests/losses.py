@@ -15,9 +15,10 @@ import subprocess
 
 import pytest
 
-from tests import standings
+from tests import standings, ways
 from tests.harness import SECONDS, same, true
 from tests.standings import SiteModule
+from tests.ways import MODE, OTHER, SHELL, VARIABLE, Question, Ran
 
 SH = shutil.which("dash") or "/bin/sh"
 ENV = shutil.which("env")
@@ -77,6 +78,33 @@ ROWS = {
         ["asks"],
         ["load a", "unload a"],
         {"V": "/a:/1"},
+        {"V": "/a"},
+    ),
+    "an answer that the shell gives": Row(
+        {"a/1": "append-path V /[module-info shell]\n"},
+        ["asks"],
+        ["bash load a", "zsh unload a"],
+        {"V": "/a:/bash"},
+        {"V": "/a"},
+    ),
+    "an answer that a switch gives": Row(
+        {"a/1": "append-path V /[module-info mode switch]\n", "b/1": "setenv W x\n"},
+        ["asks", "certified"],
+        ["load a", "switch a b", "unload b"],
+        {"V": "/a:/0"},
+        {"V": "/a"},
+    ),
+    "conflicts that the shell gives": Row(
+        {"a/1": "setenv V x\nconflict [module-info shell]\n", "sh/1": "setenv V y\n"},
+        ["asks", "certified"],
+        ["zsh load a", "load sh", "unload a"],
+        {"V": None, "LOADEDMODULES": "sh/1", "_LMFILES_": "/m/sh/1"},
+    ),
+    "a variable that is read for the unload alone, and set there": Row(
+        {"a/1": "append-path V /[getenv W[module-info mode load]]\n", "b/1": "setenv W0 x\n"},
+        ["reads-used", "certified"],
+        ["load b", "load a", "unload a", "unload b"],
+        {"V": "/a:/"},
         {"V": "/a"},
     ),
     "an answer that another module gives": Row(
@@ -222,12 +250,14 @@ class Session:
         return text.replace("/m", os.fsdecode(self.folder.modules))
 
     def does(self, words):
-        """Runs a command, and has sh evaluate what it prints; or changes a variable by hand."""
+        """Runs a command, and has sh evaluate what it prints; or changes a variable by hand. A command may begin with the
+        name of a shell that is read as sh is."""
         if "=" in words:
             self.env.update([words.split("=")])
             return
+        call = words if words.split()[0] in ways.TYPES else f"sh {words}"
         done = subprocess.run(
-            [SH, "-c", f'text=$("$0" sh {words}) || exit 1; eval "$text"; exec {ENV} -0', os.fsdecode(self.folder.program)],
+            [SH, "-c", f'text=$("$0" {call}) || exit 1; eval "$text"; exec {ENV} -0', os.fsdecode(self.folder.program)],
             env=self.env,
             capture_output=True,
             text=True,
@@ -252,26 +282,48 @@ def test_the_start_or_what_is_loaded_is_lost(folder, row):
     true(session.env != {name: session.real(value) for name, value in session.start.items()}, "something is lost")
 
 
-# What the rows ask, and the answer where no variable is set, no module is loaded, and one is to be loaded.
-QUESTIONS = re.compile(r"\[((?:getenv|is-loaded|module-info) [^]]*)\]")
+# What the rows ask: a question without another one in it.
+QUESTIONS = re.compile(r"\[((?:getenv|is-loaded|module-info) [^][]*)\]")
 
 
-def asked_of(text):
-    """What the modulefiles of the rows ask, as `standings.py` has it."""
-    words = [question.split() for question in QUESTIONS.findall(text)]
-    return [(one[1], None) if one[0] == "getenv" else None for one in words]
+def question_of(words):
+    """A question, as `standings.py` has it."""
+    kind, *rest = words
+    if kind == "getenv":
+        return Question(VARIABLE, rest[0])
+    return Question({"mode": MODE, "shell": SHELL, "shelltype": SHELL}.get(rest[0], OTHER))
 
 
-def answer_of(question):
-    """What stands in place of a question where modules are judged."""
-    kind, *words = question[1].split()
-    return {"getenv": "".join(words[1:]), "is-loaded": "0", "module-info": "1"}[kind]
+def answer_of(words, way):
+    """What stands in place of a question where no variable is set and no module is loaded."""
+    kind, *rest = words
+    if kind != "module-info":
+        return "".join(rest[1:]) if kind == "getenv" else "0"
+    answers = {"mode": way.mode, "shell": way.shell, "shelltype": ways.TYPES[way.shell]}
+    if len(rest) == 1:
+        return answers[rest[0]]
+    is_second = rest == ["mode", "remove"] and way.mode == "unload" or rest == ["mode", "switch"] and way.in_switch
+    return str(int(answers[rest[0]] == rest[1] or is_second))
+
+
+def left_by(text):
+    """What the modulefiles of the rows leave in a way; one that reads what isn't set is refused."""
+
+    def left(way):
+        asked, answered = [], text
+        while found := QUESTIONS.search(answered):
+            words = found[1].split()
+            asked.append(question_of(words))
+            answered = answered[: found.start()] + answer_of(words, way) + answered[found.end() :]
+        return Ran(records_of(answered), asked, [], "unset" if "$env" in text else None)
+
+    return left
 
 
 def records_of(text):
-    """What the modulefiles of the rows leave; a refused one leaves nothing."""
+    """What lines without questions leave."""
     records = []
-    for line in QUESTIONS.sub(answer_of, text).splitlines():
+    for line in text.splitlines():
         kind, *words = line.split()
         if kind in ("append-path", "remove-path"):
             delim = words[1] if words[0] == "-d" else ":"
@@ -285,10 +337,7 @@ def records_of(text):
 
 @each_row
 def test_modules_stand_as_the_row_says(row):
-    modules = [
-        SiteModule(name, f"/m/{name}", records_of(text), asked_of(text), "unset" if "$env" in text else None)
-        for name, text in row.files.items()
-    ]
+    modules = [SiteModule(name, f"/m/{name}", left_by(text)) for name, text in row.files.items()]
     same([standings.standing_of(module, modules) for module in modules], row.stand, "how the modules stand")
 
 

@@ -91,10 +91,9 @@ ROWS = {
     "an empty file": ({"/m/a/1": ""}, [("a/1", "certified", "")]),
     # Questions: the first that doesn't keep its answer is the reason.
     "a question to what is loaded": ({"/m/a/1": "getenv HOME\nis-loaded b\n"}, [("a/1", "asks", "is-loaded b")]),
-    "a question to the mode": ({"/m/a/1": "if {[module-info mode load]} {}\n"}, [("a/1", "asks", "module-info mode load")]),
-    "a question to the shell": (
-        {"/m/a/1": "setenv V [getenv HOME][module-info shelltype]\nmodule-info shell\n"},
-        [("a/1", "asks", "module-info shelltype")],
+    "a question to what is loaded, beside the way": (
+        {"/m/a/1": "module-info shell\nis-loaded b\n", "/m/b/1": "is-loaded a\nmodule-info mode\n"},
+        [("a/1", "asks", "module-info shell"), ("b/1", "asks", "is-loaded a")],
     ),
     "a question to the typed name": ({"/m/a/1": "module-info specified\n"}, [("a/1", "asks", "module-info specified")]),
     "a question and a one-way record": ({"/m/a/1": "unsetenv V\nis-loaded\n"}, [("a/1", "asks", "is-loaded")]),
@@ -137,7 +136,155 @@ ROWS = {
             ("d/1", "certified", "reads MODULEPATH, _MODULES_ELSE"),
         ],
     ),
+    # The way is asked for, and what an unload undoes is the same: messages, values, ends of paths.
+    "a question to the mode": ({"/m/a/1": "if {[module-info mode load]} {}\n"}, [("a/1", "certified", "")]),
+    "a question to the shell": (
+        {"/m/a/1": "setenv V [getenv HOME][module-info shelltype]\nmodule-info shell\n"},
+        [("a/1", "certified", "reads HOME")],
+    ),
+    "a message at the load": (
+        {"/m/a/1": "if {[module-info mode load]} {puts stderr hello}\nsetenv V x\n"},
+        [("a/1", "certified", "")],
+    ),
+    "a message at the unload": (
+        {"/m/a/1": "if {[module-info mode remove]} {puts stderr bye}\nprepend-path P /b\n"},
+        [("a/1", "certified", "")],
+    ),
+    "a message in each mode": (
+        {"/m/a/1": "switch -- [module-info mode] {load {puts stderr hello} unload {puts stderr bye}}\npushenv S x\n"},
+        [("a/1", "certified", "")],
+    ),
+    "a message in a switch, in csh": (
+        {"/m/a/1": "if {[module-info mode switch] && [module-info shelltype csh]} {puts stderr hello}\nsetenv V x\n"},
+        [("a/1", "asks", "module-info mode switch")],
+    ),
+    "a message in csh, in a switch, of which both are asked for": (
+        {
+            "/m/a/1": "set in [module-info mode switch]\nset csh [module-info shelltype csh]\n"
+            "if {$in && $csh} {puts stderr hello}\nsetenv V x\n"
+        },
+        [("a/1", "certified", "")],
+    ),
+    "another value in csh": (
+        {"/m/a/1": "if {[module-info shelltype csh]} {setenv RC /c} else {setenv RC /s}\n"},
+        [("a/1", "certified", "")],
+    ),
+    "another value in each shell and mode": (
+        {"/m/a/1": "setenv RC [module-info shell]\npushenv S [module-info mode]\n"},
+        [("a/1", "certified", "")],
+    ),
+    "another end of a path in fish": (
+        {"/m/a/1": "if {[module-info shelltype] eq {fish}} {append-path P /b} else {prepend-path P /b}\n"},
+        [("a/1", "certified", "")],
+    ),
+    "conflicts, needs and elements out at the unload alone": (
+        {
+            "/m/a/1": "if {[module-info mode unload]} {\nconflict b\nprereq b\nmodule-whatis x\nremove-path P /b\n}\n"
+            "setenv V x\n",
+            "/m/b/1": "",
+        },
+        [("a/1", "certified", ""), ("b/1", "certified", "")],
+    ),
+    "versions in conflict that say something": (
+        {
+            "/m/a/1": "conflict a\nsetenv V x\nif {[module-info mode load]} {puts stderr hello}\n",
+            "/m/a/2": "conflict a\nsetenv V y\nmodule-info shell\n",
+        },
+        [("a/1", "certified", ""), ("a/2", "certified", "")],
+    ),
+    # The way is asked for, and makes a difference.
+    "an element at the load alone": (
+        {"/m/a/1": "if {[module-info mode load]} {prepend-path P /b}\n"},
+        [("a/1", "asks", "module-info mode load")],
+    ),
+    "a variable that is set in a switch alone": (
+        {"/m/a/1": "if {[module-info mode switch]} {setenv V x}\n"},
+        [("a/1", "asks", "module-info mode switch")],
+    ),
+    "an element by the mode": (
+        {"/m/a/1": "append-path P /[module-info mode]\n"},
+        [("a/1", "asks", "module-info mode")],
+    ),
+    "an element by the shell": (
+        {"/m/a/1": "getenv HOME\nappend-path P /[module-info shell]\n"},
+        [("a/1", "asks", "module-info shell")],
+    ),
+    "records in another order": (
+        {"/m/a/1": "if {[module-info mode load]} {setenv V x\nsetenv W x} else {setenv W x\nsetenv V x}\n"},
+        [("a/1", "asks", "module-info mode load")],
+    ),
+    "another value that csh unsets": (
+        {"/m/a/1": "if {[module-info shelltype csh]} {unsetenv V x} else {unsetenv V y}\n"},
+        [("a/1", "asks", "module-info shelltype csh")],
+    ),
+    "another conflict in csh": (
+        {"/m/a/1": "if {[module-info shelltype csh]} {conflict b} else {conflict c}\n", "/m/b/1": "", "/m/c/1": ""},
+        [("a/1", "asks", "module-info shelltype csh"), ("b/1", "certified", ""), ("c/1", "certified", "")],
+    ),
+    "conflicts in another order in zsh": (
+        {"/m/a/1": "if {[module-info shell zsh]} {conflict b c} else {conflict c b}\n", "/m/b/1": "", "/m/c/1": ""},
+        [("a/1", "asks", "module-info shell zsh"), ("b/1", "certified", ""), ("c/1", "certified", "")],
+    ),
+    "no conflict in a switch": (
+        {"/m/a/1": "if {![module-info mode switch]} {conflict b}\n", "/m/b/1": ""},
+        [("a/1", "asks", "module-info mode switch"), ("b/1", "certified", "")],
+    ),
+    "an unload that is refused": (
+        {"/m/a/1": "if {[module-info mode unload]} {error x}\nsetenv V x\n"},
+        [("a/1", "asks", "module-info mode unload")],
+    ),
+    "a shell in which the file stops": (
+        {"/m/a/1": "if {[module-info shelltype fish]} {exit}\nsetenv V x\n"},
+        [("a/1", "asks", "module-info shelltype fish")],
+    ),
+    "a question to what is loaded at the unload alone": (
+        {"/m/a/1": "if {[module-info mode unload] && [is-loaded b]} {puts stderr bye}\n"},
+        [("a/1", "asks", "module-info mode unload")],
+    ),
+    "a question to the shell at the unload alone": (
+        {"/m/a/1": "if {[module-info mode unload]} {module-info shell}\n"},
+        [("a/1", "asks", "module-info mode unload")],
+    ),
+    "a question to the mode in csh alone": (
+        {"/m/a/1": "if {[module-info shelltype csh]} {module-info mode}\n"},
+        [("a/1", "asks", "module-info shelltype csh")],
+    ),
+    "a load in csh that no unload undoes": (
+        {"/m/a/1": "if {[module-info shelltype csh]} {unsetenv V}\n"},
+        [("a/1", "asks", "module-info shelltype csh")],
+    ),
+    "a question to the mode and a one-way record": (
+        {"/m/a/1": "module-info mode\nunsetenv V\n"},
+        [("a/1", "asks", "module-info mode")],
+    ),
+    "a variable that csh sets, where it is read": (
+        {"/m/a/1": "setenv V x\nif {[module-info shelltype csh]} {getenv V}\n"},
+        [("a/1", "asks", "module-info shelltype csh")],
+    ),
     # Variables that are read.
+    "a variable that is read at the unload alone": (
+        {"/m/a/1": "if {[module-info mode unload]} {getenv W}\nsetenv V x\n"},
+        [("a/1", "certified", "reads W")],
+    ),
+    "variables that are read in some ways alone": (
+        {"/m/a/1": "getenv A\nif {[module-info mode unload]} {getenv C}\nif {[module-info mode switch]} {getenv B}\n"},
+        [("a/1", "certified", "reads A, B, C")],
+    ),
+    "a variable that is read at the unload alone, and used elsewhere": (
+        {"/m/a/1": "if {[module-info mode unload]} {getenv W}\nsetenv V x\n", "/m/b/1": "setenv W x\n"},
+        [("a/1", "reads-used", "W: read here, used in b/1 (/m/b/1)"), ("b/1", "certified", "")],
+    ),
+    "a variable that is read in fish alone, and used elsewhere": (
+        {"/m/a/1": "if {[module-info shelltype fish]} {getenv P}\n", "/m/b/1": "append-path P /b\n"},
+        [("a/1", "reads-used", "P: read here, used in b/1 (/m/b/1)"), ("b/1", "certified", "")],
+    ),
+    "a reader whose own conflict goes with what it reads": (
+        {
+            "/m/a/1": "if {[getenv A] eq {}} {conflict b}\nif {[getenv A] eq {x}} {append-path P /q}\n",
+            "/m/b/1": "setenv A x\n",
+        },
+        [("a/1", "reads-used", "A: read here, used in b/1 (/m/b/1)"), ("b/1", "certified", "")],
+    ),
     "a variable that is read": ({"/m/a/1": "setenv V /s/[getenv USER]\n"}, [("a/1", "certified", "reads USER")]),
     "variables that are read, each once": (
         {"/m/a/1": "getenv B\ngetenv A\ngetenv B x\ncatch {set x $env(C)}\ninfo exists env(D)\ngetenv C\n"},
@@ -384,6 +531,17 @@ ROWS = {
     "a directory that a module adds which asks": (
         {"/m/a/1": "append-path MODULEPATH /n\nis-loaded b\n", "/n/b/1": "setenv V y\n"},
         [("a/1", "asks", "is-loaded b")],
+    ),
+    "a directory that a module adds which says something": (
+        {
+            "/m/a/1": "append-path MODULEPATH /n\nif {[module-info mode load]} {puts stderr hello}\n",
+            "/n/b/1": "setenv V y\n",
+        },
+        [("a/1", "certified", ""), ("b/1", "certified", "")],
+    ),
+    "a directory by the shell": (
+        {"/m/a/1": "append-path MODULEPATH /n/[module-info shell]\n", "/n/sh/b/1": ""},
+        [("a/1", "asks", "module-info shell")],
     ),
     "a directory that a module adds which reads": (
         {"/m/a/1": "append-path MODULEPATH /n\ngetenv HOME\n", "/n/b/1": "setenv V y\n"},
@@ -771,7 +929,7 @@ def test_the_document_says_the_same(folder):
     files = {
         "/m/a/1": "setenv V x\nunsetenv W y\nappend-path -d , P /b\npushenv S z\nconflict q\n",
         "/m/a/.version": "nope\n",
-        "/m/b/1": "getenv HOME\nmodule-info mode load\n",
+        "/m/b/1": "getenv HOME\nappend-path B /[module-info mode load]\n",
         "/m/c/1": "unsetenv V\n",
         "/m/d/1": "setenv D 1\npushenv D 2\n",
         "/m/e/1": "setenv E 1\n",
@@ -1077,11 +1235,11 @@ def test_the_modulefiles_of_sites(folder):
 OF_SITES = {
     "clang/17": "certified",
     "gcc/13.2.0": "certified",
-    "greeting/1": "asks",
+    "greeting/1": "certified",
     "hdf5/1.14": "certified",
     "openmpi/4.1.6": "certified",
     "plugins/2.3": "refused",
-    "profile/1": "asks",
+    "profile/1": "certified",
     "python/3.11.6": "one-way",
     "solver/2024": "certified",
     "toolbox/5.0": "certified",

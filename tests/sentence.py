@@ -6,6 +6,10 @@ the exported variables of the shell are those that a model makes (`runs.py` has 
 refusals stand here, from the rules in the crates' pages), standard error and the status too; and after the last one
 `env -0` writes what it wrote at the start, but for the order of its entries.
 
+Some modules ask for what they are evaluated, and for which shell, and leave in each way what undoes the same: each
+command of a session calls the program by the name of a shell of its family, so that a module is loaded for one and
+unloaded for another.
+
 In tcsh and fish PATH and LANG stay, since these shells change what they hold, and in tcsh a change whose value has a newline
 is refused.
 """
@@ -21,8 +25,10 @@ from hypothesis import given
 from hypothesis import strategies as st
 
 from tests import runs as model
+from tests import ways as evaluations
 from tests.harness import same, true
 from tests.properties import SPELLINGS, Spelling, examples, several
+from tests.ways import TYPES, VARIABLE, Question, Ran, Way
 
 SHELLS = {"sh": [shutil.which("dash") or "/bin/sh"], "tcsh": ["tcsh", "-f"], "fish": ["fish", "--no-config"]}
 ENV = shutil.which("env")
@@ -100,37 +106,41 @@ def command(spelling, words):
 
 
 class Module:
-    """A modulefile: its lines, what they record where no variable is set, what it says, and its text. Each line comes
-    with how it is spelled."""
+    """A modulefile: its lines, each of which comes with how it is spelled, and its text."""
 
     def __init__(self, lines):
         self.lines = [line for line, _ in lines]
-        self.records = [record for line in self.lines if (record := record_of(line, {}))]
-        self.said = "".join(f"{line[1]}\n" for line in self.lines if line[0] == "says")
-        self.fault = "Stopped by the modulefile" if any(line[0] == "exits" for line in self.lines) else None
-        self.text = "#%Module\n" + "".join(text_of(line, Spelling(number)) for line, number in lines)
-        self.text += "exit\n" if self.fault else ""
+        text = "".join(text_of(line, Spelling(number)) for line, number in lines)
+        self.text = "#%Module\n" + text + (LAST if OTHER_LINES["exits"] in text else "")
 
-    def evaluated(self, name, env):
-        """What a load in an environment records, and what it asks: each variable that it reads with its value, and none
-        for what isn't about a variable."""
-        env, records, asked = dict(env), [], []
+    def evaluated(self, name, env, way):
+        """What is left by its evaluation in a way over an environment, which its records change."""
+        ran, stops = Ran([], [], []), False
         for line in self.lines:
-            if line[0] == "asks":
-                asked.append(None)
-            if read_by(line):
-                asked.append((read_by(line), env.get(read_by(line))))
-            record = record_of(line, env)
+            line = reached(line, env, way, ran.asked)
+            record = record_of(line, env, way)
             if record:
-                model.load_record(env, name, record)
-                records.append(record)
-        return records, asked
+                edits(env, way, name, record)
+                ran.records.append(record)
+            ran.said.extend([f"{line[1]}\n"] if line[0] == "says" else [])
+            stops = stops or line[0] == "exits"
+        return ran._replace(fault="Stopped by the modulefile" if stops else None)
 
 
-# Lines that record nothing, and how they are written. A modulefile exits at its end.
-OTHER_LINES = {"says": "puts stderr {{{}}}\n", "asks": "{}\n", "exits": "", "nothing": ""}
+def edits(env, way, name, record):
+    """Has a record do what it does where its module is loaded, or unloaded."""
+    try:
+        (model.load_record if way.mode == "load" else model.unload_record)(env, name, record)
+    except model.Refused as refused:
+        said = {"a counter is full": "Counter of '{}' is full", "no stack": "Bad stack of '{}'"}[str(refused)]
+        raise Refusal(said.format(model.named(record))) from refused
 
-# Lines that read a variable: `reads` has one record where the variable is so, and else another one; `takes` has one
+
+# Lines that record nothing, and how they are written. One that exits has the file do so at its end.
+OTHER_LINES = {"says": "puts stderr {{{}}}\n", "asks": "{}\n", "exits": "set stops 1\n", "nothing": ""}
+LAST = "if {[info exists stops]} exit\n"
+
+# Lines that read a variable: `reads` has one line where the variable is so, and else another one; `takes` has a record
 # with its value in it. The conditions are written over the name and a word.
 CONDITIONS = {
     "is": ("[getenv {}] eq {{{}}}", lambda value, text: (value or "") == text),
@@ -139,36 +149,82 @@ CONDITIONS = {
     "is none": ("[getenv {} none] eq {{none}}", lambda value, _: value in (None, "none")),
 }
 
+# Lines that ask for the way: `by way` has one line where a condition of `ways.py` holds, and else another one; `gives`
+# has a record with an answer in it. These are lines with a condition.
+CONDITIONAL = ("reads", "by way")
 
-def read_by(line):
-    """The variable that a line reads, or none."""
-    return line[1] if line[0] in ("reads", "takes") else None
+
+def is_met(line, env, way):
+    """Whether the condition of a line holds."""
+    if line[0] == "by way":
+        return evaluations.CONDITIONS[line[1]].holds(way)
+    _, name, how, text, *_ = line
+    return CONDITIONS[how][1](env.get(name), text)
 
 
-def record_of(line, env):
-    """What a line records in an environment, or none."""
-    if line[0] == "reads":
-        _, name, how, text, one, other = line
-        return one if CONDITIONS[how][1](env.get(name), text) else other
+def question_of(line, env):
+    """What a line asks for, or none."""
+    kind = line[0]
+    if kind in ("reads", "takes"):
+        return Question(VARIABLE, line[1], env.get(line[1]))
+    if kind == "by way":
+        return Question(evaluations.CONDITIONS[line[1]].of)
+    if kind == "gives":
+        return Question(evaluations.ANSWERS[line[1]].of)
+    return line[2] if kind == "asks" else None
+
+
+def reached(line, env, way, asked):
+    """The line without a condition that is evaluated in place of a line. What is asked is added to a list."""
+    while line[0] in CONDITIONAL:
+        asked.append(question_of(line, env))
+        line = line[-2] if is_met(line, env, way) else line[-1]
+    asked += [question for question in [question_of(line, env)] if question]
+    return line
+
+
+def record_of(line, env, way):
+    """What a line without a condition records, or none."""
     if line[0] == "takes":
         _, name, (kind, *rest) = line
         value = env.get(name, "")
         return (kind, *rest, f"{value}/bin".split(rest[0])) if kind.endswith("path") else (kind, *rest, value)
+    if line[0] == "gives":
+        _, answer, (kind, *rest) = line
+        value = evaluations.ANSWERS[answer].says(way)
+        if kind == "conflict":
+            return kind, [value]
+        return (kind, *rest, value.split(rest[0])) if kind.endswith("path") else (kind, *rest, value)
     return None if line[0] in OTHER_LINES else line
 
 
 def text_of(line, spelling):
-    if line[0] == "reads":
-        _, name, how, text, *records = line
-        one, other = (text_of(record, spelling) for record in records)
-        return f"if {{{CONDITIONS[how][0].format(name, text)}}} {{\n{one}}} else {{\n{other}}}\n"
+    if line[0] in CONDITIONAL:
+        one, other = (text_of(part, spelling) for part in line[-2:])
+        return f"if {{{condition_of(line)}}} {{\n{one}}} else {{\n{other}}}\n"
     if line[0] == "takes":
         _, name, (kind, *rest) = line
-        words = [kind, *(option(spelling, rest[0]) if kind.endswith("path") else []), rest[-1]]
-        return f"{' '.join(word(spelling, one) for one in words)} [getenv {name}]{'/bin' * kind.endswith('path')}\n"
+        return f"{head_of(spelling, kind, rest)} [getenv {name}]{'/bin' * kind.endswith('path')}\n"
+    if line[0] == "gives":
+        _, answer, (kind, *rest) = line
+        return f"{head_of(spelling, kind, rest)} {evaluations.ANSWERS[answer].text}\n"
     if line[0] in OTHER_LINES:
         return OTHER_LINES[line[0]].format(*line[1:])
     return command(spelling, words_of(spelling, line))
+
+
+def condition_of(line):
+    """How the condition of a line is written."""
+    if line[0] == "by way":
+        return evaluations.CONDITIONS[line[1]].text
+    _, name, how, text, *_ = line
+    return CONDITIONS[how][0].format(name, text)
+
+
+def head_of(spelling, kind, rest):
+    """The words of a command before its value."""
+    words = [kind, *(option(spelling, rest[0]) if kind.endswith("path") else []), *rest[-1:]]
+    return " ".join(word(spelling, one) for one in words)
 
 
 # Search.
@@ -274,13 +330,13 @@ def places(dirs):
 
 
 @st.composite
-def trees(draw, dirs, lines, conflicts=None):
+def trees(draw, dirs, lines, shared=None):
     """A tree in these directories, drawn line by line: each has its place, its record and how that is spelled. All
-    modules of some folders have a conflict."""
+    modules of some folders share a line."""
     modules, defaults = {}, {}
     for path, *line in draw(several(lines, 64)):
-        shared = (conflicts or {}).get(folder_of(path))
-        modules.setdefault(path, [(("conflict", shared), 0)] if shared else []).append(line)
+        its = (shared or {}).get(folder_of(path))
+        modules.setdefault(path, [(its, 0)] if its else []).append(line)
     for path, name, at in draw(default_files(dirs)):
         folder = folder_of(f"{path}/")
         defaults[path] = (name, folder, FOLDERS[folder][at % len(FOLDERS[folder])])
@@ -304,14 +360,16 @@ def needs_name(name):
 
 
 class Step:
-    """One command over an environment, and which modules it loads and unloads."""
+    """One command over an environment: which modules it loads and unloads, and what each that it loads records."""
 
     def __init__(self, tree, env):
         self.tree = tree
         self.start = model.loaded_in(env)
         self.env = dict(env)
-        self.said = ""
+        self.shell, self.in_switch = None, False
+        self.said = []
         self.moves = []
+        self.left = {}
 
     def loads(self):
         return [(name, path) for kind, name, path in self.moves if kind == "load"]
@@ -321,21 +379,15 @@ class Step:
 
     def edited(self, kind, name, path):
         """Loads or unloads a module, and gives what it records."""
-        module, records = self.tree.modules[path], []
-        for record in (record_of(line, self.env) for line in module.lines):
-            if record is None:
-                continue
-            records.append(record)
-            try:
-                (model.load_record if kind == "load" else model.unload_record)(self.env, name, record)
-            except model.Refused as refused:
-                said = {"a counter is full": "Counter of '{}' is full", "no stack": "Bad stack of '{}'"}[str(refused)]
-                raise Refusal(said.format(model.named(record))) from refused
-        self.said += module.said
-        if module.fault:
-            raise Refusal(module.fault)
+        way = Way(kind, self.in_switch, self.shell)
+        ran = self.tree.modules[path].evaluated(name, self.env, way)
+        if ran.fault:
+            raise Refusal(ran.fault)
+        self.said += ran.said
         self.moves.append((kind, name, path))
-        return records
+        if kind == "load":
+            self.left[name, path] = ran.records
+        return ran.records
 
     def load(self, name):
         needs_name(name)
@@ -384,7 +436,7 @@ class Step:
                 raise Refusal(f"Still needed by '{name}'")
 
     def make(self, words):
-        subcommand, *names = words
+        self.shell, subcommand, *names = words
         if subcommand in ("load", "add"):
             for name in names:
                 self.load(name)
@@ -392,6 +444,7 @@ class Step:
             for name in names:
                 self.unload(name)
         elif subcommand in ("switch", "swap"):
+            self.in_switch = True
             self.unload(names[0] if len(names) == 2 else names[0].split("/")[0])
             self.load(names[-1])
         else:
@@ -476,12 +529,46 @@ def directories(top):
     return tuple(f"{top}/tree/{name}" for name in ("one", "two", "three"))
 
 
+@functools.cache
+def callings(shell=None):
+    """By which names of shells the commands of a session call the program, in turn: those that are read as this one is,
+    or any."""
+    names = [name for name, kind in TYPES.items() if shell is None or kind == TYPES[shell]]
+    return st.lists(st.sampled_from(names), min_size=1, max_size=3).map(tuple)
+
+
+BY_WAY = st.sampled_from(list(evaluations.CONDITIONS))
+ANSWERS = st.sampled_from(list(evaluations.ANSWERS))
+
+
+@st.composite
+def twins(draw, records):
+    """A line that has one of these records in some ways, and in the others one that undoes the same."""
+    one = draw(records)
+    other = (*one[:-1], draw(st.sampled_from(WORDS))) if one[0] in ("setenv", "pushenv") else one
+    if one[0] in ("prepend-path", "append-path"):
+        other = (draw(st.sampled_from(["prepend-path", "append-path"])), *one[1:])
+    return "by way", draw(BY_WAY), one, other
+
+
+def by_ways(ways_of, dirs):
+    """Lines that ask for the way, and undo the same in each: where variables are used so."""
+    nothing, fixed = st.just(("nothing",)), {("stack",): "pushenv", ("fixed", None): "setenv"}
+    unseen = st.one_of(QUIET, model.needs(NEEDED))
+    given = [(fixed[way], name) for name, way in ways_of.items() if way in fixed]
+    return [
+        *(twins(records(name, way, dirs)) for name, way in ways_of.items()),
+        st.tuples(st.just("by way"), BY_WAY, unseen, nothing),
+        st.tuples(st.just("gives"), ANSWERS, st.sampled_from([*given, ("conflict",)])),
+    ]
+
+
 @st.composite
 def grounds(draw, shell, top, ways_of):
     """A tree and a start, whose modules use variables in these ways, and strategies of commands over them."""
     dirs = directories(top)
     kinds = [QUIET, *(records(name, way, dirs) for name, way in ways_of.items()), model.needs(NEEDED)]
-    tree = draw(trees(dirs, st.tuples(places(dirs), st.one_of(*kinds), SPELLINGS)))
+    tree = draw(trees(dirs, st.tuples(places(dirs), st.one_of(*kinds, *by_ways(ways_of, dirs)), SPELLINGS)))
     start = {**draw(starts(ways_of, dirs, shell)), "PWD": top}
     names = st.sampled_from(tree.names() * 2 + ODD_NAMES)
     return tree, start, commands(names, not model.loaded_in(start))
@@ -491,31 +578,36 @@ def grounds(draw, shell, top, ways_of):
 def sessions(draw, shell, top):
     ways_of = {name: draw(ways(shell)) for name in variables(shell)} | {"MODULEPATH": ("path", ":")}
     tree, start, its_commands = draw(grounds(shell, top, ways_of))
-    return Reversible(ways_of, shell, tree, start, draw(several(its_commands, 28)), draw(ENDS))
+    words = draw(several(its_commands, 28))
+    return Reversible(ways_of, shell, tree, start, words, draw(ENDS), draw(callings(shell)))
 
 
-def is_apart(tree, modules):
-    """No two of the modules fix one variable."""
+def is_apart(modules):
+    """No two of the modules, each by what it recorded, fix one variable."""
     kinds = ("setenv", "unsetenv")
-    fixed = [{model.named(r) for r in tree.modules[path].records if r[0] in kinds} for _, path in modules]
+    fixed = [{model.named(r) for r in records if r[0] in kinds} for records in modules]
     return all(not one & other for at, one in enumerate(fixed) for other in fixed[at + 1 :])
 
 
 class Session:
     """A tree, a start, and commands, with what each that is taken has to do. The bits of the ends say which of the modules
-    that are left are unloaded one by one. What it begins with stays the start, but for changes by hand."""
+    that are left are unloaded one by one. What it begins with stays the start, but for changes by hand. Commands call the
+    program by these names of shells in turn, and the last ones by that of the shell."""
 
-    def __init__(self, shell, tree, start, words, ends):
+    def __init__(self, shell, tree, start, words, ends, called=()):
         self.shell = shell
         self.tree = tree
         self.begun = self.start = self.env = start
         self.words = words
         self.ends = ends
+        self.called = called or (shell,)
         self.old = model.loaded_in(start)
         self.commands = []
+        # What each module recorded that was loaded, by its name and path.
+        self.left = {}
 
     def __repr__(self):
-        return f"{self.words} from {self.begun} with {self.tree}"
+        return f"{self.words} in {self.called} from {self.begun} with {self.tree}"
 
     def opening(self):
         """The lines of the shell before the first command."""
@@ -523,7 +615,7 @@ class Session:
 
     def line(self, words, program, top, at):
         """How the shell runs a command, keeps what it says and its status, and evaluates its text."""
-        call = " ".join(quoted(self.shell, one) for one in [program, self.shell, *words])
+        call = " ".join(quoted(self.shell, one) for one in [program, *words])
         return LINES[self.shell].format(call=call, top=top, at=at)
 
     def follow(self):
@@ -531,9 +623,9 @@ class Session:
             self.take(words)
         for at, (name, _) in enumerate(reversed(self.live())):
             if self.ends >> at & 1:
-                self.take(["unload", name])
+                self.does([self.shell, "unload", name])
         if self.live():
-            self.take(["unload", *(name for name, _ in reversed(self.live()))])
+            self.does([self.shell, "unload", *(name for name, _ in reversed(self.live()))])
         if self.env != self.start:
             raise Lost("the last unload doesn't leave the start")
 
@@ -541,30 +633,38 @@ class Session:
         """The names and paths of the modules that this session loaded and that are loaded still, oldest first."""
         return [(name, path) for name, path, *_ in model.loaded_in(self.env)[len(self.old) :]]
 
+    def live_modules(self):
+        """The same, each with what it recorded when it was loaded."""
+        return [(*place, self.left[place]) for place in self.live()]
+
     def take(self, words):
-        """Adds a command, but one that doesn't fit."""
-        before, step = self.env, Step(self.tree, self.env)
+        """Calls the program by the name of a shell."""
+        self.does([self.called[len(self.commands) % len(self.called)], *words])
+
+    def does(self, words):
+        """Adds a command, which begins with the name of a shell, but one that doesn't fit."""
+        before, step = (self.env, self.left), Step(self.tree, self.env)
         try:
             step.make(words)
         except Refusal as refusal:
-            self.commands.append((words, before, f"ERROR: {refusal}\n", 1))
+            self.commands.append((words, self.env, f"ERROR: {refusal}\n", 1))
             return
-        self.env = step.env
-        if not self.is_fit(before, step):
-            self.env = before
+        self.env, self.left = step.env, {**self.left, **step.left}
+        if not self.is_fit(before[0], step):
+            self.env, self.left = before
             return
         self.stands(words)
-        unsaid = self.unsaid(before)
+        unsaid = self.unsaid(before[0], words[0])
         if unsaid:
-            self.env = before
-            self.commands.append((words, before, f"ERROR: Value of '{unsaid}' can't be said in this shell\n", 1))
+            self.env, self.left = before
+            self.commands.append((words, self.env, f"ERROR: Value of '{unsaid}' can't be said in this shell\n", 1))
             return
-        self.commands.append((words, self.env, step.said, 0))
+        self.commands.append((words, self.env, "".join(step.said), 0))
 
-    def unsaid(self, before):
+    def unsaid(self, before, shell):
         """The first variable whose new value the shell has no text for, or none."""
         changed = [name for name, value in self.env.items() if before.get(name) != value]
-        return min([name for name in changed if "\n" in self.env[name]], default=None) if self.shell == "tcsh" else None
+        return min((name for name in changed if "\n" in self.env[name] and TYPES[shell] == "csh"), default=None)
 
 
 class Reversible(Session):
@@ -576,10 +676,7 @@ class Reversible(Session):
 
     def is_fit(self, before, step):
         """The modules that are loaded stay apart."""
-        return is_apart(self.tree, {*step.loads(), *self.live()})
-
-    def live_modules(self):
-        return [(name, path, self.tree.modules[path].records) for name, path in self.live()]
+        return is_apart([self.left[place] for place in {*step.loads(), *self.live()}])
 
     def stands(self, words):
         lost = model.lost_at(self.ways, self.start, self.live_modules(), self.env)

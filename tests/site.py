@@ -22,7 +22,7 @@ COOKIE = "#%Module"
 PLACE = re.compile(r"((?:compiler|mpi)/[^/]+|[^/]+)/(.+)")
 COUNTS = re.compile(
     r"Of these (\d+) modulefiles the profile admits (\d+), "
-    r".* and of these (\d+) are certified\. (\d+) of the others do no harm"
+    r".* and of these (\d+) are certified\. (\d+) of the others do(?:es)? no harm"
 )
 
 # What is said of a module, besides what comes of it, and that.
@@ -213,9 +213,9 @@ def said_of(module):
 
 
 def wanted_of(file):
-    """The same by what is written, or none of one that isn't seen."""
-    standing = {"outside": "refused", "unseen": None}.get(file.standing, file.standing)
-    return standing and (standing, *map(file.only, ("reads", "asks", "used")))
+    """The same by what is written."""
+    standing = "refused" if file.standing == "outside" else file.standing
+    return standing, *map(file.only, ("reads", "asks", "used"))
 
 
 @each_site
@@ -226,9 +226,8 @@ def test_how_the_modules_stand(site, written, note):
     wanted = {laid.real(f"{written.root}/{file.path}"): wanted_of(file) for file in written.modules}
     wrong = {path: (stand.get(path), word) for path, word in wanted.items() if stand.get(path) != word}
     same(wrong, {}, "modules that stand otherwise, as they are found and as they are wanted")
-    seen = [path for path in wanted if wanted[path]]
-    same(sorted(stand), sorted(seen), "the modules that are found")
-    counts = (len(written.certified), len(seen))
+    same(sorted(stand), sorted(wanted), "the modules that are found")
+    counts = (len(written.certified), len(wanted))
     same((found["certified"], found["count"]), counts, "how many are certified, and how many are there")
     same(found["disagreements"], [], "what the start has against the certificate")
     admitted = len(written.modules) - len(written.outside)

@@ -3,11 +3,13 @@
 It is written from the rules in the crates' pages (sites, certificates), and shares nothing with the definitions that
 the prover reads nor with the programs. `runs.py` has the edits of environments.
 
-A use of a variable is what `runs.py` calls a way: ("fixed", None) where a module sets it, ("fixed", value) where it
-unsets this value, ("path", delimiter), or ("stack",).
+A module's file is a function of the way in which it is evaluated (`ways.py`), in the environment of the audit. A use of
+a variable is what `runs.py` calls a way: ("fixed", None) where a module sets it, ("fixed", value) where it unsets this
+value, ("path", delimiter), or ("stack",).
 """
 
 from tests import runs as model
+from tests.ways import FIRST, MODE, SHELL, VARIABLE, Ran, asked_for, other_ways
 
 MODULEPATH = "MODULEPATH"
 COLONS = ("path", ":")
@@ -28,12 +30,23 @@ CLAUSES = (
     "that versions of one name may be loaded at once",
     "that names match by their parts",
     "that modules are settled",
+    "that the ways undo alike",
+    "that loads are in conflict with the same names in each way",
+    "that another way asks no more",
+    "that what another way reads counts",
     "that a reader's own records don't name it",
     "that the tool's own variables aren't read",
     "that nobody uses what is read",
     "that the start agrees with what is loaded",
     "that the start has the value of the audit",
     "that hands leave what is read",
+)
+
+# Clauses without which random sites lose something too seldom: they have cases by hand alone.
+RARE = (
+    "that loads are undone in each way",
+    "that what another way asks rests",
+    "that a reader's conflicts don't free it",
 )
 
 # Of the choice among modules that clash, each with what it is for.
@@ -49,20 +62,32 @@ def is_without(clause):
 
 
 class SiteModule:
-    """A module of a site: its name, its file, what that leaves, what it asks (each variable that it reads with its
-    value, and none for anything else), and why it is refused, if it is."""
+    """A module of a site: its name, its file, and what this leaves in each way, in the environment of the audit. It is
+    evaluated in the first way, and in those that this evaluation asks for."""
 
-    def __init__(self, name, path, records, asked=(), fault=None):
+    def __init__(self, name, path, left):
         self.name = name
         self.path = path
-        self.records = records
-        self.asked = asked
-        self.fault = fault
+        self.first = left(FIRST)
+        self.others = {} if self.first.fault else {way: left(way) for way in other_ways(self.first.asked)}
+        # Whether it is settled, by what is left out of the definition.
+        self.settled = {}
+
+    @property
+    def records(self):
+        return self.first.records
 
     @property
     def reads(self):
-        """The variables that it reads, each with its value."""
-        return dict(filter(None, self.asked))
+        """The variables that its evaluations read, each with its value."""
+        others = [] if is_without("that what another way reads counts") else self.others.values()
+        asked = [question for ran in [self.first, *others] for question in ran.asked]
+        return {question.name: question.value for question in asked if question.of == VARIABLE}
+
+
+def in_all_ways(records, asked=(), fault=None):
+    """A file that leaves the same in each way."""
+    return lambda way: Ran(records, list(asked), [], fault)
 
 
 # One module.
@@ -103,23 +128,56 @@ def is_named(name, records):
     return not is_without("that a reader's own records don't name it") and name in map(model.named, records)
 
 
-def keeps_answer(question, records):
-    """It reads a variable that is none of the tool's, none that shells change, and none that the records name."""
-    if question is None:
+def rests(question, records):
+    """It is of the way, or reads a variable that is none of the tool's, none that shells change, and none that the
+    records name."""
+    if question.of == VARIABLE:
+        return not (is_of_tool(question.name) or question.name in OF_SHELLS or is_named(question.name, records))
+    return question.of in (MODE, SHELL)
+
+
+def load_alike(records, others):
+    """Loads that leave these are undone, and are in conflict with the same names."""
+    are_undone = is_without("that loads are undone in each way") or all(map(undone, others))
+    is_same = is_without("that loads are in conflict with the same names in each way")
+    return are_undone and (is_same or names_of_conflicts(records) == names_of_conflicts(others))
+
+
+def is_alike(way, ran, first):
+    """An evaluation in another way is accepted, and neither what it leaves nor what it asks makes a difference."""
+    if ran.fault is not None:
         return False
-    name, _ = question
-    return not is_of_tool(name) and name not in OF_SHELLS and not is_named(name, records)
+    all_rest = is_without("that what another way asks rests") or all(rests(one, ran.records) for one in ran.asked)
+    no_more = is_without("that another way asks no more") or asked_for(ran.asked) <= asked_for(first.asked)
+    is_undone = is_without("that the ways undo alike") or model.undo_alike(ran.records, first.records)
+    return all_rest and no_more and is_undone and (way.mode != "load" or load_alike(first.records, ran.records))
+
+
+def is_same_in_all_ways(module):
+    return all(is_alike(way, ran, module.first) for way, ran in module.others.items())
+
+
+def keeps_answer(question, module):
+    """It rests, and where it is of the way, the evaluations in the ways that are asked for are alike."""
+    return rests(question, module.records) and (question.of == VARIABLE or is_same_in_all_ways(module))
 
 
 def asks(module):
-    """A question of its file doesn't keep its answer."""
-    return not all(keeps_answer(question, module.records) for question in module.asked)
+    """A question of its first evaluation doesn't keep its answer."""
+    return not all(keeps_answer(question, module) for question in module.first.asked)
+
+
+def keeps_its_answers(module):
+    """It is accepted, each of its questions keeps its answer, and unloading undoes its records."""
+    if module.first.fault is not None:
+        return False
+    return is_without("that modules are settled") or (not asks(module) and all(map(undone, module.records)))
 
 
 def is_settled(module):
-    if module.fault is not None:
-        return False
-    return is_without("that modules are settled") or (not asks(module) and all(map(undone, module.records)))
+    if WITHOUT not in module.settled:
+        module.settled[WITHOUT] = keeps_its_answers(module)
+    return module.settled[WITHOUT]
 
 
 def steps_out(module):
@@ -140,12 +198,12 @@ def means(name, full_name):
     return full_name == name or full_name.startswith(name + "/")
 
 
-def conflict_names(module):
-    return [name for record in module.records if record[0] == "conflict" for name in record[1]]
+def names_of_conflicts(records):
+    return [name for record in records if record[0] == "conflict" for name in record[1]]
 
 
 def names_in_conflict(one, other):
-    return any(means(name, other.name) for name in conflict_names(one))
+    return any(means(name, other.name) for name in names_of_conflicts(one.records))
 
 
 def exclude(one, other):
@@ -186,6 +244,8 @@ def used_read(module, modules):
     if is_without("that nobody uses what is read"):
         return None
     others = [other for other in modules if is_settled(other) and not is_same(module, other)]
+    if is_without("that a reader's conflicts don't free it"):
+        others = [other for other in others if not exclude(module, other)]
     return next(((name, other) for name in module.reads for other in others if uses(other, name)), None)
 
 
@@ -206,7 +266,7 @@ def are_exclusive_versions(one, other):
     if is_without("the versions that exclude one another"):
         return False
     part = first_part(one.name)
-    return part in conflict_names(one) and part == first_part(other.name)
+    return part in names_of_conflicts(one.records) and part == first_part(other.name)
 
 
 def rivals(module, modules):
@@ -288,7 +348,7 @@ def site_modules(modulepath, modules_in):
 
 def standing_of(module, modules):
     """How a module of a site stands, in one word."""
-    if module.fault is not None:
+    if module.first.fault is not None:
         return "refused"
     if asks(module):
         return "asks"
