@@ -203,8 +203,8 @@ def add_environment_modules(machine):
     copy(tclsh, machine.root)
     for path in glob.glob("/usr/share/tcltk/tcl8*"):
         shutil.copytree(path, machine.root + path, symlinks=True)
-    used = "".join(f"module use --append {{{OLD}/{start}}}\n" for start in STARTS)
-    machine.write("/etc/environment-modules/initrc", f"#%Module5.0\n{used}")
+    machine.write("/etc/environment-modules/initrc", "#%Module5.0\n")
+    machine.write("/etc/environment-modules/modulespath", "".join(f"{OLD}/{start}\n" for start in STARTS))
     machine.write("/etc/profile.d/modules.sh", STARTED)
 
 
@@ -529,6 +529,7 @@ module load matlab GCCcore zlib/1.2.13-GCCcore-12.3.0; module unload gsl; module
 echo $LOADEDMODULES
 module purge
 env > $HOME/after
+true
 """
 LOADED = (
     "gcc/12.3.0:openblas/0.3.23:mvapich2/2.3.7:phdf5/1.14.1:netcdf/4.9.2:cmake/3.27.7:java/11.0.20:R/4.3.1:julia/1.9.3:"

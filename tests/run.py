@@ -75,6 +75,7 @@ SUITES = (
     "tcl/commands.py",
     "tcl/memory.py",
     "package.py",
+    "moved.py",
     "costs.py",
     "runs.py",
 )
