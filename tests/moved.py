@@ -17,14 +17,14 @@ import itertools
 import os
 import re
 import shutil
-import subprocess
 import tempfile
 import textwrap
 
+import package as packager
 import pytest
 
 from tests.harness import HERE, same, true
-from tests.package import PREFIX, Machine, copy, goes_well, make, needs_root, read
+from tests.package import PREFIX, Machine, copy, goes_well, needs_root, read
 
 TOP = os.path.dirname(HERE)
 
@@ -64,7 +64,7 @@ LONG = 300
 
 COOKIE = "#%Module"
 WRITTEN = {"Latin-1": "latin-1", "CR LF": "utf-8"}
-TOLD = {"alone", "refused", "needs", "says", "why", "lost", "alias", "written", "there", "older"}
+TOLD = {"alone", "refused", "needs", "says", "why", "lost", "alias", "reads", "written", "there", "older"}
 COUNTS = re.compile(r"^# (\d+) (.+)$", re.MULTILINE)
 PORT = re.compile(r"(translated|computed|dropped|left out): .+")
 
@@ -225,8 +225,8 @@ def add_archive(machine):
     os.makedirs(machine.root + HOME)
     version = page("VERSION").strip()
     with tempfile.TemporaryDirectory(prefix="modulecmd-archive-") as room:
-        make(room, version)
-        shutil.copy(os.path.join(room, f"modulecmd-{version}-x86_64-linux.tar.gz"), machine.root + HOME)
+        laid = packager.lay_out(room, version, packager.epoch())
+        packager.make_archive(laid, machine.root + HOME, packager.epoch())
 
 
 class Site(Machine):
@@ -409,7 +409,8 @@ def test_what_is_to_be_taken_away_is_found(tidied):
 @pytest.fixture(scope="module")
 def ported(machine, tidied):
     """What modport says of each directory, and with which status."""
-    (command,) = set(spans("$bin/modport FROM TO"))
+    command = "$bin/modport FROM TO"
+    true(command in spans("$bin/modport"), f"{command} is a command of the page")
     goes_well(["mkdir", "-p", f"{machine.root}{NEW}/compiler", f"{machine.root}{NEW}/mpi"])
     said = {}
     for directory in SITE.directories:
@@ -487,14 +488,40 @@ def test_the_comparison_of_the_translation(finished, judge_rows):
     judge_rows(len(named), wrong_rows(compares(finished, named, "~/ported"), wanted))
 
 
-# The audit.
+# The check and the audit.
+
+OVER = f"{BIN}export MODULEPATH={':'.join(f'{NEW}/{start}' for start in STARTS)}\n"
+VERDICTS = {"asks": "Asked", "one-way": "OneWay"}
+
+
+def checked(names):
+    """What the check of the page says of a line: of the one that refuses it, or of each module that isn't `Plain`. Where
+    nothing is loaded any more, those behind others can't be located."""
+    files = [SITE.named[name] for name in names.split()]
+    refused = next((file for file in files if file.standing == "refused"), None)
+    if refused:
+        yield f"{names} refused: {refused.only('why')}"
+        return
+    for file in files:
+        verdict = "Asked" if file.only("reads") else VERDICTS.get(file.standing)
+        if file.directory not in STARTS:
+            verdict = f"Unable to locate a modulefile for '{file.name}'"
+        if verdict:
+            yield f"{file.name}: {verdict}"
+
+
+def test_the_check(finished):
+    """Each load and each purge is accepted, but for what is refused by its name."""
+    lines = [" ".join(SITE.chain(file.name)) for file in SITE.modules]
+    finished.write(f"{HOME}/lines", "".join(f"{line}\n" for line in lines))
+    said = finished.types(OVER + block("while read -r name; do"))
+    same(said.splitlines(), [line for names in lines for line in checked(names)], "what the check says")
 
 
 def test_the_audit(finished, judge_rows):
     """Each module that isn't certified has the line that was typed, and the counts are those of the site."""
     (command,) = spans("$bin/modaudit --quiet")
-    path = ":".join(f"{NEW}/{start}" for start in STARTS)
-    said = finished.types(f"{BIN}export MODULEPATH={path}\n{command}\n")
+    said = finished.types(f"{OVER}{command}\n")
     rows = [line.split("\t") for line in said.splitlines() if not line.startswith("#")]
     found = {path: (name, standing, why) for name, standing, why, path in rows}
     others = [file for file in SITE.modules if file.standing != "certified"]
