@@ -2,9 +2,9 @@
 write them, are tried, compared, translated, compared again, audited and switched, step by step, by the commands of
 docs/SITES.md as they stand there.
 
-All is done in a folder that is a root of its own: shells, utilities, Environment Modules 5.2 with its Tcl, the site, and
-the archive of the product. Nothing outside of it is touched. What takes root, Tcl and Environment Modules isn't run
-without these.
+All is done in a folder that is a root of its own: shells, utilities, Environment Modules 5.2 with its Tcl, the site,
+and the archive of the product. Nothing outside of it is touched. Without root, Tcl or Environment Modules the suite
+isn't run.
 
 What a file comes to is typed by hand from modulefile(5), modport(1), modaudit(1) and the page. What an environment has
 to be Environment Modules says.
@@ -40,7 +40,9 @@ USER = {"PATH": "/usr/bin:/bin", "HOME": HOME, "USER": "you", "TERM": "dumb"}
 
 # Where Environment Modules is installed, or what the benchmarks unpacked of it, and what of its files is needed.
 PLACES = ("", os.path.join(TOP, "build/bench/environment-modules"))
-FILES = ("usr/lib/*/modulecmd.tcl", "usr/lib/*/libtclenvmodules.so", "usr/share/modules/init", "etc/environment-modules")
+FILES = (
+    "usr/lib/*/modulecmd.tcl", "usr/lib/*/libtclenvmodules.so", "usr/share/modules/init", "etc/environment-modules",
+)  # fmt: skip
 STARTED = ". /usr/share/modules/init/bash\n"
 
 # What the commands of the page take besides, and what modulefiles of the site run.
@@ -73,7 +75,7 @@ HAS_ALIASES = re.search(r"^\.It Ic set-alias", read(os.path.join(TOP, "man", "mo
 
 
 class File:
-    """A file of the site: its path below the site, how it stands once it is translated, what is said of it, its text."""
+    """A file of the site: its path, how it stands once it is translated, what is said of it, and its text."""
 
     def __init__(self, part):
         head, _, text = part.partition(COOKIE)
@@ -104,15 +106,15 @@ class File:
         ends = "\r\n" if self.only("written") == "CR LF" else "\n"
         return self.text.replace("\n", ends).encode(WRITTEN.get(self.only("written"), "utf-8"))
 
-    def line_of(self, said, time):
-        """The line of a command of which something is said for the second time, say: where it begins, in no body."""
+    def line_of(self, said, before):
+        """The line where a command begins, in no body, of which this is said; of so many before it it is said too."""
         kind, _, what = said.partition(": ")
         if what in WRITTEN:
             return 1
         lines = self.text.splitlines()
         word = re.escape(what.split(": ")[0] if kind == "computed" else what)
         found = [number for number, line in enumerate(lines) if re.search(rf"(?<![\w-]){word}(?!\w)", line)]
-        return max(number for number in range(found[time] + 1) if re.match(r"[^\s}]", lines[number])) + 1
+        return max(number for number in range(found[before] + 1) if re.match(r"[^\s}]", lines[number])) + 1
 
     def report(self):
         """The lines of the report about the file."""
@@ -257,6 +259,14 @@ def machine():
         yield Site(os.path.join(room, "machine"))
 
 
+def test_the_counts():
+    """There are as many modulefiles as the head says, each with a name of its own."""
+    same(re.search(r"\d+", SITE.head)[0], str(len(SITE.modules)), "the count of the head")
+    same(len(SITE.named), len(SITE.modules), "modules of different names")
+    reasons = [file.path for file in SITE.modules if file.only("why")]
+    same(reasons, [file.path for file in SITE.modules if file.standing != "certified"], "modules with a reason")
+
+
 # The product is tried, and the lists of the page are made.
 
 BIN = "bin=~/modulecmd/bin\n"
@@ -265,7 +275,8 @@ BIN = "bin=~/modulecmd/bin\n"
 @pytest.fixture(scope="module")
 def tried(machine):
     """The product in the home of who tries it, and what a shell says that has its functions."""
-    return machine.types(block("tar xzf") + "module load cmake gurobi; module list -t 2>&1; module purge; module list 2>&1\n")
+    commands = "module load cmake gurobi; module list -t 2>&1; module purge; module list 2>&1\n"
+    return machine.types(block("tar xzf") + commands)
 
 
 def test_one_shell_tries_the_program(tried):
@@ -293,8 +304,8 @@ def test_the_lists(lines):
 
 @dataclasses.dataclass(frozen=True)
 class Compared:
-    """How a line came out where Environment Modules and the program differ: what the program refuses it by, or the lines
-    that stand in one environment alone."""
+    """How a line came out where Environment Modules and the program differ: what the program refuses it by, or the
+    lines that stand in one environment alone."""
 
     refused: str | None
     differing: frozenset = frozenset()
@@ -302,7 +313,8 @@ class Compared:
 
 ALONE = "the program alone loads it"
 
-# The other default of a name, as the comparison shows it: Environment Modules takes GCC, which it spells as gcc.
+# The other default of a name, as the comparison shows it: Environment Modules has GCC behind foss, as it doesn't look
+# at capitals.
 DEFAULTS = {
     "BWA": frozenset(
         f"{side} {line}"
@@ -381,8 +393,8 @@ def chains():
 def test_the_comparison_of_the_site_as_it_is(machine, lines, judge_rows):
     """Each line is the same in both, or refused by what was typed."""
     named = [*lines, *chains()]
-    wanted = {names: as_it_is(names) for names in named}
-    judge_rows(len(named), wrong_rows(compares(machine, named, "~/modulecmd/bin"), {k: v for k, v in wanted.items() if v}))
+    wanted = {names: outcome for names in named if (outcome := as_it_is(names))}
+    judge_rows(len(named), wrong_rows(compares(machine, named, "~/modulecmd/bin"), wanted))
 
 
 # What the page has sites do by hand, and the translation.
@@ -429,11 +441,8 @@ def test_each_command_that_is_written_otherwise_or_left_has_a_line(ported, direc
 
 def below(root):
     """The files below a folder, but for scripts of aliases."""
-    return sorted(
-        os.path.relpath(path, root)
-        for path in glob.glob(f"{root}/**/*", recursive=True, include_hidden=True)
-        if os.path.isfile(path) and "/bin/" not in path.removeprefix(root)
-    )
+    found = (os.path.relpath(os.path.join(at, name), root) for at, _, names in os.walk(root) for name in names)
+    return sorted(path for path in found if "/bin/" not in path)
 
 
 def test_files_of_which_nothing_is_said_are_the_same(machine, ported, judge_rows):
@@ -478,7 +487,7 @@ def translated(names):
 
 
 def test_the_comparison_of_the_translation(finished, judge_rows):
-    """The program makes of the translation what Environment Modules makes of the site, where what is needed is named."""
+    """The program makes of the translation what Environment Modules makes of the site; what is needed is named."""
     os.makedirs(f"{finished.root}{HOME}/ported", exist_ok=True)
     finished.write(f"{HOME}/ported/modulecmd", PORTED)
     os.chmod(f"{finished.root}{HOME}/ported/modulecmd", 0o755)
@@ -495,8 +504,8 @@ VERDICTS = {"asks": "Asked", "one-way": "OneWay"}
 
 
 def checked(names):
-    """What the check of the page says of a line: of the one that refuses it, or of each module that isn't `Plain`. Where
-    nothing is loaded any more, those behind others can't be located."""
+    """What the check of the page says of a line: of the one that refuses it, or of each module that isn't `Plain`.
+    Where nothing is loaded any more, those behind others can't be located."""
     files = [SITE.named[name] for name in names.split()]
     refused = next((file for file in files if file.standing == "refused"), None)
     if refused:
@@ -551,16 +560,17 @@ def switched(finished):
 
 # What a user loads, and what is loaded then.
 SESSION = """env > $HOME/before
-module load gcc/12.3.0 openblas gsl; module load mvapich2 phdf5 netcdf; module load cmake java/11.0.20 R julia cuda/12.2.0 cudnn
-module load matlab GCCcore zlib/1.2.13-GCCcore-12.3.0; module unload gsl; module load boost texlive gnuplot
+module load gcc/12.3.0 openblas gsl; module load mvapich2 phdf5 netcdf
+module load cmake java/11.0.20 R julia cuda/12.2.0 cudnn; module load matlab GCCcore zlib/1.2.13-GCCcore-12.3.0; module unload gsl; module load boost texlive gnuplot
 echo $LOADEDMODULES
 module purge
 env > $HOME/after
 true
 """
 LOADED = (
-    "gcc/12.3.0:openblas/0.3.23:mvapich2/2.3.7:phdf5/1.14.1:netcdf/4.9.2:cmake/3.27.7:java/11.0.20:R/4.3.1:julia/1.9.3:"
-    "cuda/12.2.0:cudnn/8.9.2:matlab/R2023b:GCCcore/12.3.0:zlib/1.2.13-GCCcore-12.3.0:boost/1.82.0:texlive/2023:gnuplot/5.4"
+    "gcc/12.3.0:openblas/0.3.23:mvapich2/2.3.7:phdf5/1.14.1:netcdf/4.9.2:cmake/3.27.7:java/11.0.20:R/4.3.1:"
+    "julia/1.9.3:cuda/12.2.0:cudnn/8.9.2:matlab/R2023b:GCCcore/12.3.0:zlib/1.2.13-GCCcore-12.3.0:boost/1.82.0:"
+    "texlive/2023:gnuplot/5.4"
 )
 
 LOGINS = {
