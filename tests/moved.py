@@ -561,7 +561,8 @@ def switched(finished):
 # What a user loads, and what is loaded then.
 SESSION = """env > $HOME/before
 module load gcc/12.3.0 openblas gsl; module load mvapich2 phdf5 netcdf
-module load cmake java/11.0.20 R julia cuda/12.2.0 cudnn; module load matlab GCCcore zlib/1.2.13-GCCcore-12.3.0; module unload gsl; module load boost texlive gnuplot
+module load cmake java/11.0.20 R julia cuda/12.2.0 cudnn
+module load matlab GCCcore zlib/1.2.13-GCCcore-12.3.0; module unload gsl; module load boost texlive gnuplot
 echo $LOADEDMODULES
 module purge
 env > $HOME/after
