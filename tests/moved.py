@@ -64,6 +64,9 @@ MODULEPATH=$(echo "$MODULEPATH" | sed 's|{OLD}|{NEW}|g') {HOME}/modulecmd/bin/mo
 SIDES = 4
 LONG = 300
 
+# Stands at the end of the lines of each, and is no module.
+LAST = "no-such-module"
+
 COOKIE = "#%Module"
 WRITTEN = {"Latin-1": "latin-1", "CR LF": "utf-8"}
 TOLD = {"alone", "refused", "needs", "says", "why", "lost", "alias", "reads", "written", "there", "older"}
@@ -353,12 +356,13 @@ def compares(machine, lines, bin):
     command, _ = block("sh compare").splitlines()
     typed = f"bin={bin}\n"
     for side in range(SIDES):
-        machine.write(f"{HOME}/lines{side}", "".join(f"{line}\n" for line in lines[side::SIDES]))
+        machine.write(f"{HOME}/lines{side}", "".join(f"{line}\n" for line in [*lines[side::SIDES], LAST]))
         typed += f"{command.split('#')[0].replace('lines', f'lines{side}')} > out{side} &\n"
     same(machine.types(f"{typed}wait\n"), "", "what the shell prints")
-    text = "".join(read(f"{machine.root}{HOME}/out{side}").decode() for side in range(SIDES))
-    parts = (part.partition("\n") for part in re.split(r"^# ", text, flags=re.MULTILINE)[1:])
-    return {names: compared(said) for names, _, said in parts}
+    said = [read(f"{machine.root}{HOME}/out{side}").decode().partition(f"# {LAST}\n") for side in range(SIDES)]
+    true(all(end for _, end, _ in said), "each line is compared, up to the last")
+    parts = re.split(r"^# ", "".join(text for text, _, _ in said), flags=re.MULTILINE)[1:]
+    return {names: compared(text) for names, _, text in (part.partition("\n") for part in parts)}
 
 
 def wrong_rows(found, wanted):
@@ -403,7 +407,7 @@ def test_the_comparison_of_the_site_as_it_is(machine, lines, judge_rows):
 @pytest.fixture(scope="module")
 def tidied(machine, lines):
     """What the page's commands find that is to be taken away, and files with the line ends of Windows."""
-    (directories,) = spans("$(echo")
+    (directories,) = spans('$(echo "$MODULEPATH"')
     typed = f"dirs={directories}\n"
     (backups,), (returns, *_) = spans("find -L $dirs"), spans("grep -rl")
     found = machine.types(f"{typed}{backups}\n").split()
