@@ -73,6 +73,7 @@ SUITES = (
     "tcl/commands.py",
     "tcl/memory.py",
     "package.py",
+    "moved.py",
     "costs.py",
     "runs.py",
 )
