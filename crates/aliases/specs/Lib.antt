@@ -1,0 +1,4 @@
+pub mod Aliases
+pub mod Programs
+pub mod ShellCommands
+pub mod Views
