@@ -9,5 +9,5 @@ mod shell_commands;
 mod shell_scripts;
 
 pub use aliases::{Alias, alias_in};
-pub use laws::script_words;
+pub use laws::script_executes;
 pub use shell_scripts::{ShellScript, push_folder, shell_script};
