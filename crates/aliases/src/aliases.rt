@@ -16,9 +16,9 @@ use tclchars::is_name as is_name_byte;
 
 /// A name, the command that it stands for, and the folder of its script.
 #[derive(Clone, Copy, Debug, Drop)]
-pub struct Alias<'a> {
+pub struct Alias<'f, 'a> {
     /// The folder.
-    pub folder: &'a [u8],
+    pub folder: &'f [u8],
     /// The name.
     pub name: &'a [u8],
     /// The command.
@@ -51,12 +51,12 @@ fn is_name(word: &[u8]) -> bool
 
 /// The alias of this name for a text, where that is one command.
 #[tactic(auto, unfolding(crate::specs::Aliases::alias_for))]
-fn alias_for<'a>(
+fn alias_for<'f, 'a>(
     alloc: Global,
-    folder: &'a [u8],
+    folder: &'f [u8],
     name: &'a [u8],
     text: &'a [u8],
-) -> Result<Option<Alias<'a>>, AllocError>
+) -> Result<Option<Alias<'f, 'a>>, AllocError>
     ensures { IfOk result (λ found. option_map alias_view found
         ≡ spec.alias_for folder.entry.now name.entry.now text.entry.now) }
 {
@@ -73,11 +73,11 @@ fn alias_for<'a>(
 }
 
 /// The alias that a command of these words sets, where it stands for one command.
-fn alias_of<'a>(
+fn alias_of<'f, 'a>(
     alloc: Global,
-    folder: &'a [u8],
+    folder: &'f [u8],
     words: &[&'a [u8]],
-) -> Result<Option<Alias<'a>>, AllocError>
+) -> Result<Option<Alias<'f, 'a>>, AllocError>
     ensures { IfOk result (λ found. option_map alias_view found ≡ spec.alias_of folder.entry.now (texts words.now)) }
 {
     match words {
@@ -129,11 +129,11 @@ fn is_folder(folder: &[u8]) -> bool
 /// The alias that a command of these words sets, where it stands for one command and there is a folder for its script.
 ///
 /// The error: want of memory.
-pub fn alias_in<'a>(
+pub fn alias_in<'f, 'a>(
     alloc: Global,
-    folder: Option<&'a [u8]>,
+    folder: Option<&'f [u8]>,
     words: &[&'a [u8]],
-) -> Result<Option<Alias<'a>>, AllocError>
+) -> Result<Option<Alias<'f, 'a>>, AllocError>
     ensures { IfOk result (λ found. option_map alias_view found
         ≡ spec.alias_in (option_map (λ f. f.now) folder.entry) (texts words.now)) }
 {

@@ -25,7 +25,8 @@ aliased_as words text a = option_map (λ rest. record { alias = a; rest = rest }
 abbrev pub aliased_by : Option Home → Text → List Text → Option Aliased
 aliased_by home text words = option_and_then (aliased_as words text) (alias_in (folder_of home) words)
 
-abbrev pub aliased : Option Home → Piece → Option Aliased
+-- the same of the command that a piece begins with
+unfoldable pub aliased : Option Home → Piece → Option Aliased
 aliased home p = option_and_then (aliased_by home p.text) (constants p.words)
 
 abbrev pub path_for : Aliased → Text

@@ -18,9 +18,9 @@ use std::alloc::{AllocError, Global};
 
 /// An alias, and what stands behind the command that sets it.
 #[derive(Clone, Copy, Debug, Drop)]
-struct Aliased<'a> {
+struct Aliased<'s, 'a> {
     /// The alias.
-    alias: Alias<'a>,
+    alias: Alias<'s, 'a>,
     /// What stands behind the command.
     rest: &'a [u8],
 }
@@ -36,12 +36,12 @@ fn folder_of<'s>(home: Option<Home<'s>>) -> Option<&'s [u8]>
 }
 
 /// The alias that a command of these words sets.
-fn aliased_by<'a>(
+fn aliased_by<'s, 'a>(
     alloc: Global,
-    home: Option<Home<'a>>,
+    home: Option<Home<'s>>,
     text: &'a [u8],
     words: &[&'a [u8]],
-) -> Result<Option<Aliased<'a>>, AllocError>
+) -> Result<Option<Aliased<'s, 'a>>, AllocError>
     ensures { IfOk result (λ found. option_map aliased_view found
         ≡ spec.aliased_by (option_map home_view home.entry) text.entry.now (texts words.now)) }
 {
@@ -55,11 +55,12 @@ fn aliased_by<'a>(
 }
 
 /// The alias that the command of a piece sets.
-fn aliased<'a>(
+#[tactic(auto, unfolding(crate::specs::Aliasing::aliased))]
+fn alias_of<'s, 'a>(
     alloc: Global,
-    home: Option<Home<'a>>,
+    home: Option<Home<'s>>,
     piece: &Piece<'_, 'a>,
-) -> Result<Option<Aliased<'a>>, AllocError>
+) -> Result<Option<Aliased<'s, 'a>>, AllocError>
     ensures { IfOk result (λ found. option_map aliased_view found
         ≡ spec.aliased (option_map home_view home.entry) (piece_view piece.now)) }
 {
@@ -79,7 +80,7 @@ pub(crate) fn push_alias(
     ensures { AddsChange result written.old.items written.new.items
         (spec.of_alias (option_map home_view home.entry) (piece_view piece.now)) }
 {
-    match aliased(alloc, home, piece)? {
+    match alias_of(alloc, home, piece)? {
         Some(found) => {
             push_folder(written, found.alias.folder)?;
             written.extend_from_slice(found.rest)?;
@@ -99,7 +100,7 @@ fn push_script(
     ensures { OnOk result (shell_scripts_view scripts.new.items ≡ shell_scripts_view scripts.old.items
         ++ spec.scripts_in (option_map home_view home.entry) (piece_view piece.now)) }
 {
-    match aliased(alloc, home, piece)? {
+    match alias_of(alloc, home, piece)? {
         Some(found) => {
             scripts.push(shell_script(alloc, found.alias)?)?;
             Ok(())

@@ -445,7 +445,7 @@ fn translated<'a>(
 }
 
 /// What is written for a script, and said of it, where these names are left out.
-fn drafted<'a>(
+fn draft_of_script<'a>(
     alloc: Global,
     home: Option<Home>,
     text: &'a str,
@@ -481,7 +481,7 @@ pub(crate) fn draft_of<'a>(
     ensures fault { IfErr result (IsTextFault text.entry.now) }
 {
     let script = parse_script(alloc, text)?;
-    match drafted(alloc, home, text, &script, left_out) {
+    match draft_of_script(alloc, home, text, &script, left_out) {
         Ok(draft) => Ok(draft),
         Err(_) => Err(TextFault::OutOfMemory),
     }
