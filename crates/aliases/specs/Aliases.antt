@@ -1,5 +1,5 @@
--- Aliases (modulefile(5), set-alias), and the shell scripts that stand for them: as a module of the alias is loaded, the
--- folder of its scripts is searched first for programs.
+-- Aliases (modulefile(5), set-alias), and the shell scripts that stand for them: once the module is loaded, the folder
+-- of its scripts is searched first for programs.
 use Rattle.std.specs.Prelude.{ℕ, List, [], ◌∷◌, ◌++◌, Bool, not, ◌&&◌, ◌==◌, codes, bytes_eq, if◌then◌else◌}
 use Rattle.std.specs.Prelude.{Option, Some, None}
 use Rattle.std.specs.List.{list_all, list_any}

@@ -1,5 +1,5 @@
 -- Words that a shell itself does or reads (POSIX XCU 2.4, reserved words; 2.14, special built-in utilities; 1.7,
--- built-in utilities; and those of the shells' own manuals), so that no program of this name does the same.
+-- intrinsic utilities; and those of the shells' own manuals), so that no program of this name does the same.
 use Rattle.std.specs.Prelude.{List, [], ◌∷◌, Bool, ◌||◌, codes, bytes_eq}
 use Rattle.std.specs.List.{list_any}
 use Rattle.tclchars.specs.Runs.{Text}

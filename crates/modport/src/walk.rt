@@ -92,6 +92,16 @@ fn begin(rt: &HostRuntime, from: &str, to: &str) -> Result<(), PortFault> {
     Ok(())
 }
 
+/// The home of a file of this module, where this is the folder for its scripts.
+fn home_with<'s>(site: &'s Site, module: &'s str, folder: &'s Option<String>) -> Home<'s> {
+    let scripts_folder = bytes_of(folder);
+    Home {
+        site,
+        name: module.as_bytes(),
+        scripts_folder,
+    }
+}
+
 impl<'r> Walk<'r> {
     /// Writes a part of the report.
     fn say(&self, lines: &[u8]) -> Result<(), PortFault> {
@@ -139,11 +149,7 @@ impl<'r> Walk<'r> {
             return self.say(line.as_slice());
         };
         let folder = self.script_places.folder(self.rt, below)?;
-        let home = Home {
-            site: &self.site,
-            name: module.as_bytes(),
-            scripts_folder: bytes_of(&folder),
-        };
+        let home = home_with(&self.site, module, &folder);
         let ported = port_file(alloc, self.manner, from, file, Some(home), name)?;
         if let Some(to) = to {
             write_new(self.rt, to, ported.text.as_bytes(), found)?;

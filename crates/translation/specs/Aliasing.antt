@@ -1,4 +1,5 @@
--- Aliases for which scripts stand, in a file of a home: what is written for the command, and the script.
+-- Aliases for which scripts stand (modulefile(5), set-alias), in a file of a home: what is written for the command that
+-- sets one, and the script.
 use Rattle.std.specs.Prelude.{List, [], ◌∷◌, ◌++◌, flat_map, Option, Some, None, option_and_then}
 use Rattle.std.specs.Option.{option_map}
 use Rattle.tclchars.specs.Runs.{Text}
