@@ -1,5 +1,5 @@
 //! The program `modport FILE`, `--stdin` or `FROM TO`: translates modulefiles into the profile (modport(1)).
-//! Touches its arguments and the standard streams, reads files and directories, and writes new ones.
+//! Touches its arguments, working directory and standard streams, reads files and directories, and writes new ones.
 //! It is one of the names of the program `module`.
 #![tactic(auto)]
 
