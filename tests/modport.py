@@ -3,7 +3,8 @@
 The rows of modport.txt are typed by hand from modulefile(5) and module(1) of Environment Modules and from the templates
 of EasyBuild and Spack. A row has the lines of a modulefile behind `<`, what is written behind `>`, and what is said of
 each line, which is counted from the cookie; the status is 1 where something is left out, and else 0. A row of a tree
-has this for each of its files, whose name stands behind `@`.
+has this for each of its files, whose name stands behind `@`, and for the scripts of aliases, which are written alone;
+`TO` is the tree that is written.
 
 What is written for the files of the two that are below generated is loaded in Environment Modules beside the files as
 they are, where that is there.
@@ -369,10 +370,21 @@ def files_of(row):
     return {name: parts(f"{first.rstrip()}\n{lines}")[1:] for name, _, lines in (it.partition("\n") for it in files)}
 
 
+def as_written(new, given, written):
+    """What is written for a file of a row, or for a script, which isn't read."""
+    lines = [line.replace("TO/", f"{new.decode()}/") for line in written]
+    return "".join(line + "\n" for line in lines) if is_script(given, written) else text(lines)
+
+
+def is_script(given, written):
+    return not given and written[:1] == ["#!/bin/sh"]
+
+
 @pytest.mark.parametrize("row", TREES, ids=lambda row: row.strip("\n").split("\n")[0][2:])
 def test_rows_of_trees(folder, row):
     files = files_of(row)
-    old, new = tree(folder, {name: text(given) for name, (given, _, _) in files.items()})
+    read = {name: text(given) for name, (given, written, _) in files.items() if not is_script(given, written)}
+    old, new = tree(folder, read)
     done = folder.run(old, new)
     at = old.decode()
     said = [f"{at}/{name}:{line}" for name, (_, _, lines) in files.items() for line in lines]
@@ -381,9 +393,108 @@ def test_rows_of_trees(folder, row):
     same(done.returncode, int(any(": left out: " in line for line in said)), "status")
     same(
         contents(new),
-        {name: text(written).encode() for name, (_, written, _) in files.items()},
+        {name: as_written(new, given, written).encode() for name, (given, written, _) in files.items()},
         "what is written",
     )
+
+
+# Aliases.
+
+# A program that shows its arguments.
+SHOW = '#!/bin/sh\nfor it; do printf "<%s>" "$it"; done\n'
+
+
+def alias_tree(folder):
+    """A tree with an alias for a program that shows its arguments, and the path of another one that isn't there."""
+    show = folder.file("show", SHOW)
+    os.chmod(show, 0o755)
+    return tree(folder, {"a/1": COOKIE + f"set-alias shown {{{show.decode()} -a\tb}}\n"})
+
+
+def shown(shell, load):
+    """What the alias shows of two arguments and an empty one, in a shell that has evaluated the text of a load."""
+    words = [shell, "-c", "eval \"$1\"; eval 'shown x \"y  z\" \"\"'", "sh", load]
+    done = subprocess.run(words, env={b"PATH": b"/usr/bin:/bin"}, capture_output=True, timeout=SECONDS, check=False)
+    same(done.stderr, b"", f"standard error of {shell}")
+    return done.stdout
+
+
+@pytest.mark.parametrize("shell", ["dash", "bash", "ksh", "zsh"])
+def test_an_alias_in_a_shell(folder, built, shell):
+    """Once the module is loaded, its script runs the command with the arguments behind it."""
+    if not shutil.which(shell):
+        pytest.skip(f"{shell} isn't there")
+    old, new = alias_tree(folder)
+    done = folder.run(old, new)
+    same((done.stderr, done.returncode), (b"", 0), "standard error and status")
+    env = {b"MODULEPATH": new, b"PATH": b"/usr/bin:/bin"}
+    words = [built("modulecmd"), "sh", "load", "a/1"]
+    load = subprocess.run(words, env=env, capture_output=True, timeout=SECONDS, check=True).stdout
+    same(shown(shell, load), b"<-a><b><x><y  z><>", f"what {shell} shows")
+
+
+def test_an_alias_beside_environment_modules(folder, tool):
+    """The alias that Environment Modules sets, and the script, do the same in a shell."""
+    old, new = alias_tree(folder)
+    folder.run(old, new)
+    found = []
+    for place in (old, new):
+        env = {b"MODULEPATH": place, b"PATH": b"/usr/bin:/bin"}
+        words = [tool, "sh", "load", "a/1"]
+        load = subprocess.run(words, env=env, capture_output=True, timeout=SECONDS, check=True).stdout
+        found.append(shown("dash", load))
+    same(found, [b"<-a><b><x><y  z><>"] * 2, "what is shown")
+
+
+def test_scripts_are_programs_by_the_umask(folder):
+    old, new = alias_tree(folder)
+    mask = os.umask(0o027)
+    try:
+        folder.run(old, new)
+    finally:
+        os.umask(mask)
+    places = ("bin", "bin/a", "bin/a/1", "bin/a/1/shown")
+    modes = [os.stat(os.path.join(new, os.fsencode(it))).st_mode & 0o777 for it in places]
+    same(modes, [0o750] * 4, "permissions")
+
+
+@pytest.mark.parametrize("named", [True, False])
+def test_an_alias_in_a_tree_of_a_relative_path(folder, named):
+    """The path of the scripts is absolute, by the name of the working directory that the shell has."""
+    old, _ = alias_tree(folder)
+    place = folder.modules
+    if named:
+        place = folder.modules + b".link"
+        os.symlink(folder.modules, place)
+    env = {b"PWD": place} if named else {}
+    words = [folder.program, old, b"./x/../to/"]
+    os.mkdir(folder.at("x"))
+    done = subprocess.run(words, cwd=place, env=env, capture_output=True, timeout=SECONDS, check=False)
+    same((done.stderr, done.returncode), (b"", 0), "standard error and status")
+    written = contents(folder.at("to"))
+    same(written["a/1"], b"#%Module\nprepend-path PATH " + place + b"/to/bin/a/1\n", "what is written")
+    true("bin/a/1/shown" in written, "the script is there")
+
+
+def test_check_of_an_alias(folder):
+    """The report is that of a tree that is written, and nothing is."""
+    old, new = alias_tree(folder)
+    done = folder.run("--check", old)
+    same((done.stderr, done.returncode), (b"", 0), "standard error and status")
+    report = done.stdout
+    same(folder.run(old, new).stdout, report, "the report")
+    true(report.startswith(old + b"/a/1:2: translated: set-alias shown {"), "the alias is translated")
+
+
+def test_a_script_that_cant_be_written(folder):
+    """It isn't there, is said, and the other files are written."""
+    old, new = tree(folder, {"a/1": COOKIE + f"set-alias x {{date {'u' * 5000}}}\n", "b/1": COOKIE + "setenv B 1\n"})
+    done = folder.run(old, new, most=4096)
+    at = new.decode()
+    same(done.stderr.decode(), f"ERROR: {at}/bin/a/1/x: Can't be written\n", "standard error")
+    same(done.returncode, 2, "status")
+    line = f"#%Module\nprepend-path PATH {at}/bin/a/1\n".encode()
+    same(contents(new), {"a/1": line, "b/1": b"#%Module\nsetenv B 1\n"}, "what is written")
 
 
 def test_a_family_in_a_file_that_is_no_script(folder):

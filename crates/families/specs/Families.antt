@@ -20,11 +20,12 @@ pub record Symbol : Type 0 where
   pub name : Text
   pub version : Text
 
--- a site, and the module that a file is of
+-- a site, the module that a file is of, and the folder for scripts of the file, where there is one
 pub record Home : Type 0 where
   pub members : List Member
   pub symbols : List Symbol
   pub name : Text
+  pub scripts_folder : Option Text
 
 -- The site
 

@@ -1,5 +1,6 @@
 -- Values of the code as the definitions have them.
 use Rattle.std.specs.Prelude.{List, map}
+use Rattle.std.specs.Option.{option_map}
 use Rattle.families.specs.Families as families
 use Rattle.families.specs.declared.site.Member.{Member}
 use Rattle.families.specs.declared.site.Site.{Site}
@@ -27,4 +28,9 @@ abbrev pub site_symbols : Site → List families.Symbol
 site_symbols s = symbols_view s.symbols.items
 
 abbrev pub home_view : Home → families.Home
-home_view h = record { members = site_view h.site.now; symbols = site_symbols h.site.now; name = h.name.now }
+home_view h = record {
+  members = site_view h.site.now;
+  symbols = site_symbols h.site.now;
+  name = h.name.now;
+  scripts_folder = option_map (λ folder. folder.now) h.scripts_folder;
+}

@@ -28,13 +28,15 @@ pub struct Site {
     pub(crate) symbols: Vec<Symbol>,
 }
 
-/// A site, and the module that a file is of.
+/// A site, the module that a file is of, and where scripts of the file are written.
 #[derive(Clone, Copy)]
 pub struct Home<'s> {
     /// The site.
     pub site: &'s Site,
     /// The module, by its name without a version.
     pub name: &'s [u8],
+    /// The folder for scripts of the file, where there is one.
+    pub scripts_folder: Option<&'s [u8]>,
 }
 
 /// Whether the module is among these as one of the family.

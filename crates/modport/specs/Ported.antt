@@ -16,6 +16,8 @@ use Rattle.computedwords.specs.Answers.{Binding}
 use Rattle.computedwords.specs.Edits.{HasComputed}
 use Rattle.computedwords.specs.Walks.{Edit}
 use Rattle.families.specs.Families.{Home}
+use Rattle.aliases.specs.Aliases.{ShellScript}
+use Rattle.translation.specs.AliasingViews.{HasScripts}
 use Rattle.translation.specs.Notes.{Note}
 use Rattle.translation.specs.Translations.{line_at}
 use Rattle.translation.specs.TranslationViews.{HasTranslation}
@@ -145,3 +147,8 @@ IsPorted port how given written lines status =
 abbrev pub IsReported : Porting → Bool → Text → Writing → Text → Text → Text → Status → Type 0
 IsReported port json path how given written said status =
     (lines : List Line) × IsPorted port how given written lines status × (said ≡ report json path lines)
+
+-- the scripts of the aliases that the text of a file sets, once what Tcl computes is written
+abbrev pub HasScriptsOf : Porting → Text → List ShellScript → Type 0
+HasScriptsOf port given scripts =
+    (computed : Text) × (es : List Edit) × IsComputed port.host given es computed × HasScripts port.home computed scripts

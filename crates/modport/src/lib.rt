@@ -1,5 +1,5 @@
 //! The program `modport FILE`, `--stdin` or `FROM TO`: translates modulefiles into the profile (modport(1)).
-//! Touches its arguments and the standard streams, reads files and directories, and writes new ones.
+//! Touches its arguments, working directory and standard streams, reads files and directories, and writes new ones.
 //! It is one of the names of the program `module`.
 #![tactic(auto)]
 
@@ -12,6 +12,7 @@ mod porting;
 mod report_lines;
 mod reporting;
 mod saying;
+mod script_files;
 mod site_walk;
 mod status;
 mod texts;
@@ -37,6 +38,7 @@ fn print(rt: &HostRuntime, manner: Manner, path: &str, bytes: &[u8]) -> Result<S
         text,
         report,
         status,
+        ..
     } = port_file(rt.alloc(), manner, path, file, None, None)?;
     if rt.stdout().write_all(text.as_bytes()).is_err()
         || rt.stderr().write_all(report.as_slice()).is_err()

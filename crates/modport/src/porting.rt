@@ -1,18 +1,20 @@
 //! A modulefile translated, however it was written.
 ghost use Rattle.std.specs.Prelude.{◌≡◌, length, IfOk, string_bytes};
 ghost use Rattle.std.specs.Option.{option_map};
+ghost use Rattle.aliases.specs.Views.{shell_scripts_view};
 ghost use Rattle.scripttext.specs.ScriptTexts.{Parses};
 ghost use Rattle.computedwords.specs.Views.{bindings_view, edits_view};
 ghost use Rattle.translation.specs.TranslationViews.{notes_view};
 ghost use Rattle.modport.specs.Lines as lines;
 ghost use Rattle.modport.specs.Ported as spec;
-ghost use Rattle.modport.specs.Ported.{IsReported};
+ghost use Rattle.modport.specs.Ported.{HasScriptsOf, IsReported};
 ghost use Rattle.modport.specs.LineViews.{coming_view, now, porting_view};
 
 use crate::fault::PortFault;
 use crate::reporting::push_report;
 use crate::saying::{Coming, added_lines, edit_lines, note_lines, writing_lines};
 use crate::status::Status;
+use aliases::ShellScript;
 use computedwords::{Binding, Computed, Edit, compute};
 use families::Home;
 use filetext::FileText;
@@ -40,6 +42,8 @@ pub struct Ported {
     pub report: Vec<u8>,
     /// How far the file is within the profile.
     pub status: Status,
+    /// The scripts of its aliases.
+    pub scripts: Vec<ShellScript>,
 }
 
 /// A text that is in conflict with a name, where it is to be.
@@ -143,7 +147,7 @@ fn one_version_of(alloc: Global, text: String, name: Option<&str>) -> Result<One
 }
 
 /// The bytes of a text, where there is one.
-fn bytes_of(text: &Option<String>) -> Option<&[u8]>
+pub(crate) fn bytes_of(text: &Option<String>) -> Option<&[u8]>
     ensures { now result ≡ option_map string_bytes text.entry.now }
 {
     match text {
@@ -180,7 +184,7 @@ fn report_on(
 }
 
 /// The translation of a text that came so, and the report on it.
-#[tactic(auto, using(crate::proofs::Reported::reported))]
+#[tactic(auto, using(crate::proofs::Reported::reported, crate::proofs::Reported::scripted))]
 fn port_text(
     alloc: Global,
     manner: Manner,
@@ -193,6 +197,8 @@ fn port_text(
     ensures parses { IfOk result (λ p. Parses (string_bytes p.text)) }
     ensures reported { IfOk result (λ p. IsReported (porting_view manner.entry home.entry name.entry) manner.entry.json
         path.now (coming_view coming) given.now (string_bytes p.text) p.report.items p.status) }
+    ensures scripts { IfOk result (λ p. HasScriptsOf (porting_view manner.entry home.entry name.entry) given.now
+        (shell_scripts_view p.scripts.items)) }
 {
     let Computed {
         text: computed,
@@ -201,6 +207,7 @@ fn port_text(
     let Translation {
         text: translated,
         notes,
+        scripts,
     } = translate(alloc, home, computed.as_str(), manner.left_out)?;
     let OneVersion { text, added } = one_version_of(alloc, translated, name)?;
     let report = report_on(
@@ -217,6 +224,7 @@ fn port_text(
         text,
         report,
         status: Status::of(notes.as_slice()),
+        scripts,
     })
 }
 
@@ -239,6 +247,10 @@ pub fn port_file(
     ensures reported { IfOk result (λ p. IsReported (porting_view manner.entry home.entry name.entry) manner.entry.json
         path.now (record { mark = file.mark; latin = file.latin; returns = file.returns }) file.text.items
         (string_bytes p.text) p.report.items p.status) }
+
+    // The scripts are those of the aliases for which one is written.
+    ensures scripts { IfOk result (λ p. HasScriptsOf (porting_view manner.entry home.entry name.entry) file.text.items
+        (shell_scripts_view p.scripts.items)) }
 {
     let FileText {
         text,

@@ -2,18 +2,19 @@
 
 use crate::arguments::Walked;
 use crate::fault::PortFault;
-use crate::porting::{Manner, port_file};
+use crate::porting::{Manner, bytes_of, port_file};
 use crate::reporting::{fault_line, left_out_line};
+use crate::script_files::{ScriptFile, ScriptPlaces};
 use crate::site_walk::{module_of, site_of};
 use crate::status::Status;
 use crate::texts::{joined, kind_of, modulefile, read, write_new};
 use families::{Home, Site};
 use filetree::{DiskTree, Tree};
 use std::alloc::{AllocError, Global};
-use std::fs;
 use std::fs::{Metadata, Permissions};
 use std::io::Write;
 use std::os::unix::fs::symlink;
+use std::{fs, mem};
 
 /// The most directories that are walked.
 pub(crate) const MOST_DIRECTORIES: usize = 1_000_000;
@@ -39,6 +40,10 @@ pub(crate) struct Walk<'r> {
     one_version: bool,
     /// What the files of the site say of its modules.
     site: Site,
+    /// Where scripts of aliases are written.
+    script_places: ScriptPlaces,
+    /// The scripts that are still to be written.
+    scripts: Vec<ScriptFile>,
     /// How far what was read so far is within the profile.
     status: Status,
     /// The directories that are still to be walked.
@@ -87,6 +92,16 @@ fn begin(rt: &HostRuntime, from: &str, to: &str) -> Result<(), PortFault> {
     Ok(())
 }
 
+/// The home of a file of this module, where this is the folder for its scripts.
+fn home_with<'s>(site: &'s Site, module: &'s str, folder: &'s Option<String>) -> Home<'s> {
+    let scripts_folder = bytes_of(folder);
+    Home {
+        site,
+        name: module.as_bytes(),
+        scripts_folder,
+    }
+}
+
 impl<'r> Walk<'r> {
     /// Writes a part of the report.
     fn say(&self, lines: &[u8]) -> Result<(), PortFault> {
@@ -117,11 +132,13 @@ impl<'r> Walk<'r> {
         }
     }
 
-    /// Translates a file of this module, which is to be in conflict with a name, where one is given.
+    /// Translates a file of this module, which is to be in conflict with a name, where one is given; `below` is its name
+    /// below the tree.
     fn file(
         &mut self,
         from: &str,
         to: Option<&str>,
+        below: &str,
         found: &Metadata,
         module: &str,
         name: Option<&str>,
@@ -131,14 +148,14 @@ impl<'r> Walk<'r> {
             let line = left_out_line(alloc, self.manner.json, from, "no modulefile")?;
             return self.say(line.as_slice());
         };
-        let home = Home {
-            site: &self.site,
-            name: module.as_bytes(),
-        };
+        let folder = self.script_places.folder(self.rt, below)?;
+        let home = home_with(&self.site, module, &folder);
         let ported = port_file(alloc, self.manner, from, file, Some(home), name)?;
         if let Some(to) = to {
             write_new(self.rt, to, ported.text.as_bytes(), found)?;
         }
+        self.script_places
+            .add(alloc, &mut self.scripts, below, ported.scripts)?;
         self.status = self.status.and(ported.status);
         self.say(ported.report.as_slice())
     }
@@ -201,13 +218,13 @@ impl<'r> Walk<'r> {
             Some(to) => Some(to.as_str()),
             None => None,
         };
+        let below = name_below(self.rt.alloc(), folder.name.as_str(), name)?;
         if found.is_dir() {
-            let name = name_below(self.rt.alloc(), folder.name.as_str(), name)?;
-            self.folder(from, to, &found, name)
+            self.folder(from, to, &found, below)
         } else if found.is_file() {
             let module = module_of(folder.name.as_str(), name);
             let name = self.conflicting(folder, name);
-            self.file(from.as_str(), target, &found, module, name)
+            self.file(from.as_str(), target, below.as_str(), &found, module, name)
         } else if found.is_symlink() {
             self.link(from.as_str(), target)
         } else {
@@ -248,6 +265,15 @@ impl<'r> Walk<'r> {
         Ok(())
     }
 
+    /// Writes the scripts of the aliases, behind the directories of the tree.
+    fn write_scripts(&mut self) -> Result<(), PortFault> {
+        let scripts = mem::replace(&mut self.scripts, Vec::new(self.rt.alloc()));
+        for script in &scripts {
+            self.go_on(script.path.as_str(), script.write(self.rt))?;
+        }
+        Ok(())
+    }
+
     /// Gives the directories that were made their permissions, those below others first.
     fn finish(&mut self) -> Result<(), PortFault> {
         for _ in 0..self.made.len() {
@@ -281,11 +307,17 @@ pub(crate) fn walk_tree<'r>(
     if let Some(to) = &to {
         begin(rt, from.as_str(), to.as_str())?;
     }
+    let target = match &to {
+        Some(to) => Some(to.as_str()),
+        None => None,
+    };
     let mut walk = Walk {
         rt,
         manner,
         one_version,
         site: site_of(rt, from.as_str())?,
+        script_places: ScriptPlaces::new(rt, from.as_str(), target)?,
+        scripts: Vec::new(rt.alloc()),
         status: Status::Within,
         folders: Vec::new(rt.alloc()),
         made: Vec::new(rt.alloc()),
@@ -296,6 +328,7 @@ pub(crate) fn walk_tree<'r>(
         name: String::new(rt.alloc()),
     })?;
     walk.go()?;
+    walk.write_scripts()?;
     walk.finish()?;
     Ok(walk.status)
 }

@@ -1,3 +1,5 @@
+pub mod Aliasing
+pub mod AliasingViews
 pub mod Notes
 pub mod OptionViews
 pub mod Options

@@ -14,6 +14,7 @@ use Rattle.portforms.specs.Words.{constants}
 use Rattle.portforms.specs.Forms.{Form, each, one, front, back, form_of}
 use Rattle.translation.specs.Writing.{written, needs}
 use Rattle.guards.specs.Guards.{Guard, guard_of}
+use Rattle.translation.specs.Aliasing.{of_alias}
 use Rattle.translation.specs.Options.{idle_front, without_option}
 use Rattle.translation.specs.Pieces.{Piece}
 use Rattle.translation.specs.Notes.{Note, left_in}
@@ -86,9 +87,12 @@ of_rest home p = first_of (of_guard home p) (of_last home p)
 abbrev pub of_other : Option Home → Piece → Option Text
 of_other home p = first_of (of_family home p) (of_rest home p)
 
+abbrev pub of_unaliased : Option Home → Piece → Option Text
+of_unaliased home p = first_of (of_command home p) (of_other home p)
+
 -- what is written for the command that the piece begins with, where it is another one, or none
 abbrev pub change_of : Option Home → Piece → Option Text
-change_of home p = first_of (of_command home p) (of_other home p)
+change_of home p = first_of (of_alias home p) (of_unaliased home p)
 
 -- what becomes of a command for which that is written
 abbrev pub outcome_by : Option (List Text) → Outcome

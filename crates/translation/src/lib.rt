@@ -2,6 +2,7 @@
 //! Takes memory and touches nothing else.
 #![tactic(auto)]
 
+mod aliasing;
 mod laws;
 mod notes;
 mod options;

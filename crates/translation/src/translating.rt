@@ -7,15 +7,21 @@ ghost use Rattle.portforms.specs.Words.{texts, commands_in};
 ghost use Rattle.portforms.specs.FormViews.{form_view};
 ghost use Rattle.guards.specs.GuardViews.{guard_view};
 ghost use Rattle.families.specs.Views.{home_view};
+ghost use Rattle.aliases.specs.Views.{shell_scripts_view};
+ghost use Rattle.translation.specs.Aliasing as aliasing;
+ghost use Rattle.translation.specs.AliasingViews.{HasScripts};
+ghost use Rattle.translation.specs.Pieces.{pieces_of};
 ghost use Rattle.translation.specs.PieceViews.{piece_view};
 ghost use Rattle.translation.specs.Translations as spec;
 ghost use Rattle.translation.specs.TranslationViews.{notes_view, note, AddsChange, HasTranslation, IsTranslation};
 
+use crate::aliasing::{push_alias, scripts_of};
 use crate::notes::{Note, Outcome, left_in};
 use crate::options::{idle_front, push_without_option};
 use crate::pieces::{Piece, pieces_of};
 use crate::places::{behind_words, line_of};
 use crate::writing::{push_form, push_needs};
+use aliases::ShellScript;
 use families::{Home, conflicts_for, has_versions, push_conflict};
 use guards::{Guard, guard_of};
 use portforms::{Form, constants, form_of, is_text};
@@ -30,6 +36,15 @@ pub(crate) struct Draft<'a> {
     pub text: Vec<u8>,
     /// What is said of commands, in their order.
     pub notes: Vec<Note<'a>>,
+}
+
+/// What is written for a modulefile and said of it, with the scripts of its aliases.
+#[derive(Debug, Drop)]
+pub(crate) struct Drafted<'a> {
+    /// What is written, and said.
+    pub draft: Draft<'a>,
+    /// The scripts, in the order of the commands that set the aliases.
+    pub scripts: Vec<ShellScript>,
 }
 
 /// Adds what is written for a form of these words, and what stands behind it; false where the text has them not.
@@ -269,6 +284,23 @@ fn push_other(
     push_rest(alloc, written, home, piece)
 }
 
+/// Adds what is written for the command of a piece that sets no alias, where it is another one; else false.
+#[tactic(auto, using(crate::proofs::Adding::added_first, crate::proofs::Adding::added_second))]
+fn push_unaliased(
+    alloc: Global,
+    written: &mut Vec<u8>,
+    home: Option<Home>,
+    piece: &Piece,
+) -> Result<bool, AllocError>
+    ensures { AddsChange result written.old.items written.new.items
+        (spec.of_unaliased (option_map home_view home.entry) (piece_view piece.now)) }
+{
+    if push_command(alloc, written, home, piece)? {
+        return Ok(true);
+    }
+    push_other(alloc, written, home, piece)
+}
+
 /// Adds what is written for the command of a piece, where it is another one; else false.
 #[tactic(auto, using(crate::proofs::Adding::added_first, crate::proofs::Adding::added_second))]
 fn push_change(
@@ -280,10 +312,10 @@ fn push_change(
     ensures { AddsChange result written.old.items written.new.items
         (spec.change_of (option_map home_view home.entry) (piece_view piece.now)) }
 {
-    if push_command(alloc, written, home, piece)? {
+    if push_alias(alloc, written, home, piece)? {
         return Ok(true);
     }
-    push_other(alloc, written, home, piece)
+    push_unaliased(alloc, written, home, piece)
 }
 
 /// What becomes of a command for which a conflict with these modules is written, where it names a family.
@@ -412,20 +444,27 @@ fn translated<'a>(
     Ok(draft)
 }
 
-/// The text of a script translated, where these names are left out.
-fn translated_script<'a>(
+/// What is written for a script, and said of it, where these names are left out.
+fn draft_of_script<'a>(
     alloc: Global,
     home: Option<Home>,
     text: &'a str,
     script: &Script<&'a str>,
     left_out: &[&str],
-) -> Result<Draft<'a>, AllocError>
-    ensures { IfOk result (λ t. IsTranslation (option_map home_view home.entry) (texts left_out.now)
-        text.entry.now (commands_in (script_view (λ piece. piece.now) script.now)) t.text.items (notes_view t.notes.items)) }
+) -> Result<Drafted<'a>, AllocError>
+    ensures text { IfOk result (λ d. IsTranslation (option_map home_view home.entry) (texts left_out.now)
+        text.entry.now (commands_in (script_view (λ piece. piece.now) script.now)) d.draft.text.items
+        (notes_view d.draft.notes.items)) }
+    ensures scripts { IfOk result (λ d. shell_scripts_view d.scripts.items
+        ≡ aliasing.scripts_of (option_map home_view home.entry)
+        (pieces_of text.entry.now (commands_in (script_view (λ piece. piece.now) script.now)))) }
 {
     let text = text.as_bytes();
     let pieces = pieces_of(alloc, text, script)?;
-    translated(alloc, home, text, pieces.as_slice(), left_out)
+    Ok(Drafted {
+        draft: translated(alloc, home, text, pieces.as_slice(), left_out)?,
+        scripts: scripts_of(alloc, home, pieces.as_slice())?,
+    })
 }
 
 /// What is written for a modulefile, and said of it, where commands of these names are left out.
@@ -434,13 +473,15 @@ pub(crate) fn draft_of<'a>(
     home: Option<Home>,
     text: &'a str,
     left_out: &[&str],
-) -> Result<Draft<'a>, TextFault>
-    ensures found { IfOk result (λ t. HasTranslation (option_map home_view home.entry) (texts left_out.now) text.entry.now
-        t.text.items (notes_view t.notes.items)) }
+) -> Result<Drafted<'a>, TextFault>
+    ensures found { IfOk result (λ d. HasTranslation (option_map home_view home.entry) (texts left_out.now)
+        text.entry.now d.draft.text.items (notes_view d.draft.notes.items)) }
+    ensures scripts { IfOk result (λ d. HasScripts (option_map home_view home.entry) text.entry.now
+        (shell_scripts_view d.scripts.items)) }
     ensures fault { IfErr result (IsTextFault text.entry.now) }
 {
     let script = parse_script(alloc, text)?;
-    match translated_script(alloc, home, text, &script, left_out) {
+    match draft_of_script(alloc, home, text, &script, left_out) {
         Ok(draft) => Ok(draft),
         Err(_) => Err(TextFault::OutOfMemory),
     }

@@ -6,24 +6,29 @@ ghost use Rattle.tclscript.specs.Faults.{IsTextFault};
 ghost use Rattle.tclscript.specs.Text.{IsWithin};
 ghost use Rattle.tclscript.specs.Tree.{Commands};
 ghost use Rattle.families.specs.Views.{home_view};
+ghost use Rattle.aliases.specs.Views.{shell_scripts_view};
 ghost use Rattle.portforms.specs.Words.{texts};
+ghost use Rattle.translation.specs.AliasingViews.{HasScripts};
 ghost use Rattle.translation.specs.TranslationViews.{notes_view, HasTranslation, IsTranslationFault, IsWrittenFault};
 
 use crate::notes::Note;
-use crate::translating::{Draft, draft_of};
+use crate::translating::{Draft, Drafted, draft_of};
 use crate::translation_fault::TranslationFault;
+use aliases::ShellScript;
 use families::Home;
 use std::alloc::Global;
 use tclchars::TextFault;
 use tclscript::parse_script;
 
-/// What is written for a modulefile, and what is said of its commands.
+/// What is written for a modulefile, what is said of its commands, and the scripts of its aliases.
 #[derive(Debug, Drop)]
 pub struct Translation<'a> {
     /// What is written.
     pub text: String,
     /// What is said of commands, in their order.
     pub notes: Vec<Note<'a>>,
+    /// The scripts of aliases, in the order of the commands that set them.
+    pub scripts: Vec<ShellScript>,
 }
 
 /// The text of these bytes, where they are UTF-8.
@@ -78,18 +83,27 @@ pub fn translate<'a>(
     ensures found { IfOk result (λ t. HasTranslation (option_map home_view home.entry) (texts left_out.now) text.entry.now
         (string_bytes t.text) (notes_view t.notes.items)) }
 
+    // The scripts are those of the aliases for which one is written.
+    ensures scripts { IfOk result (λ t. HasScripts (option_map home_view home.entry) text.entry.now
+        (shell_scripts_view t.scripts.items)) }
+
     // What is written is a script again.
     ensures parses { IfOk result (λ t. (s : Commands) × IsWithin (string_bytes t.text) s) }
 
     // A fault has its cause.
     ensures fault { IfErr result (IsTranslationFault (option_map home_view home.entry) (texts left_out.now) text.entry.now) }
 {
-    let Draft { text, notes } = match draft_of(alloc, home, text, left_out) {
-        Ok(draft) => draft,
+    let Drafted { draft, scripts } = match draft_of(alloc, home, text, left_out) {
+        Ok(drafted) => drafted,
         Err(fault) => return Err(TranslationFault::Given(fault)),
     };
+    let Draft { text, notes } = draft;
     match judged(alloc, text) {
-        Ok(text) => Ok(Translation { text, notes }),
+        Ok(text) => Ok(Translation {
+            text,
+            notes,
+            scripts,
+        }),
         Err(fault) => Err(fault),
     }
 }

@@ -1,0 +1,5 @@
+pub mod Aliases
+pub mod Programs
+pub mod ShellCommands
+pub mod ShellLines
+pub mod Views

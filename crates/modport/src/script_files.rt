@@ -1,0 +1,186 @@
+//! Where the scripts of aliases are written, and their files.
+
+use crate::fault::PortFault;
+use crate::texts::joined;
+use aliases::ShellScript;
+use modulepath::absolute_path;
+use std::alloc::Global;
+use std::env::VarError;
+use std::fs::OpenOptions;
+use std::io::{ErrorKind, Write};
+use std::os::unix::fs::{MetadataExt, OpenOptionsExt};
+use std::{env, fs, str};
+
+/// The name of the directory that they are written below.
+const SCRIPTS: &str = "bin";
+
+/// The names of default files, which set no aliases.
+const DEFAULT_FILES: [&str; 2] = [".modulerc", ".version"];
+
+/// A script that is to be written.
+#[derive(Debug, Drop)]
+pub(crate) struct ScriptFile {
+    /// The path of its folder.
+    folder: String,
+    /// Its path.
+    pub path: String,
+    /// Its text.
+    text: Vec<u8>,
+}
+
+/// The directories that the scripts of a tree are below.
+#[derive(Debug, Drop)]
+pub(crate) struct ScriptPlaces {
+    /// The tree that is read.
+    from: String,
+    /// The tree that is written.
+    to: Option<String>,
+    /// The directory of scripts by its absolute path; none where the system says no working directory.
+    named: Option<String>,
+}
+
+/// Whether this is an absolute path, without points for parts, of the working directory.
+fn is_here(rt: &HostRuntime, path: &str) -> bool {
+    if !path.starts_with('/') || path.split('/').any(|part| part == "." || part == "..") {
+        return false;
+    }
+    let (Ok(named), Ok(here)) = (fs::metadata(rt, path), fs::metadata(rt, ".")) else {
+        return false;
+    };
+    named.dev() == here.dev() && named.ino() == here.ino()
+}
+
+/// The working directory by the name that the shell has for it, where that is one, or by the system's.
+///
+/// The error: want of memory.
+fn working_directory(rt: &HostRuntime) -> Result<Option<String>, PortFault> {
+    match env::var(rt, "PWD") {
+        Ok(name) if is_here(rt, name.as_str()) => return Ok(Some(name)),
+        Err(VarError::OutOfMemory) => return Err(PortFault::OutOfMemory),
+        _ => {}
+    }
+    match env::current_dir(rt) {
+        Ok(place) => Ok(Some(place.into_string())),
+        Err(fault) if fault.kind() == ErrorKind::OutOfMemory => Err(PortFault::OutOfMemory),
+        Err(_) => Ok(None),
+    }
+}
+
+/// The absolute path of the directory of scripts in a tree that is written; where none is, as at the root.
+fn named_place(rt: &HostRuntime, to: Option<&str>) -> Result<Option<String>, PortFault> {
+    let alloc = rt.alloc();
+    let Some(to) = to else {
+        return Ok(Some(joined(alloc, "/", SCRIPTS)?));
+    };
+    let working = working_directory(rt)?;
+    let working = match &working {
+        Some(working) => Some(working.as_str()),
+        None => None,
+    };
+    match absolute_path(alloc, working, to)? {
+        Some(place) => Ok(Some(joined(alloc, place.as_str(), SCRIPTS)?)),
+        None => Ok(None),
+    }
+}
+
+impl ScriptPlaces {
+    /// Those of a tree that is read, and is written below `to`, where it is.
+    ///
+    /// The error: want of memory.
+    pub fn new(rt: &HostRuntime, from: &str, to: Option<&str>) -> Result<ScriptPlaces, PortFault> {
+        let alloc = rt.alloc();
+        let named = named_place(rt, to)?;
+        let to = match to {
+            Some(to) => Some(joined(alloc, to, SCRIPTS)?),
+            None => None,
+        };
+        Ok(ScriptPlaces {
+            from: joined(alloc, from, SCRIPTS)?,
+            to,
+            named,
+        })
+    }
+
+    /// Whether nothing of the tree that is read stands where the scripts of the file of this name would.
+    ///
+    /// The error: want of memory.
+    fn is_free(&self, rt: &HostRuntime, name: &str) -> Result<bool, PortFault> {
+        let mut path = self.from.clone()?;
+        for part in name.split('/') {
+            match fs::symlink_metadata(rt, path.as_str()) {
+                Ok(found) if found.is_dir() => path = joined(rt.alloc(), path.as_str(), part)?,
+                Err(fault) => return Ok(fault.kind() == ErrorKind::NotFound),
+                Ok(_) => return Ok(false),
+            }
+        }
+        match fs::symlink_metadata(rt, path.as_str()) {
+            Ok(_) => Ok(false),
+            Err(fault) => Ok(fault.kind() == ErrorKind::NotFound),
+        }
+    }
+
+    /// The folder for scripts of the modulefile of this name, where they can be written.
+    ///
+    /// The error: want of memory.
+    pub fn folder(&self, rt: &HostRuntime, name: &str) -> Result<Option<String>, PortFault> {
+        let Some(place) = &self.named else {
+            return Ok(None);
+        };
+        let is_default = name
+            .rsplit('/')
+            .next()
+            .is_some_and(|last| DEFAULT_FILES.contains(&last));
+        if is_default || !self.is_free(rt, name)? {
+            return Ok(None);
+        }
+        Ok(Some(joined(rt.alloc(), place.as_str(), name)?))
+    }
+
+    /// Adds the scripts of the file of this name to those that are to be written, where they are.
+    ///
+    /// The errors: want of memory; a name isn't UTF-8.
+    pub fn add(
+        &self,
+        alloc: Global,
+        files: &mut Vec<ScriptFile>,
+        name: &str,
+        scripts: Vec<ShellScript>,
+    ) -> Result<(), PortFault> {
+        let Some(to) = &self.to else {
+            return Ok(());
+        };
+        for script in scripts {
+            let folder = joined(alloc, to.as_str(), name)?;
+            let Ok(name) = str::from_utf8(script.name.as_slice()) else {
+                return Err(PortFault::NotUtf8);
+            };
+            files.push(ScriptFile {
+                path: joined(alloc, folder.as_str(), name)?,
+                folder,
+                text: script.text,
+            })?;
+        }
+        Ok(())
+    }
+}
+
+impl ScriptFile {
+    /// Writes it, as a program, with the directories that lead to it; the later of two at one path stays. One that fails
+    /// leaves nothing.
+    ///
+    /// The error: it can't be written.
+    pub fn write(&self, rt: &HostRuntime) -> Result<(), PortFault> {
+        let path = self.path.as_str();
+        let mut how = OpenOptions::new();
+        how.write(true).create(true).truncate(true).mode(0o755);
+        let made = fs::create_dir_all(rt, self.folder.as_str());
+        let (Ok(()), Ok(mut file)) = (made, how.open(rt, path)) else {
+            return Err(PortFault::Unwritable);
+        };
+        if file.write_all(self.text.as_slice()).is_err() {
+            let _ = fs::remove_file(rt, path);
+            return Err(PortFault::Unwritable);
+        }
+        Ok(())
+    }
+}
