@@ -7,7 +7,7 @@ use Rattle.std.specs.declared.string.String.{String}
 use Rattle.std.proofs.lemmas.Slice.Eq.{bytes_eq-Decides}
 use Rattle.tclchars.specs.Runs.{Text}
 use Rattle.tclchars.specs.declared.fault.TextFault.{TextFault}
-use Rattle.tclscript.specs.Text.{IsWithin, script_of}
+use Rattle.tclscript.specs.Text.{script_of}
 use Rattle.tclscript.specs.Tree.{Command, Commands}
 use Rattle.tclscript.proofs.Whole.{tree_is}
 use Rattle.portforms.specs.Words.{commands_in}

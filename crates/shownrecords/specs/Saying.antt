@@ -1,7 +1,7 @@
 -- What commands of a script say (own): their words, as Tcl(n) has them, where nothing is substituted but `[getenv HOME]`
 -- and `[getenv USER]` (modulefile(5)), which are the owner's; and which of them are records.
 use Rattle.std.specs.Prelude.{List, [], ◌∷◌, ◌++◌, Bool, true, false, ◌==◌, codes, bytes_eq}
-use Rattle.std.specs.Prelude.{if◌then◌else◌, Option, Some, None, option_and_then, Result, Ok, Err}
+use Rattle.std.specs.Prelude.{if◌then◌else◌, Option, Some, None, option_and_then, Ok, Err}
 use Rattle.std.specs.List.{list_all, list_any}
 use Rattle.std.specs.Option.{option_map}
 use Rattle.tclchars.specs.Bytes.{backslash}

@@ -54,9 +54,14 @@ is_in_name b = nat_le 97 b && nat_le b 122 || b == 45
 abbrev pub name_end : Text → ℕ
 name_end line = position_or_len (λ b. not (is_in_name b)) line
 
--- a name and a tab; any other line is of a message, or of what stands around the commands
+-- `system` runs a program, and changes no variable
+abbrev pub is_action : Text → Bool
+is_action line = starts_with nat_eq line (codes "system" ++ tab ∷ [])
+
+-- a name and a tab; any other line is of a message, of an action, or of what stands around the commands
 abbrev pub is_of_command : Text → Bool
-is_of_command line = nat_lt 0 (name_end line) && begins_in (λ b. b == tab) (drop (name_end line) line)
+is_of_command line =
+    nat_lt 0 (name_end line) && begins_in (λ b. b == tab) (drop (name_end line) line) && not (is_action line)
 
 -- the file wasn't evaluated to its end
 abbrev pub is_error : Text → Bool

@@ -1,5 +1,5 @@
 //! A modulefile, flattened.
-ghost use Rattle.std.specs.Prelude.{◌≡◌, ◌++◌, map, take, option_and_then, IfErr, IfOk, IfSome, string_bytes};
+ghost use Rattle.std.specs.Prelude.{◌≡◌, ◌++◌, map, take, IfErr, IfOk, IfSome, string_bytes};
 ghost use Rattle.std.specs.Option.{option_map};
 ghost use Rattle.envvars.specs.Texts.{texts_in};
 ghost use Rattle.tclscript.specs.Faults.{IsTextFault};

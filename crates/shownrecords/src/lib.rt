@@ -1,4 +1,4 @@
-//! What `module show` of Environment Modules has said of a modulefile, written as one.
+//! Modulefiles as they were shown: what `module show` of Environment Modules says, written as one.
 //! Takes memory and touches nothing else.
 #![tactic(auto)]
 

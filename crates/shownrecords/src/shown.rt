@@ -1,6 +1,6 @@
 //! The commands that `module show` has shown.
-ghost use Rattle.std.specs.Prelude.{◌≡◌, ◌==◌, ◌≤◌, ◌++◌, ◌∷◌, [], length, map, not, option_and_then, IfOk, string_bytes};
-ghost use Rattle.std.specs.List.{list_any, position_or_len};
+ghost use Rattle.std.specs.Prelude.{◌≡◌, ◌==◌, ◌≤◌, ◌++◌, ◌∷◌, [], length, map, IfOk, string_bytes};
+ghost use Rattle.std.specs.List.{list_any};
 ghost use Rattle.std.specs.Option.{option_map};
 ghost use Rattle.tclchars.specs.Bytes.{is_space, tab};
 ghost use Rattle.tclchars.specs.Classes.{begins_in};
@@ -148,12 +148,19 @@ fn begins_tab(text: &[u8]) -> bool
     }
 }
 
+/// Whether the line is of `system`, which runs a program and changes no variable.
+fn is_action(line: &[u8]) -> bool
+    ensures { result ≡ spec.is_action line.now }
+{
+    line.starts_with(b"system\t")
+}
+
 /// Whether the line is of a command.
 fn is_of_command(line: &[u8]) -> bool
     ensures { result ≡ spec.is_of_command line.now }
 {
     let end = name_end(line);
-    0 < end && begins_tab(&line[end..])
+    0 < end && begins_tab(&line[end..]) && !is_action(line)
 }
 
 /// Whether the line says that the file failed.

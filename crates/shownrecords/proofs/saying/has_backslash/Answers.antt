@@ -1,5 +1,4 @@
 use Rattle.std.proofs.Common.{◌==◌, ℕ, rules, tests}
-use Rattle.std.proofs.lemmas.Bool.Decides.{nat_tests}
 use Rattle.std.proofs.lemmas.Iterator.Search.{any_from_yields_List}
 use Rattle.std.proofs.lemmas.Iterator.{YieldsList-from_slice}
 use Rattle.shownrecords.proofs.saying.has_backslash.Goals as goal
