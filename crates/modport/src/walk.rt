@@ -6,7 +6,7 @@ use crate::porting::{Manner, port_file};
 use crate::reporting::{fault_line, left_out_line};
 use crate::site_walk::{module_of, site_of};
 use crate::status::Status;
-use crate::texts::{joined, kind_of, modulefile, read, write_new};
+use crate::texts::{joined, kind_of, modulefile, read, shown_text, write_new};
 use families::{Home, Site};
 use filetree::{DiskTree, Tree};
 use std::alloc::{AllocError, Global};
@@ -37,6 +37,8 @@ pub(crate) struct Walk<'r> {
     manner: Manner<'r>,
     /// Whether each modulefile is to be in conflict with its own name.
     one_version: bool,
+    /// The directory with what was shown of each, where there is one.
+    shown: Option<&'r str>,
     /// What the files of the site say of its modules.
     site: Site,
     /// How far what was read so far is within the profile.
@@ -117,7 +119,21 @@ impl<'r> Walk<'r> {
         }
     }
 
-    /// Translates a file of this module, which is to be in conflict with a name, where one is given.
+    /// What was shown of the file of this name in a directory, where something was.
+    fn shown_of(&self, folder: &Folder, name: &str) -> Result<Option<String>, PortFault> {
+        let Some(shown) = self.shown else {
+            return Ok(None);
+        };
+        let alloc = self.rt.alloc();
+        let name = name_below(alloc, folder.name.as_str(), name)?;
+        match shown_text(self.rt, joined(alloc, shown, name.as_str())?.as_str()) {
+            Err(PortFault::NoFile) => Ok(None),
+            text => text,
+        }
+    }
+
+    /// Translates a file of this module, which is to be in conflict with a name, where one is given, and flattens it by
+    /// what was shown, where something was.
     fn file(
         &mut self,
         from: &str,
@@ -125,6 +141,7 @@ impl<'r> Walk<'r> {
         found: &Metadata,
         module: &str,
         name: Option<&str>,
+        shown: Option<&str>,
     ) -> Result<(), PortFault> {
         let alloc = self.rt.alloc();
         let Some(file) = modulefile(alloc, read(self.rt, from)?.as_slice())? else {
@@ -135,7 +152,7 @@ impl<'r> Walk<'r> {
             site: &self.site,
             name: module.as_bytes(),
         };
-        let ported = port_file(alloc, self.manner, from, file, Some(home), name)?;
+        let ported = port_file(alloc, self.manner, from, file, Some(home), name, shown)?;
         if let Some(to) = to {
             write_new(self.rt, to, ported.text.as_bytes(), found)?;
         }
@@ -205,9 +222,10 @@ impl<'r> Walk<'r> {
             let name = name_below(self.rt.alloc(), folder.name.as_str(), name)?;
             self.folder(from, to, &found, name)
         } else if found.is_file() {
+            let shown = self.shown_of(folder, name)?;
             let module = module_of(folder.name.as_str(), name);
             let name = self.conflicting(folder, name);
-            self.file(from.as_str(), target, &found, module, name)
+            self.file(from.as_str(), target, &found, module, name, shown.as_deref())
         } else if found.is_symlink() {
             self.link(from.as_str(), target)
         } else {
@@ -263,7 +281,7 @@ impl<'r> Walk<'r> {
 }
 
 /// Translates the files below a directory, below another where there is one, writes the report to standard output, and
-/// gives the status.
+/// gives the status. What was shown of each is below a third, where there is one.
 ///
 /// The errors: the directories can't be taken; memory ran out, or the report couldn't be written, in its midst. A fault
 /// at one path is said on standard error.
@@ -271,6 +289,7 @@ pub(crate) fn walk_tree<'r>(
     rt: &'r HostRuntime,
     manner: Manner<'r>,
     walked: Walked,
+    shown: Option<&'r str>,
 ) -> Result<Status, PortFault> {
     let Walked {
         from,
@@ -285,6 +304,7 @@ pub(crate) fn walk_tree<'r>(
         rt,
         manner,
         one_version,
+        shown,
         site: site_of(rt, from.as_str())?,
         status: Status::Within,
         folders: Vec::new(rt.alloc()),
