@@ -30,9 +30,11 @@ refused_so port owner flat translated notes serving h j e =
 pub flat_so : (port : Porting) (owner : Owner) (json : Bool) (path : Text) (how : Writing) (given : Text) (cs : List Command) (flat translated written said : Text)
     (notes : List Note) (serving : Bool) → HasTranslation port.home port.left_out flat translated notes → WasJudged owner translated notes serving → serving ≡ true
     → IsPut port.name json path how given cs translated notes written said → IsFlatSo port owner json path how given cs flat written said
-flat_so port owner json path how given cs flat translated written said notes serving h j e (added, a, s) =
-    (flattened_lines how given cs notes added,
-    (translated, notes, added, record { is_judged = (h, subst (WasJudged owner translated notes) e j); adds = a; says = refl }), s)
+flat_so port owner json path how given cs flat translated written said notes serving h j e (added, a, s) = (
+  flattened_lines how given cs notes added,
+  (translated, notes, added, record { is_judged = (h, subst (WasJudged owner translated notes) e j); adds = a; says = refl }),
+  s,
+)
 
 -- what was found of a script, for each tree of it
 abbrev WasFlattened : Owner → Text → Text → Option Text → Type 0

@@ -35,9 +35,13 @@ said_of owner commands flat text false h = let never : Some flat ≡ None = h in
 
 saying_front : (owner : Owner) (text flat : Text) (cs : List Command) (commands : List (List Text)) → Some flat ≡ saying owner text cs commands → HasFront text cs flat
 saying_front owner text flat [] commands h = let never : Some flat ≡ None = h in cc
-saying_front owner text flat (c ∷ cs) commands h =
-    (c, cs, commands_text owner commands, refl,
-    said_of owner commands flat (take c.offset text ++ commands_text owner commands) (is_script (take c.offset text ++ commands_text owner commands)) h)
+saying_front owner text flat (c ∷ cs) commands h = (
+  c,
+  cs,
+  commands_text owner commands,
+  refl,
+  said_of owner commands flat (take c.offset text ++ commands_text owner commands) (is_script (take c.offset text ++ commands_text owner commands)) h,
+)
 
 shown_front : (owner : Owner) (text flat : Text) (cs : List Command) (commands : Option (List (List Text))) → Some flat ≡ option_and_then (saying owner text cs) commands
     → HasFront text cs flat

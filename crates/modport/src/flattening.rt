@@ -93,7 +93,14 @@ fn written_flat(
 {
     let Translation { text, notes } = translation;
     let OneVersion { text, added } = one_version_of(alloc, text, given.name)?;
-    let report = report_on(alloc, json, given, script, notes.as_slice(), bytes_of(&added))?;
+    let report = report_on(
+        alloc,
+        json,
+        given,
+        script,
+        notes.as_slice(),
+        bytes_of(&added),
+    )?;
     Ok(Ported {
         text,
         report,

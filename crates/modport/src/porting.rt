@@ -19,8 +19,8 @@ use crate::status::Status;
 use computedwords::{Binding, Computed, Edit, compute};
 use families::Home;
 use filetext::FileText;
-use shownrecords::Owner;
 use oneversion::with_one_version;
+use shownrecords::Owner;
 use std::alloc::{AllocError, Global};
 use translation::{Note, Translation, translate};
 
@@ -136,7 +136,11 @@ fn named_version(alloc: Global, text: String, name: &str) -> Result<OneVersion, 
 }
 
 /// A script in conflict with a name, where one is given.
-pub(crate) fn one_version_of(alloc: Global, text: String, name: Option<&str>) -> Result<OneVersion, PortFault>
+pub(crate) fn one_version_of(
+    alloc: Global,
+    text: String,
+    name: Option<&str>,
+) -> Result<OneVersion, PortFault>
     requires { Parses (string_bytes text) }
     ensures parses { IfOk result (λ v. Parses (string_bytes v.text)) }
     ensures adds { IfOk result (λ v. spec.IsOneVersion (now name.entry) (string_bytes text) (string_bytes v.text)

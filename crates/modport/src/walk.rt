@@ -225,7 +225,14 @@ impl<'r> Walk<'r> {
             let shown = self.shown_of(folder, name)?;
             let module = module_of(folder.name.as_str(), name);
             let name = self.conflicting(folder, name);
-            self.file(from.as_str(), target, &found, module, name, shown.as_deref())
+            self.file(
+                from.as_str(),
+                target,
+                &found,
+                module,
+                name,
+                shown.as_deref(),
+            )
         } else if found.is_symlink() {
             self.link(from.as_str(), target)
         } else {
