@@ -1,18 +1,19 @@
 //! A modulefile of which something is left out, flattened by what Environment Modules has shown of it.
 ghost use Rattle.std.specs.Prelude.{◌≡◌, IfOk, IfSome, MatchOption, Some, string_bytes};
 ghost use Rattle.std.specs.Option.{option_map};
+ghost use Rattle.aliases.specs.Views.{shell_scripts_view};
 ghost use Rattle.families.specs.Views.{home_view};
 ghost use Rattle.tclscript.specs.Text.{IsWithin};
 ghost use Rattle.tclscript.specs.Tree.{Commands};
 ghost use Rattle.tclscript.specs.View.{script_view};
-ghost use Rattle.portforms.specs.Words.{commands_in};
+ghost use Rattle.portforms.specs.Words.{commands_in, texts};
 ghost use Rattle.scripttext.specs.ScriptTexts.{Parses};
 ghost use Rattle.shownrecords.specs.Views.{owner_view};
-ghost use Rattle.translation.specs.TranslationViews.{notes_view};
+ghost use Rattle.translation.specs.TranslationViews.{HasTranslation, notes_view};
 ghost use Rattle.modport.specs.Flattening as spec;
 ghost use Rattle.modport.specs.Flattening.{DoesNotServe, IsFlattenedSo, IsWritten};
 ghost use Rattle.modport.specs.Lines as lines;
-ghost use Rattle.modport.specs.Ported.{IsReported};
+ghost use Rattle.modport.specs.Ported.{HasScriptsOf, IsReported};
 ghost use Rattle.modport.specs.LineViews.{coming_view, now, porting_view};
 ghost use Rattle.modport.specs.declared.status.Status.TheVariants.{Within};
 
@@ -56,13 +57,13 @@ fn without_scripts(home: Option<Home<'_>>) -> Option<Home<'_>>
     }
 }
 
-/// Whether a translated text serves: nothing is left of it, and each of its commands is a record, for the owner.
-fn serves(alloc: Global, owner: Owner, notes: &[Note], text: &str) -> Result<bool, PortFault>
-    ensures { IfOk result (λ serves. (t : Commands) × IsWithin text.now t
-        × (serves ≡ spec.serves (owner_view owner.entry) (notes_view notes.now) (commands_in t))) }
+/// Whether a translation serves: nothing is left of it, and each of its commands is a record, for the owner.
+fn serves(alloc: Global, owner: Owner, translation: &Translation) -> Result<bool, PortFault>
+    ensures { IfOk result (λ serves. (t : Commands) × IsWithin (string_bytes translation.now.text) t
+        × (serves ≡ spec.serves (owner_view owner.entry) (notes_view translation.now.notes.items) (commands_in t))) }
 {
-    let records = are_records(alloc, owner, text)?;
-    Ok(!has_left(notes) && records)
+    let records = are_records(alloc, owner, translation.text.as_str())?;
+    Ok(!has_left(translation.notes.as_slice()) && records)
 }
 
 /// What is said of a file of this script that is flattened.
@@ -125,8 +126,22 @@ fn written_flat(
     })
 }
 
+/// The translation of a flattened text, in whose home no scripts are written.
+fn flat_translation<'f>(
+    alloc: Global,
+    manner: Manner,
+    home: Option<Home>,
+    flat: &'f str,
+) -> Result<Translation<'f>, PortFault>
+    ensures parses { IfOk result (λ t. Parses (string_bytes t.text)) }
+    ensures found { IfOk result (λ t. HasTranslation (spec.without_scripts (option_map home_view home.entry))
+        (texts manner.entry.left_out.now) flat.entry.now (string_bytes t.text) (notes_view t.notes.items)) }
+{
+    Ok(translate(alloc, without_scripts(home), flat, manner.left_out)?)
+}
+
 /// A file of this script, flattened to this text, where it serves.
-#[tactic(auto, using(crate::proofs::Flat::flat_so, crate::proofs::Flat::refused_so))]
+#[tactic(auto, using(crate::proofs::Flat::refused_so))]
 fn of_flat(
     alloc: Global,
     manner: Manner,
@@ -144,10 +159,8 @@ fn of_flat(
         (string_bytes w.text) w.report.items)) }
     ensures status { IfOk result (λ p. IfSome p (λ w. w.status ≡ Within)) }
 {
-    let home = without_scripts(given.home);
-    let translation = translate(alloc, home, flat, manner.left_out)?;
-    let text = translation.text.as_str();
-    if serves(alloc, manner.owner, translation.notes.as_slice(), text)? {
+    let translation = flat_translation(alloc, manner, given.home, flat)?;
+    if serves(alloc, manner.owner, &translation)? {
         Ok(Some(written_flat(alloc, manner.json, given, script, translation)?))
     } else {
         Ok(None)
@@ -192,11 +205,14 @@ pub(crate) fn or_flattened(
     requires reported { IsReported (porting_view manner given.home given.name) manner.json
         given.path.now (coming_view given.coming) given.text.now (string_bytes ported.text)
         ported.report.items ported.status }
+    requires scripts { HasScriptsOf (porting_view manner given.home given.name) given.text.now
+        (shell_scripts_view ported.scripts.items) }
     ensures parses { IfOk result (λ p. Parses (string_bytes p.text)) }
     ensures written { IfOk result (λ p. IsWritten (porting_view manner.entry given.entry.home given.entry.name)
         (owner_view manner.entry.owner) (Some shown.now) manner.entry.json given.entry.path.now
         (coming_view given.entry.coming) given.entry.text.now (string_bytes p.text) p.report.items p.status) }
-    ensures scripts { IfOk result (λ p. p.scripts ≡ ported.scripts) }
+    ensures scripts { IfOk result (λ p. HasScriptsOf (porting_view manner.entry given.entry.home given.entry.name)
+        given.entry.text.now (shell_scripts_view p.scripts.items)) }
 {
     match ported.status {
         Status::Within => return Ok(ported),

@@ -238,6 +238,35 @@ fn port_text(
     })
 }
 
+/// What is written for a text that came so: its translation, or what it is flattened to.
+fn port_given(
+    alloc: Global,
+    manner: Manner,
+    given: Given,
+    shown: Option<&str>,
+) -> Result<Ported, PortFault>
+    ensures parses { IfOk result (λ p. Parses (string_bytes p.text)) }
+    ensures written { IfOk result (λ p. IsWritten (porting_view manner.entry given.entry.home given.entry.name)
+        (owner_view manner.entry.owner) (now shown.entry) manner.entry.json given.entry.path.now
+        (coming_view given.entry.coming) given.entry.text.now (string_bytes p.text) p.report.items p.status) }
+    ensures scripts { IfOk result (λ p. HasScriptsOf (porting_view manner.entry given.entry.home given.entry.name)
+        given.entry.text.now (shell_scripts_view p.scripts.items)) }
+{
+    let ported = port_text(
+        alloc,
+        manner,
+        given.path,
+        given.coming,
+        given.text,
+        given.home,
+        given.name,
+    )?;
+    match shown {
+        Some(shown) => or_flattened(alloc, manner, given, shown, ported),
+        None => Ok(ported),
+    }
+}
+
 /// The translation of a modulefile, and the report on it, where it has this path. It is in a site where a home is
 /// given, and is to be in conflict with a name where one is given. Where something of it is left, it is flattened by
 /// what is shown, where something is.
@@ -284,9 +313,5 @@ pub fn port_file(
         home,
         name,
     };
-    let ported = port_text(alloc, manner, path, coming, given.text, home, name)?;
-    match shown {
-        Some(shown) => or_flattened(alloc, manner, given, shown, ported),
-        None => Ok(ported),
-    }
+    port_given(alloc, manner, given, shown)
 }
