@@ -84,8 +84,8 @@ def test_translated_twice(folder, row):
 def test_refused(folder):
     """Nothing is written where the modulefile isn't there, isn't a script or isn't named."""
     usage = (
-        "Usage: modport [--json] [--host NAME=VALUE]... FILE | --stdin | [--one-version] --check FROM | "
-        "[--one-version] FROM TO"
+        "Usage: modport [--json] [--host NAME=VALUE]... [--flatten SHOWN [--kept NAME=VALUE]...] FILE | --stdin | "
+        "[--one-version] --check FROM | [--one-version] FROM TO"
     )
     os.mkfifo(folder.at("fifo"))
     for words, given, said in (
@@ -105,6 +105,15 @@ def test_refused(folder):
         (["--host", "processor=x", "a"], b"", usage),
         (["--host", "machine=x", "--host", "machine=x", "a"], b"", usage),
         (["a", "--host"], b"", usage),
+        (["a", "--flatten"], b"", usage),
+        (["--flatten", "s", "--flatten", "s", "a"], b"", usage),
+        (["--kept", "HOME=/home/me", "a"], b"", usage),
+        (["--flatten", "s", "--kept", "HOME=home", "a"], b"", usage),
+        (["--flatten", "s", "--kept", "HOME=/", "a"], b"", usage),
+        (["--flatten", "s", "--kept", "USER=a/b", "a"], b"", usage),
+        (["--flatten", "s", "--kept", "SHELL=sh", "a"], b"", usage),
+        (["--flatten", "s", "--kept", "USER=me", "--kept", "USER=me", "a"], b"", usage),
+        (["--flatten", "nothing", "--stdin"], b"#%Module\n", "No such file"),
     ):
         done = folder.run(*words, given=given)
         same((done.stdout, done.stderr.decode(), done.returncode), (b"", f"ERROR: {said}\n", 2), f"of {words}")
@@ -249,6 +258,136 @@ def test_computed_in_json(folder):
         "the report",
     )
     same(done.stdout.decode(), COOKIE + "\nsetenv A /a/b\n", "what is written")
+
+
+# What is flattened.
+
+DASHES = 67 * "-"
+KEPT = ("--kept", "HOME=/home/me", "--kept", "USER=me")
+
+
+def shown(*lines):
+    """What `module show` writes of a file whose commands and messages these are (module(1))."""
+    return "\n".join([DASHES, "/apps/modules/tool/1:", "", *lines, DASHES, ""])
+
+
+def tabbed(line):
+    """The line of a command as it is shown: tabs stand behind its name."""
+    name, _, words = line.partition(" ")
+    return name + ("\t\t" if len(name) < 8 else "\t") + words
+
+
+def flattened(folder, given, text, *words):
+    """What is written for a modulefile of which this was shown, what is said without the path, and the status."""
+    path = os.fsdecode(folder.file("m", given))
+    done = folder.run("--flatten", folder.file("shown", text), *words, path)
+    said = done.stderr.decode().splitlines()
+    true(all(line.startswith(f"{path}:") for line in said), f"the path stands before each of {said}")
+    return done.stdout.decode(), [line.removeprefix(path) for line in said], done.returncode
+
+
+def test_flattened(folder):
+    """What was shown stands in place of the commands, behind what is before the first; each command has a line."""
+    given = (
+        "#%Module1.0\n# A tool\n\nset cores [exec nproc]; set n 1\nif {$cores > 2} {\n  setenv CORES $cores\n}\n# end\n"
+    )
+    lines = (tabbed("setenv CORES 4"), "tool is loaded", tabbed("system mkdir /tmp/x"), tabbed("setenv TEXT {a b}"))
+    same(
+        flattened(folder, given, shown(*lines)),
+        (
+            "#%Module1.0\n# A tool\n\nsetenv CORES 4\nsetenv TEXT {a b}\n",
+            [
+                ":4: flattened: set cores [exec nproc]; set n 1",
+                ":4: flattened: set n 1",
+                ":5: flattened: if {$cores > 2} {",
+            ],
+            0,
+        ),
+        "what is written and said",
+    )
+
+
+def test_flattened_in_json(folder):
+    path = os.fsdecode(folder.file("m", COOKIE + "exec true\n"))
+    done = folder.run("--json", "--flatten", folder.file("shown", shown(tabbed("module load b"))), path)
+    same(
+        [json.loads(line) for line in done.stderr.decode().splitlines()],
+        [
+            {"file": path, "line": 2, "what": "exec true", "why": "flattened"},
+            {"file": path, "what": "module load b", "why": "translated"},
+        ],
+        "the report",
+    )
+    same((done.stdout.decode(), done.returncode), (COOKIE + "prereq b\n", 0), "what is written")
+
+
+# A command as it is shown, and what is written for it.
+SHOWN = (
+    ("setenv A {}", "setenv A {}"),
+    ("setenv A x#y", "setenv A x#y"),
+    ("setenv A #x", "setenv A {#x}"),
+    ("setenv A a;b", "setenv A {a;b}"),
+    ("setenv A $x[y]", "setenv A {$x[y]}"),
+    ("setenv A {a {b} c}", "setenv A {a {b} c}"),
+    ("unsetenv A", "unsetenv A"),
+    ("pushenv A v", "pushenv A v"),
+    ("remove-path P /x", "remove-path P /x"),
+    ("prepend-path -d { } P a b", "prepend-path -d { } P a b"),
+    ("append-path --delim=, P a", "append-path --delim=, P a"),
+    ("prepend-path --duplicates P /x", "prepend-path P /x"),
+    ("conflict b c", "conflict b c"),
+    ("prereq b c", "prereq b c"),
+    ("depends-on b c", "prereq b\nprereq c"),
+    ("module use /apps/more", "prepend-path MODULEPATH /apps/more"),
+    ("module-whatis {A tool}", "module-whatis {A tool}"),
+    ("module-whatis A tool", "module-whatis A tool"),
+    ("setenv A /home/me", 'setenv A "[getenv HOME]"'),
+    ("setenv A {/home/me/x y}", 'setenv A "[getenv HOME]/x y"'),
+    ("setenv A /home/men", "setenv A /home/men"),
+    ("setenv A /x/home/me", 'setenv A "/x/home/[getenv USER]"'),
+    ("setenv A me", 'setenv A "[getenv USER]"'),
+    ("setenv A me-too", "setenv A me-too"),
+    ("setenv me x", "setenv me x"),
+    ("prereq me", "prereq me"),
+    ("prepend-path P /x:/home/me/me:me", 'prepend-path P "/x:[getenv HOME]/[getenv USER]:[getenv USER]"'),
+    ("prepend-path --delim : P /home/me/bin", 'prepend-path --delim : P "[getenv HOME]/bin"'),
+)  # fmt: skip
+
+
+@pytest.mark.parametrize("line, written", SHOWN)
+def test_shown_commands(folder, line, written):
+    found = flattened(folder, COOKIE + "exec true\n", shown(tabbed(line)), *KEPT)
+    same((found[0], found[2]), (f"{COOKIE}{written}\n", 0), "what is written, and the status")
+
+
+# What doesn't serve: a file of it stays as it is.
+UNSERVING = (
+    ("nothing", ""),
+    ("no end", shown(tabbed("setenv A 1")).removesuffix(DASHES + "\n")),
+    ("a failure", shown(tabbed("setenv A 1"), "Module ERROR: no such thing")),
+    ("no such module", "ERROR: Unable to locate a modulefile for 'tool'\n"),
+    ("an alias", shown(tabbed("setenv A 1"), tabbed("set-alias ll {ls -l}"))),
+    ("another command", shown(tabbed("setenv A 1"), tabbed("always-load b"))),
+    ("an option", shown(tabbed("setenv --set-if-undef A 1"))),
+    ("a value in two lines", shown("setenv\t\tA {a", "b}")),
+    ("a backslash", shown("setenv\t\tA a\\fb")),
+    ("quotes", shown('setenv\t\tA "a"')),
+    ("a search in a home", shown(tabbed("module use /home/me/modules"))),
+    ("a home with a variable", shown(tabbed("setenv A /home/me/$x"))),
+)
+
+
+@pytest.mark.parametrize("text", [it[1] for it in UNSERVING], ids=[it[0] for it in UNSERVING])
+def test_what_does_not_serve(folder, text):
+    given = COOKIE + "# kept\nexec true\nmodule load b\n"
+    written = COOKIE + "# kept\nexec true\nprereq b\n"
+    said = [":3: left out: exec", ":4: translated: module load b"]
+    same(flattened(folder, given, text, *KEPT), (written, said, 1), "what is written and said")
+
+
+def test_what_is_within_is_not_flattened(folder):
+    found = flattened(folder, COOKIE + "module load b\n", shown(tabbed("setenv A 1")))
+    same(found, (COOKIE + "prereq b\n", [":2: translated: module load b"], 0), "what is written and said")
 
 
 # Trees.
@@ -632,9 +771,10 @@ def needed(files, name, found):
     return found
 
 
-def made(tool, place, names):
+def made(tool, place, names, **more):
     """The variables that a tool makes of loads from a folder, but for its own."""
     env = {b"MODULEPATH": os.fsencode(place), b"PATH": b"/usr/bin:/bin"}
+    env |= {os.fsencode(name): os.fsencode(value) for name, value in more.items()}
     words = [tool, "sh", "load", *names]
     done = subprocess.run(words, env=env, capture_output=True, timeout=SECONDS, check=True)
     true(b"ERROR" not in done.stderr, f"{words} in {place}: {done.stderr.decode()}")
@@ -688,3 +828,49 @@ def test_symbols_beside_environment_modules(folder, tool, name):
     words = [tool, "sh", "load", name]
     done = subprocess.run(words, env=env, capture_output=True, timeout=SECONDS, check=True)
     same(NEED.findall(contents(new)["app/1"]), [evaluated(done.stdout, env)[b"LOADEDMODULES"]], f"what {name} means")
+
+
+# Files as sites write them, of which something is left out, and whether it stays so.
+ASKING = {
+    "exec/1": ("set cores [exec echo 4]\nsetenv CORES $cores\nputs stderr cores\n", False),
+    "exists/1": (
+        "set root /usr\nif {[file isdirectory $root/bin]} { prepend-path TOOLS $root/bin } else { setenv NONE 1 }\n"
+        "if {![file exists /nothing]} { setenv PLACE [file normalize $root/../usr] }\n",
+        False,
+    ),
+    "regexp/1": (
+        "set version [file tail $ModulesCurrentModulefile]\nregexp {^([0-9]+)} $version all major\n"
+        "setenv MAJOR $major\narray set of {a 1 b 2}\n"
+        "foreach it [lsort [array names of]] { append-path OF $of($it) }\n",
+        False,
+    ),
+    "home/1": (
+        "set user [string tolower $env(USER)]\nset home [file normalize $env(HOME)]\nsetenv CACHE $home/.cache/tool\n"
+        "prepend-path DATA /scratch/$user/data:$home\n",
+        False,
+    ),
+    "system/1": ("set done [system true]\nsetenv DONE 1\nsetenv TEXT {a  b}\n", False),
+    "script/1": ("source-sh sh {SCRIPT}\n", False),
+    "alias/1": ("set-function f {exec true}\nset x [exec echo 1]\nsetenv X $x\n", True),
+}
+
+
+def test_flattened_beside_environment_modules(folder, tool):
+    """A module of which what Environment Modules shows was written makes the environment that it makes, for another
+    user as well."""
+    script = os.fsdecode(folder.file("setup.sh", "export LICENSE=27000@host\nPATH=/opt/tool/bin:$PATH\n"))
+    old, new = tree(folder, {name: COOKIE + text.replace("{SCRIPT}", script) for name, (text, _) in ASKING.items()})
+    for name in ASKING:
+        env = {b"MODULEPATH": old, b"PATH": b"/usr/bin:/bin", b"HOME": b"/home/me", b"USER": b"me"}
+        done = subprocess.run([tool, "sh", "show", name], env=env, capture_output=True, timeout=SECONDS, check=True)
+        folder.file(f"shown/{name}", done.stderr)
+    done = folder.run("--flatten", folder.at("shown"), *KEPT, old, new)
+    said = done.stdout.decode()
+    same((done.stderr, done.returncode), (b"", 1), "standard error and status")
+    files = contents(new)
+    for name, (given, stays) in ASKING.items():
+        same(f"/{name}:2: flattened: " in said, not stays, f"whether {name} is flattened")
+        for user in ("me", "you"):
+            of = {"HOME": f"/home/{user}", "USER": user}
+            same(made(tool, new, [name], **of), made(tool, old, [name], **of), f"what {name} makes for {user}")
+    true(b"[getenv HOME]/.cache/tool" in files["home/1"], "the home directory is asked for")

@@ -198,14 +198,12 @@ def add_environment_modules(machine):
     place = environment_modules()
     for path in itertools.chain.from_iterable(glob.glob(f"{place}/{file}") for file in FILES):
         aim = machine.root + path.removeprefix(place)
+        os.makedirs(os.path.dirname(aim), exist_ok=True)
         if os.path.isdir(path):
             shutil.copytree(path, aim)
         else:
-            copy(path, machine.root)
-            os.makedirs(os.path.dirname(aim), exist_ok=True)
             shutil.copy(path, aim)
-    tclsh = os.path.realpath(shutil.which("tclsh"))
-    copy(tclsh, machine.root)
+    copy(os.path.realpath(shutil.which("tclsh")), machine.root)
     for path in glob.glob("/usr/share/tcltk/tcl8*"):
         shutil.copytree(path, machine.root + path, symlinks=True)
     machine.write("/etc/environment-modules/initrc", "#%Module5.0\n")

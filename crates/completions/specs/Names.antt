@@ -24,9 +24,11 @@ audit_options = codes "--help" ∷ codes "--json" ∷ codes "--quiet" ∷ []
 unfoldable pub port_options : List Text
 port_options =
     codes "--check"
+    ∷ codes "--flatten"
     ∷ codes "--help"
     ∷ codes "--host"
     ∷ codes "--json"
+    ∷ codes "--kept"
     ∷ codes "--one-version"
     ∷ codes "--stdin"
     ∷ []

@@ -42,9 +42,11 @@ fn port_options() -> &'static [&'static str]
 {
     &[
         "--check",
+        "--flatten",
         "--help",
         "--host",
         "--json",
+        "--kept",
         "--one-version",
         "--stdin",
     ]

@@ -1,4 +1,6 @@
 pub mod Accounted
+pub mod Flat
+pub mod Flattened
 pub mod Reported
 pub mod Taken
 pub mod Tokens

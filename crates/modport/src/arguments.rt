@@ -2,6 +2,7 @@
 
 use crate::fault::PortFault;
 use crate::host::Host;
+use crate::kept::Kept;
 use std::alloc::Global;
 
 /// What is translated, and where it is written.
@@ -35,8 +36,47 @@ pub(crate) struct Wanted {
     pub job: Job,
     /// Whether each line of the report is JSON.
     pub json: bool,
-    /// What is said of the host that the modulefiles are for.
+    /// What is said besides.
+    pub said: Said,
+}
+
+/// What the words behind options say.
+#[derive(Debug, Drop)]
+pub(crate) struct Said {
+    /// Of the host that the modulefiles are for.
     pub host: Host,
+    /// Of whose environment modulefiles were shown in.
+    pub kept: Kept,
+    /// The path of what was shown.
+    pub shown: Option<String>,
+}
+
+impl Said {
+    /// Adds what a word says behind an option.
+    ///
+    /// The errors: want of memory; it says nothing, or what is said already.
+    fn add(&mut self, alloc: Global, option: Telling, word: &str) -> Result<(), PortFault> {
+        match option {
+            Telling::Host => self.host.add(alloc, word),
+            Telling::Kept => self.kept.add(alloc, word),
+            Telling::Shown if self.shown.is_none() => {
+                self.shown = Some(String::from_str(alloc, word)?);
+                Ok(())
+            }
+            Telling::Shown => Err(PortFault::Usage),
+        }
+    }
+}
+
+/// An option behind which a word says something.
+#[derive(Clone, Copy)]
+enum Telling {
+    /// `--host`
+    Host,
+    /// `--kept`
+    Kept,
+    /// `--flatten`
+    Shown,
 }
 
 /// Which options stand before the paths.
@@ -47,8 +87,8 @@ struct Options {
     check: bool,
     json: bool,
     one_version: bool,
-    /// Whether the last word was `--host`, behind which one stands that says something of the host.
-    of_host: bool,
+    /// The last word, where one stands behind it that says something.
+    telling: Option<Telling>,
     /// Whether a word was `--`, behind which no word is an option.
     ended: bool,
 }
@@ -67,28 +107,30 @@ impl Options {
             "--check" => self.check = true,
             "--json" => self.json = true,
             "--one-version" => self.one_version = true,
-            "--host" => self.of_host = true,
+            "--host" => self.telling = Some(Telling::Host),
+            "--kept" => self.telling = Some(Telling::Kept),
+            "--flatten" => self.telling = Some(Telling::Shown),
             "--" => self.ended = true,
             _ => return Err(PortFault::Usage),
         }
         Ok(true)
     }
 
-    /// Whether the word is one that says something of the host, to which it is added.
+    /// Whether the word is one that says something behind an option, which is added.
     ///
     /// The errors: want of memory; it says nothing.
-    fn describes(&mut self, alloc: Global, host: &mut Host, word: &str) -> Result<bool, PortFault> {
-        if !self.of_host {
+    fn tells(&mut self, alloc: Global, said: &mut Said, word: &str) -> Result<bool, PortFault> {
+        let Some(option) = self.telling else {
             return Ok(false);
-        }
-        self.of_host = false;
-        host.add(alloc, word)?;
+        };
+        self.telling = None;
+        said.add(alloc, option, word)?;
         Ok(true)
     }
 
     /// What is asked for, with these paths.
     fn job(self, mut paths: Vec<String>) -> Result<Job, PortFault> {
-        if self.of_host {
+        if self.telling.is_some() {
             return Err(PortFault::Usage);
         }
         if self.help {
@@ -129,20 +171,27 @@ pub(crate) fn asked_for(alloc: Global, words: Vec<String>) -> Result<Wanted, Por
         check: false,
         json: false,
         one_version: false,
-        of_host: false,
+        telling: None,
         ended: false,
     };
-    let mut host = Host::new(alloc);
+    let mut said = Said {
+        host: Host::new(alloc),
+        kept: Kept::new(),
+        shown: None,
+    };
     let mut paths = Vec::new(alloc);
     for word in words {
-        if !options.describes(alloc, &mut host, word.as_str())? && !options.take(word.as_str())? {
+        if !options.tells(alloc, &mut said, word.as_str())? && !options.take(word.as_str())? {
             paths.push(word)?;
         }
+    }
+    if said.shown.is_none() && !said.kept.is_empty() {
+        return Err(PortFault::Usage);
     }
     let job = options.job(paths)?;
     Ok(Wanted {
         job,
         json: options.json,
-        host,
+        said,
     })
 }

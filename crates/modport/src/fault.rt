@@ -8,8 +8,8 @@ use tclchars::TextFault;
 use translation::TranslationFault;
 
 /// How the program is called.
-pub(crate) const USAGE: &str = "Usage: modport [--json] [--host NAME=VALUE]... FILE | --stdin | \
-     [--one-version] --check FROM | [--one-version] FROM TO";
+pub(crate) const USAGE: &str = "Usage: modport [--json] [--host NAME=VALUE]... \
+     [--flatten SHOWN [--kept NAME=VALUE]...] FILE | --stdin | [--one-version] --check FROM | [--one-version] FROM TO";
 
 /// Why nothing was translated, or not all.
 #[derive(Debug, Drop)]

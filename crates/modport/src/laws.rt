@@ -1,10 +1,14 @@
 //! Laws of what is written: functions that do nothing, whose contracts are theorems about the definitions.
-ghost use Rattle.std.specs.Prelude.{◌≡◌, List, [], ◌++◌, map, Option};
+ghost use Rattle.std.specs.Prelude.{◌≡◌, List, [], ◌++◌, map, Option, Some};
 ghost use Rattle.tclchars.specs.Runs.{Text};
+ghost use Rattle.tclscript.specs.Tree.{Command};
 ghost use Rattle.filetext.specs.FileTexts.{text_of, Writing, writing_of};
 ghost use Rattle.computedwords.specs.Walks.{Edit};
 ghost use Rattle.translation.specs.Notes.{Note};
 ghost use Rattle.modport.specs.Accounts.{Accounts, AccountsForCommands};
+ghost use Rattle.shownrecords.specs.Flattened.{flattened};
+ghost use Rattle.shownrecords.specs.Owners.{Owner};
+ghost use Rattle.modport.specs.Flattening.{command_line, IsFlattened};
 ghost use Rattle.modport.specs.Lines.{Line};
 ghost use Rattle.modport.specs.Ported.{added_lines, edit_line, IsPorted, note_line, Porting, Steps};
 ghost use Rattle.modport.specs.declared.status.Status.{Status};
@@ -31,4 +35,13 @@ pub fn accounted_for()
 pub fn unsaid_is_same()
     ensures { (port : Porting) (bytes written : Text) (status : Status)
         → IsPorted port (writing_of bytes) (text_of bytes) written [] status → written ≡ bytes }
+{}
+
+/// What is flattened accounts for each command of the file: its text is cut where these begin, and each has a line. So
+/// something is said of each file that is flattened.
+pub fn flattened_accounted_for()
+    ensures commands { (owner : Owner) (shown given flat : Text) (cs : List Command)
+        → Some flat ≡ flattened owner given cs shown → Accounts given flat (map (command_line given) cs) }
+    ensures said { (port : Porting) (owner : Owner) (shown : Text) (how : Writing) (given written : Text)
+        → IsFlattened port owner shown how given written [] → ⊥ }
 {}

@@ -5,7 +5,9 @@
 
 mod arguments;
 mod fault;
+mod flattening;
 mod host;
+mod kept;
 mod laws;
 mod left_out;
 mod porting;
@@ -18,28 +20,41 @@ mod status;
 mod texts;
 mod walk;
 
-use arguments::{Job, Wanted, asked_for};
+use arguments::{Job, Said, Wanted, asked_for};
+use computedwords::Binding;
 use fault::{PortFault, USAGE};
 use filetext::file_text;
-pub use laws::{accounted_for, unsaid_is_same};
+use kept::Kept;
+pub use laws::{accounted_for, flattened_accounted_for, unsaid_is_same};
 use left_out::LEFT_OUT;
 use porting::{Manner, Ported, port_file};
 use processinput::arguments as words_of;
 use status::Status;
 use std::io::Write;
 use std::process::ExitCode;
-use texts::{read, read_input};
+use texts::{read, read_input, shown_text};
 use walk::walk_tree;
 
-/// Writes the translation of a text to standard output, and the report to standard error, where the text has this path.
-fn print(rt: &HostRuntime, manner: Manner, path: &str, bytes: &[u8]) -> Result<Status, PortFault> {
+/// Writes the translation of a text to standard output, and the report to standard error, where the text has this path,
+/// and what was shown of it is in the file at another, where one is given.
+fn print(
+    rt: &HostRuntime,
+    manner: Manner,
+    path: &str,
+    bytes: &[u8],
+    shown: Option<&str>,
+) -> Result<Status, PortFault> {
     let file = file_text(rt.alloc(), bytes)?;
+    let shown = match shown {
+        Some(shown) => shown_text(rt, shown)?,
+        None => None,
+    };
     let Ported {
         text,
         report,
         status,
         ..
-    } = port_file(rt.alloc(), manner, path, file, None, None)?;
+    } = port_file(rt.alloc(), manner, path, file, None, None, shown.as_deref())?;
     if rt.stdout().write_all(text.as_bytes()).is_err()
         || rt.stderr().write_all(report.as_slice()).is_err()
     {
@@ -56,23 +71,32 @@ fn help(rt: &HostRuntime) -> Result<Status, PortFault> {
     }
 }
 
+/// How modulefiles are translated, by what is known of the host, and of whose environment they were shown in.
+fn manner_of<'h>(json: bool, host: &'h [Binding<'h>], kept: &'h Kept) -> Manner<'h> {
+    let owner = kept.owner();
+    Manner {
+        json,
+        host,
+        left_out: &LEFT_OUT,
+        owner,
+    }
+}
+
 /// Does what the arguments ask for, and gives the status.
 fn port(rt: &HostRuntime) -> Result<Status, PortFault> {
-    let Wanted { job, json, host } = asked_for(rt.alloc(), words_of(rt)?)?;
+    let Wanted { job, json, said } = asked_for(rt.alloc(), words_of(rt)?)?;
+    let Said { host, kept, shown } = said;
     let bindings = host.bindings(rt.alloc())?;
-    let manner = Manner {
-        json,
-        host: bindings.as_slice(),
-        left_out: &LEFT_OUT,
-    };
+    let manner = manner_of(json, bindings.as_slice(), &kept);
+    let shown = shown.as_deref();
     match job {
         Job::Help => help(rt),
-        Job::Stdin => print(rt, manner, "--stdin", read_input(rt)?.as_slice()),
+        Job::Stdin => print(rt, manner, "--stdin", read_input(rt)?.as_slice(), shown),
         Job::File(path) => {
             let bytes = read(rt, path.as_str())?;
-            print(rt, manner, path.as_str(), bytes.as_slice())
+            print(rt, manner, path.as_str(), bytes.as_slice(), shown)
         }
-        Job::Tree(walked) => walk_tree(rt, manner, walked),
+        Job::Tree(walked) => walk_tree(rt, manner, walked, shown),
     }
 }
 

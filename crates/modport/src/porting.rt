@@ -9,8 +9,11 @@ ghost use Rattle.modport.specs.Lines as lines;
 ghost use Rattle.modport.specs.Ported as spec;
 ghost use Rattle.modport.specs.Ported.{HasScriptsOf, IsReported};
 ghost use Rattle.modport.specs.LineViews.{coming_view, now, porting_view};
+ghost use Rattle.modport.specs.Flattening.{IsWritten};
+ghost use Rattle.shownrecords.specs.Views.{owner_view};
 
 use crate::fault::PortFault;
+use crate::flattening::{Given, or_flattened};
 use crate::reporting::push_report;
 use crate::saying::{Coming, added_lines, edit_lines, note_lines, writing_lines};
 use crate::status::Status;
@@ -19,6 +22,7 @@ use computedwords::{Binding, Computed, Edit, compute};
 use families::Home;
 use filetext::FileText;
 use oneversion::with_one_version;
+use shownrecords::Owner;
 use std::alloc::{AllocError, Global};
 use translation::{Note, Translation, translate};
 
@@ -31,6 +35,8 @@ pub struct Manner<'h> {
     pub host: &'h [Binding<'h>],
     /// The names of commands that the profile leaves out.
     pub left_out: &'h [&'h str],
+    /// In whose environment modulefiles were shown.
+    pub owner: Owner<'h>,
 }
 
 /// What is written for a modulefile.
@@ -48,11 +54,11 @@ pub struct Ported {
 
 /// A text that is in conflict with a name, where it is to be.
 #[derive(Debug, Drop)]
-struct OneVersion {
+pub(crate) struct OneVersion {
     /// The text.
-    text: String,
+    pub text: String,
     /// The command that was added.
-    added: Option<String>,
+    pub added: Option<String>,
 }
 
 /// The text of these bytes.
@@ -134,7 +140,11 @@ fn named_version(alloc: Global, text: String, name: &str) -> Result<OneVersion, 
 }
 
 /// A script in conflict with a name, where one is given.
-fn one_version_of(alloc: Global, text: String, name: Option<&str>) -> Result<OneVersion, PortFault>
+pub(crate) fn one_version_of(
+    alloc: Global,
+    text: String,
+    name: Option<&str>,
+) -> Result<OneVersion, PortFault>
     requires { Parses (string_bytes text) }
     ensures parses { IfOk result (λ v. Parses (string_bytes v.text)) }
     ensures adds { IfOk result (λ v. spec.IsOneVersion (now name.entry) (string_bytes text) (string_bytes v.text)
@@ -228,8 +238,38 @@ fn port_text(
     })
 }
 
+/// What is written for a text that came so: its translation, or what it is flattened to.
+fn port_given(
+    alloc: Global,
+    manner: Manner,
+    given: Given,
+    shown: Option<&str>,
+) -> Result<Ported, PortFault>
+    ensures parses { IfOk result (λ p. Parses (string_bytes p.text)) }
+    ensures written { IfOk result (λ p. IsWritten (porting_view manner.entry given.entry.home given.entry.name)
+        (owner_view manner.entry.owner) (now shown.entry) manner.entry.json given.entry.path.now
+        (coming_view given.entry.coming) given.entry.text.now (string_bytes p.text) p.report.items p.status) }
+    ensures scripts { IfOk result (λ p. HasScriptsOf (porting_view manner.entry given.entry.home given.entry.name)
+        given.entry.text.now (shell_scripts_view p.scripts.items)) }
+{
+    let ported = port_text(
+        alloc,
+        manner,
+        given.path,
+        given.coming,
+        given.text,
+        given.home,
+        given.name,
+    )?;
+    match shown {
+        Some(shown) => or_flattened(alloc, manner, given, shown, ported),
+        None => Ok(ported),
+    }
+}
+
 /// The translation of a modulefile, and the report on it, where it has this path. It is in a site where a home is
-/// given, and is to be in conflict with a name where one is given.
+/// given, and is to be in conflict with a name where one is given. Where something of it is left, it is flattened by
+/// what is shown, where something is.
 ///
 /// The errors: want of memory; it isn't translated.
 pub fn port_file(
@@ -239,14 +279,16 @@ pub fn port_file(
     file: FileText,
     home: Option<Home>,
     name: Option<&str>,
+    shown: Option<&str>,
 ) -> Result<Ported, PortFault>
     // What is written is a script.
     ensures parses { IfOk result (λ p. Parses (string_bytes p.text)) }
 
     // What is written, and what the report says, is what each step has, one after the other.
-    ensures reported { IfOk result (λ p. IsReported (porting_view manner.entry home.entry name.entry) manner.entry.json
-        path.now (record { mark = file.mark; latin = file.latin; returns = file.returns }) file.text.items
-        (string_bytes p.text) p.report.items p.status) }
+    ensures reported { IfOk result (λ p. IsWritten (porting_view manner.entry home.entry name.entry)
+        (owner_view manner.entry.owner) (now shown.entry) manner.entry.json path.now
+        (record { mark = file.mark; latin = file.latin; returns = file.returns }) file.text.items (string_bytes p.text)
+        p.report.items p.status) }
 
     // The scripts are those of the aliases for which one is written.
     ensures scripts { IfOk result (λ p. HasScriptsOf (porting_view manner.entry home.entry name.entry) file.text.items
@@ -263,6 +305,13 @@ pub fn port_file(
         latin,
         returns,
     };
-    let given = text_of(text)?;
-    port_text(alloc, manner, path, coming, given.as_str(), home, name)
+    let text = text_of(text)?;
+    let given = Given {
+        path,
+        coming,
+        text: text.as_str(),
+        home,
+        name,
+    };
+    port_given(alloc, manner, given, shown)
 }

@@ -9,6 +9,8 @@ pub enum Fate {
     Dropped,
     /// What Tcl computes is written for it.
     Computed,
+    /// What Environment Modules has shown of the file is written in its place.
+    Flattened,
     /// It wasn't there.
     Added,
     /// It is kept as it is, and the profile leaves it out; or it isn't written.

@@ -19,6 +19,7 @@ impl Fate {
             Fate::Translated => "translated",
             Fate::Dropped => "dropped",
             Fate::Computed => "computed",
+            Fate::Flattened => "flattened",
             Fate::Added => "added",
             Fate::LeftOut => "left out",
         }

@@ -5,12 +5,16 @@ ghost use Rattle.std.specs.List.{position_or_len};
 ghost use Rattle.translation.specs.Translations.{line_at};
 ghost use Rattle.translation.specs.TranslationViews.{note_view, notes_view};
 ghost use Rattle.computedwords.specs.Views.{edit_view, edits_view};
+ghost use Rattle.tclscript.specs.View.{command_view, script_view};
+ghost use Rattle.portforms.specs.Words.{commands_in};
+ghost use Rattle.modport.specs.Flattening as flattening;
 ghost use Rattle.modport.specs.Ported as spec;
 ghost use Rattle.modport.specs.LineViews.{coming_view, line_view, lines_view, now};
 
 use crate::report_lines::{Fate, Line};
 use computedwords::Edit;
 use std::alloc::{AllocError, Global};
+use tclscript::{Command, Script};
 use translation::{Note, Outcome};
 
 /// How the text of a file came.
@@ -139,6 +143,49 @@ pub(crate) fn edit_lines<'t, 'e>(
     Ok(lines)
 }
 
+/// The line on a command of a text that is flattened.
+fn command_line<'t>(text: &'t [u8], command: &Command<&str>) -> Line<'t, 'static>
+    ensures { line_view result
+        ≡ flattening.command_line text.entry.now (command_view (λ piece. piece.now) command.now) }
+{
+    Line {
+        place: Some(1 + newlines(front(text, command.offset))),
+        fate: Fate::Flattened,
+        what: first_line(behind(text, command.offset)),
+        put: None,
+    }
+}
+
+/// The lines on commands of a text that is flattened.
+fn lines_of_commands<'t>(
+    alloc: Global,
+    text: &'t [u8],
+    commands: &[Command<&str>],
+) -> Result<Vec<Line<'t, 'static>>, AllocError>
+    ensures { IfOk result (λ lines. lines_view lines.items ≡ map (flattening.command_line text.entry.now)
+        (map (command_view (λ piece. piece.now)) commands.now)) }
+{
+    let mut lines = Vec::new(alloc);
+    for command in commands {
+        lines.push(command_line(text, command))?;
+    }
+    Ok(lines)
+}
+
+/// The lines on the commands of a script, whose text this is, that is flattened.
+///
+/// The error: want of memory.
+pub(crate) fn command_lines<'t>(
+    alloc: Global,
+    text: &'t [u8],
+    script: &Script<&str>,
+) -> Result<Vec<Line<'t, 'static>>, AllocError>
+    ensures { IfOk result (λ lines. lines_view lines.items ≡ map (flattening.command_line text.entry.now)
+        (commands_in (script_view (λ piece. piece.now) script.now))) }
+{
+    lines_of_commands(alloc, text, script.commands.as_slice())
+}
+
 /// What became of a command, as the report has it.
 fn fate_of(outcome: Outcome) -> Fate
     ensures { result ≡ spec.fate_of outcome }
@@ -174,6 +221,35 @@ pub(crate) fn note_lines<'n>(
     let mut lines = Vec::new(alloc);
     for note in notes {
         lines.push(note_line(note))?;
+    }
+    Ok(lines)
+}
+
+/// The line of a note on a command that was shown.
+fn shown_line<'n>(note: &Note<'n>) -> Line<'n, 'static>
+    ensures { line_view result ≡ flattening.shown_line (note_view note.now) }
+{
+    Line {
+        place: None,
+        fate: fate_of(note.outcome),
+        what: note.said,
+        put: None,
+    }
+}
+
+/// The lines of notes on commands that were shown.
+///
+/// The error: want of memory.
+pub(crate) fn shown_lines<'n>(
+    alloc: Global,
+    notes: &[Note<'n>],
+) -> Result<Vec<Line<'n, 'static>>, AllocError>
+    ensures { IfOk result (λ lines. lines_view lines.items
+        ≡ map flattening.shown_line (notes_view notes.now)) }
+{
+    let mut lines = Vec::new(alloc);
+    for note in notes {
+        lines.push(shown_line(note))?;
     }
     Ok(lines)
 }

@@ -29,7 +29,7 @@ fn is_left(outcome: Outcome) -> bool
 }
 
 /// Whether one of the notes is on something that the profile leaves out.
-fn has_left(notes: &[Note]) -> bool
+pub(crate) fn has_left(notes: &[Note]) -> bool
     ensures { result ≡ list_any (λ n. spec.is_left n.outcome) (notes_view notes.now) }
 {
     notes.iter().any(|note| is_left(note.outcome))

@@ -54,6 +54,16 @@ pub(crate) fn read(rt: &HostRuntime, path: &str) -> Result<Vec<u8>, PortFault> {
     }
 }
 
+/// The text that was shown, in the file at the path; none where it isn't UTF-8.
+///
+/// The errors: no file is there; it can't be read.
+pub(crate) fn shown_text(rt: &HostRuntime, path: &str) -> Result<Option<String>, PortFault> {
+    match String::from_utf8(read(rt, path)?) {
+        Ok(text) => Ok(Some(text)),
+        Err(_) => Ok(None),
+    }
+}
+
 /// The bytes of standard input.
 ///
 /// The error: it can't be read.

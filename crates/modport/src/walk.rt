@@ -7,7 +7,7 @@ use crate::reporting::{fault_line, left_out_line};
 use crate::script_files::{ScriptFile, ScriptPlaces};
 use crate::site_walk::{module_of, site_of};
 use crate::status::Status;
-use crate::texts::{joined, kind_of, modulefile, read, write_new};
+use crate::texts::{joined, kind_of, modulefile, read, shown_text, write_new};
 use families::{Home, Site};
 use filetree::{DiskTree, Tree};
 use std::alloc::{AllocError, Global};
@@ -38,6 +38,8 @@ pub(crate) struct Walk<'r> {
     manner: Manner<'r>,
     /// Whether each modulefile is to be in conflict with its own name.
     one_version: bool,
+    /// The directory with what was shown of each, where there is one.
+    shown: Option<&'r str>,
     /// What the files of the site say of its modules.
     site: Site,
     /// Where scripts of aliases are written.
@@ -132,8 +134,21 @@ impl<'r> Walk<'r> {
         }
     }
 
-    /// Translates a file of this module, which is to be in conflict with a name, where one is given; `below` is its name
-    /// below the tree.
+    /// What was shown of the file of this name in a directory, where something was.
+    fn shown_of(&self, folder: &Folder, name: &str) -> Result<Option<String>, PortFault> {
+        let Some(shown) = self.shown else {
+            return Ok(None);
+        };
+        let alloc = self.rt.alloc();
+        let name = name_below(alloc, folder.name.as_str(), name)?;
+        match shown_text(self.rt, joined(alloc, shown, name.as_str())?.as_str()) {
+            Err(PortFault::NoFile) => Ok(None),
+            text => text,
+        }
+    }
+
+    /// Translates a file of this module, which is to be in conflict with a name, where one is given, and flattens it by
+    /// what was shown, where something was; `below` is its name below the tree.
     fn file(
         &mut self,
         from: &str,
@@ -142,6 +157,7 @@ impl<'r> Walk<'r> {
         found: &Metadata,
         module: &str,
         name: Option<&str>,
+        shown: Option<&str>,
     ) -> Result<(), PortFault> {
         let alloc = self.rt.alloc();
         let Some(file) = modulefile(alloc, read(self.rt, from)?.as_slice())? else {
@@ -150,7 +166,7 @@ impl<'r> Walk<'r> {
         };
         let folder = self.script_places.folder(self.rt, below)?;
         let home = home_with(&self.site, module, &folder);
-        let ported = port_file(alloc, self.manner, from, file, Some(home), name)?;
+        let ported = port_file(alloc, self.manner, from, file, Some(home), name, shown)?;
         if let Some(to) = to {
             write_new(self.rt, to, ported.text.as_bytes(), found)?;
         }
@@ -222,9 +238,18 @@ impl<'r> Walk<'r> {
         if found.is_dir() {
             self.folder(from, to, &found, below)
         } else if found.is_file() {
+            let shown = self.shown_of(folder, name)?;
             let module = module_of(folder.name.as_str(), name);
             let name = self.conflicting(folder, name);
-            self.file(from.as_str(), target, below.as_str(), &found, module, name)
+            self.file(
+                from.as_str(),
+                target,
+                below.as_str(),
+                &found,
+                module,
+                name,
+                shown.as_deref(),
+            )
         } else if found.is_symlink() {
             self.link(from.as_str(), target)
         } else {
@@ -289,7 +314,7 @@ impl<'r> Walk<'r> {
 }
 
 /// Translates the files below a directory, below another where there is one, writes the report to standard output, and
-/// gives the status.
+/// gives the status. What was shown of each is below a third, where there is one.
 ///
 /// The errors: the directories can't be taken; memory ran out, or the report couldn't be written, in its midst. A fault
 /// at one path is said on standard error.
@@ -297,6 +322,7 @@ pub(crate) fn walk_tree<'r>(
     rt: &'r HostRuntime,
     manner: Manner<'r>,
     walked: Walked,
+    shown: Option<&'r str>,
 ) -> Result<Status, PortFault> {
     let Walked {
         from,
@@ -315,6 +341,7 @@ pub(crate) fn walk_tree<'r>(
         rt,
         manner,
         one_version,
+        shown,
         site: site_of(rt, from.as_str())?,
         script_places: ScriptPlaces::new(rt, from.as_str(), target)?,
         scripts: Vec::new(rt.alloc()),

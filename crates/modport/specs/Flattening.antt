@@ -1,0 +1,118 @@
+-- A modulefile of which something is left out, flattened (own): what Environment Modules has shown of it is translated
+-- in its place, where all is a record of the profile then.
+use Rattle.std.specs.Prelude.{◌≡◌, ◌⊎◌, List, ◌++◌, Bool, true, false, ◌&&◌, not, map, drop, Option, Some, None}
+use Rattle.std.specs.List.{list_any}
+use Rattle.tclchars.specs.Runs.{Text}
+use Rattle.tclscript.specs.Text.{IsWithin}
+use Rattle.tclscript.specs.Tree.{Command, Commands}
+use Rattle.portforms.specs.Words.{commands_in}
+use Rattle.filetext.specs.FileTexts.{Writing}
+use Rattle.families.specs.Families.{Home}
+use Rattle.shownrecords.specs.Flattened.{flattened}
+use Rattle.shownrecords.specs.Owners.{Owner}
+use Rattle.shownrecords.specs.Saying.{are_records}
+use Rattle.translation.specs.Notes.{Note}
+use Rattle.translation.specs.Translations.{line_at}
+use Rattle.translation.specs.TranslationViews.{HasTranslation}
+use Rattle.modport.specs.Lines.{Line, report}
+use Rattle.modport.specs.Ported.{added_lines, fate_of, first_line, is_left, IsOneVersion, IsReported, Porting}
+use Rattle.modport.specs.Ported.{writing_lines}
+use Rattle.modport.specs.declared.report_lines.Fate.TheVariants as fates
+use Rattle.modport.specs.declared.status.Status.{Status}
+use Rattle.modport.specs.declared.status.Status.TheVariants.{Left, Within}
+
+-- Lines
+
+-- what is said of a command of the file
+abbrev pub command_line : Text → Command → Line
+command_line text c = record {
+  place = Some (line_at text c.offset);
+  fate = fates.Flattened;
+  what = first_line (drop c.offset text);
+  put = None;
+}
+
+-- what is said of a command that was shown: no line of the file has it
+abbrev pub shown_line : Note → Line
+shown_line n = record { place = None; fate = fate_of n.outcome; what = n.said; put = None }
+
+-- what is said of a file of these commands that was flattened
+abbrev pub flattened_lines : Writing → Text → List Command → List Note → Option Text → List Line
+flattened_lines how given cs notes added =
+    writing_lines how ++ (map (command_line given) cs ++ (map shown_line notes ++ added_lines added))
+
+-- What serves
+
+-- the home without a folder for scripts: the aliases that were shown aren't those of the file
+abbrev pub without_scripts : Option Home → Option Home
+without_scripts None = None
+without_scripts (Some h) = Some (record
+    { members = h.members; symbols = h.symbols; name = h.name; scripts_folder = None })
+
+-- nothing is left, and each of the commands of the translation is a record, for the owner
+abbrev pub serves : Owner → List Note → List Command → Bool
+serves owner notes cs = not (list_any (λ n. is_left n.outcome) notes) && are_records owner cs
+
+-- a flattened text and its translation, by whether that serves
+abbrev pub IsJudged : Porting → Owner → Text → Bool → Text → List Note → Type 0
+IsJudged port owner flat serving translated notes =
+    HasTranslation (without_scripts port.home) port.left_out flat translated notes
+    × ((t : Commands) × IsWithin translated t × (serving ≡ serves owner notes (commands_in t)))
+
+abbrev pub IsRefused : Porting → Owner → Text → Type 0
+IsRefused port owner flat =
+    (translated : Text) × (notes : List Note) × IsJudged port owner flat false translated notes
+
+-- what was shown can't be read, or it doesn't serve
+abbrev pub DoesNotServe : Porting → Owner → Text → Text → Type 0
+DoesNotServe port owner shown given =
+    (s : Commands) × IsWithin given s
+    × ((None ≡ flattened owner given (commands_in s) shown)
+    ⊎ ((flat : Text) × (Some flat ≡ flattened owner given (commands_in s) shown) × IsRefused port owner flat))
+
+-- The whole
+
+-- the steps from a flattened text to what is written, and what is said of a file of these commands
+pub record FlatSteps (port : Porting) (owner : Owner) (how : Writing) (given : Text) (cs : List Command)
+    (flat translated written : Text) (notes : List Note) (added : Option Text) (lines : List Line) : Type 0 where
+  pub is_judged : IsJudged port owner flat true translated notes
+  pub adds : IsOneVersion port.name translated written added
+  pub says : lines ≡ flattened_lines how given cs notes added
+
+-- what is written for a translated text, and the report on the file of this path
+abbrev pub IsPut : Option Text → Bool → Text → Writing → Text → List Command → Text → List Note → Text → Text → Type 0
+IsPut name json path how given cs translated notes written said =
+    (added : Option Text) × IsOneVersion name translated written added
+    × (said ≡ report json path (flattened_lines how given cs notes added))
+
+abbrev pub IsFlat : Porting → Owner → Writing → Text → List Command → Text → Text → List Line → Type 0
+IsFlat port owner how given cs flat written lines =
+    (translated : Text) × (notes : List Note) × (added : Option Text)
+    × FlatSteps port owner how given cs flat translated written notes added lines
+
+abbrev pub IsFlatSo : Porting → Owner → Bool → Text → Writing → Text → List Command → Text → Text → Text → Type 0
+IsFlatSo port owner json path how given cs flat written said =
+    (lines : List Line) × IsFlat port owner how given cs flat written lines × (said ≡ report json path lines)
+
+-- what is written for a file in whose place this is shown, and what is said
+abbrev pub IsFlattened : Porting → Owner → Text → Writing → Text → Text → List Line → Type 0
+IsFlattened port owner shown how given written lines =
+    (s : Commands) × IsWithin given s
+    × ((flat : Text) × (Some flat ≡ flattened owner given (commands_in s) shown)
+    × IsFlat port owner how given (commands_in s) flat written lines)
+
+-- the same, with the report on the file of this path
+abbrev pub IsFlattenedSo : Porting → Owner → Text → Bool → Text → Writing → Text → Text → Text → Type 0
+IsFlattenedSo port owner shown json path how given written said =
+    (lines : List Line) × IsFlattened port owner shown how given written lines × (said ≡ report json path lines)
+
+-- what is written for a file of which this is shown, where something is: its translation, where of that nothing is left
+-- or what is shown doesn't serve; else it is flattened
+abbrev pub IsWritten : Porting → Owner → Option Text → Bool → Text → Writing → Text → Text → Text → Status → Type 0
+IsWritten port owner None json path how given written said status =
+    IsReported port json path how given written said status
+IsWritten port owner (Some shown) json path how given written said status =
+    (IsReported port json path how given written said status
+    × (status ≡ Left → DoesNotServe port owner shown given))
+    ⊎ ((other more : Text) × IsReported port json path how given other more Left
+    × IsFlattenedSo port owner shown json path how given written said × (status ≡ Within))

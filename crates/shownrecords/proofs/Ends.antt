@@ -1,0 +1,17 @@
+-- The end of a loop over two lists, of which the first has no more.
+use Rattle.std.proofs.Common.{◌≡◌, ◌==◌, ℕ, suc, false, List, [], ◌∷◌, length, map, refl, arith}
+use Rattle.std.proofs.lemmas.Bool.Decides.{nat_tests}
+use Rattle.tclchars.specs.Runs.{Text}
+use Rattle.shownrecords.specs.Flattened.{same_texts, say}
+use Rattle.shownrecords.specs.Owners.{Owner}
+
+more : (n : ℕ) → (suc n == 0) ≡ false
+more n = grind (arith, nat_tests)
+
+pub no_text : {A : Type 0} (view : A → Text) (xs : List A) → (length xs == 0) ≡ same_texts [] (map view xs)
+no_text view [] = refl
+no_text view (x ∷ xs) = more (length xs)
+
+pub no_command : {A : Type 0} (view : A → List Text) (owner : Owner) (xs : List A) → (length xs == 0) ≡ say owner [] (map view xs)
+no_command view owner [] = refl
+no_command view owner (x ∷ xs) = more (length xs)

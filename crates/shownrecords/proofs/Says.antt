@@ -1,0 +1,75 @@
+-- What is flattened says what was shown.
+use Rattle.std.proofs.Common.{◌≡◌, Bool, true, false, ◌&&◌, List, [], ◌∷◌, Option, Some, None, Result, Ok, Err, map, refl, sym, ap, subst, ◌∙◌}
+use Rattle.std.specs.Prelude.{bytes_eq, if◌then◌else◌, option_and_then, IfSome, string_bytes}
+use Rattle.std.specs.Option.{option_map}
+use Rattle.std.specs.declared.alloc.Global.{Global}
+use Rattle.std.specs.declared.string.String.{String}
+use Rattle.std.proofs.lemmas.Slice.Eq.{bytes_eq-Decides}
+use Rattle.tclchars.specs.Runs.{Text}
+use Rattle.tclchars.specs.declared.fault.TextFault.{TextFault}
+use Rattle.tclscript.specs.Text.{script_of}
+use Rattle.tclscript.specs.Tree.{Command, Commands}
+use Rattle.tclscript.proofs.Whole.{tree_is}
+use Rattle.portforms.specs.Words.{commands_in}
+use Rattle.shownrecords.specs.Flattened.{flattened, if_says, in_place, is_same, same_texts, say, saying, says, SaysShown}
+use Rattle.shownrecords.specs.Owners.{Owner}
+use Rattle.shownrecords.specs.Saying.{said}
+use Rattle.shownrecords.specs.Shown.{shown_commands}
+
+both : (a b : Bool) → (a && b) ≡ true → (a ≡ true) × (b ≡ true)
+both true b h = (refl, h)
+both false b h = let never : false ≡ true = h in cc
+
+texts_are : (xs ys : List Text) → same_texts xs ys ≡ true → xs ≡ ys
+texts_are [] [] h = refl
+texts_are [] (y ∷ ys) h = let never : false ≡ true = h in cc
+texts_are (x ∷ xs) [] h = let never : false ≡ true = h in cc
+texts_are (x ∷ xs) (y ∷ ys) h =
+    let k = both (bytes_eq x y) (same_texts xs ys) h in
+    ap (λ (t : Text). t ∷ xs) ((bytes_eq-Decides x y).0 k.0) ∙ ap (λ (ts : List Text). y ∷ ts) (texts_are xs ys k.1)
+
+words_are : (words : List Text) (said_ : Option (List Text)) → is_same words said_ ≡ true → said_ ≡ Some words
+words_are words None h = let never : false ≡ true = h in cc
+words_are words (Some others) h = ap (λ (ts : List Text). Some ts) (texts_are others words h)
+
+all_are : (owner : Owner) (cs : List Command) (commands : List (List Text)) → say owner cs commands ≡ true
+    → map (said owner) cs ≡ map (λ words. Some words) commands
+all_are owner [] [] h = refl
+all_are owner [] (words ∷ others) h = let never : false ≡ true = h in cc
+all_are owner (c ∷ cs) [] h = let never : false ≡ true = h in cc
+all_are owner (c ∷ cs) (words ∷ others) h =
+    let k = both (is_same words (said owner c)) (say owner cs others) h in
+    ap (λ (o : Option (List Text)). o ∷ map (said owner) cs) (words_are words (said owner c) k.0)
+    ∙ ap (λ (os : List (Option (List Text))). Some words ∷ os) (all_are owner cs others k.1)
+
+module _ (owner : Owner) (shown : Text) (commands : List (List Text)) (s : shown_commands shown ≡ Some commands) where
+  read_so : (text : Text) (read : Result Commands TextFault) → script_of text ≡ read → says owner commands read ≡ true → SaysShown owner shown text
+  read_so text (Ok script) e h = record {
+    script = script;
+    commands = commands;
+    is_script = tree_is text script e;
+    are_shown = s;
+    are_said = all_are owner (commands_in script) commands h;
+  }
+  read_so text (Err fault) e h = let never : false ≡ true = h in cc
+
+  judged_so : (text written : Text) (b : Bool) → says owner commands (script_of text) ≡ b → (if b then Some text else None) ≡ Some written → SaysShown owner shown written
+  judged_so text written true e h = subst (SaysShown owner shown) (let same : Some text ≡ Some written = h in cc) (read_so text (script_of text) refl e)
+  judged_so text written false e h = let never : None ≡ Some written = h in cc
+
+  placed_so : (written : Text) (placed : Option Text) → option_and_then (if_says owner commands) placed ≡ Some written → SaysShown owner shown written
+  placed_so written None h = let never : None ≡ Some written = h in cc
+  placed_so written (Some text) h = judged_so text written (says owner commands (script_of text)) refl h
+
+shown_so : (owner : Owner) (text shown written : Text) (cs : List Command) (commands : Option (List (List Text))) → shown_commands shown ≡ commands
+    → option_and_then (saying owner text cs) commands ≡ Some written → SaysShown owner shown written
+shown_so owner text shown written cs None e h = let never : None ≡ Some written = h in cc
+shown_so owner text shown written cs (Some commands) e h = placed_so owner shown commands e written (in_place owner text cs commands) h
+
+pub flattened_so : (owner : Owner) (text shown written : Text) (cs : List Command) → flattened owner text cs shown ≡ Some written → SaysShown owner shown written
+flattened_so owner text shown written cs h = shown_so owner text shown written cs (shown_commands shown) refl h
+
+pub found_so : (owner : Owner) (text shown : Text) (cs : List Command) (found : Option (String Global)) → option_map string_bytes found ≡ flattened owner text cs shown
+    → IfSome found (λ w. SaysShown owner shown (string_bytes w))
+found_so owner text shown cs None h = tt
+found_so owner text shown cs (Some w) h = flattened_so owner text shown (string_bytes w) cs (sym h)

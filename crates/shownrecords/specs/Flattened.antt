@@ -1,0 +1,59 @@
+-- A modulefile flattened (own): what stands before its first command stays, and in place of its commands stand those
+-- that were shown, where what is written says them.
+use Rattle.std.specs.Prelude.{◌≡◌, List, [], ◌∷◌, ◌++◌, Bool, true, false, ◌&&◌, bytes_eq, map, take}
+use Rattle.std.specs.Prelude.{if◌then◌else◌, Option, Some, None, option_and_then, Result, Ok, Err}
+use Rattle.tclchars.specs.Runs.{Text}
+use Rattle.tclchars.specs.declared.fault.TextFault.{TextFault}
+use Rattle.tclscript.specs.Text.{IsWithin, script_of}
+use Rattle.tclscript.specs.Tree.{Command, Commands}
+use Rattle.portforms.specs.Words.{commands_in}
+use Rattle.scripttext.specs.ScriptTexts.{script_in}
+use Rattle.shownrecords.specs.Owners.{Owner}
+use Rattle.shownrecords.specs.Saying.{said}
+use Rattle.shownrecords.specs.Shown.{shown_commands}
+use Rattle.shownrecords.specs.Writing.{commands_text}
+
+abbrev pub same_texts : List Text → List Text → Bool
+same_texts [] [] = true
+same_texts [] (y ∷ ys) = false
+same_texts (x ∷ xs) [] = false
+same_texts (x ∷ xs) (y ∷ ys) = bytes_eq x y && same_texts xs ys
+
+abbrev pub is_same : List Text → Option (List Text) → Bool
+is_same words None = false
+is_same words (Some others) = same_texts others words
+
+-- the commands say these words, one for one
+abbrev pub say : Owner → List Command → List (List Text) → Bool
+say owner [] [] = true
+say owner [] (words ∷ others) = false
+say owner (c ∷ cs) [] = false
+say owner (c ∷ cs) (words ∷ others) = is_same words (said owner c) && say owner cs others
+
+abbrev pub says : Owner → List (List Text) → Result Commands TextFault → Bool
+says owner commands (Ok s) = say owner (commands_in s) commands
+says owner commands (Err fault) = false
+
+abbrev pub if_says : Owner → List (List Text) → Text → Option Text
+if_says owner commands text = if says owner commands (script_of text) then Some text else None
+
+-- these commands in place of those of a text, where that is a script
+abbrev pub in_place : Owner → Text → List Command → List (List Text) → Option Text
+in_place owner text [] commands = None
+in_place owner text (c ∷ cs) commands = script_in (take c.offset text ++ commands_text owner commands)
+
+-- the same, where what is written says them
+abbrev pub saying : Owner → Text → List Command → List (List Text) → Option Text
+saying owner text cs commands = option_and_then (if_says owner commands) (in_place owner text cs commands)
+
+-- a text of these commands, flattened by what was shown
+abbrev pub flattened : Owner → Text → List Command → Text → Option Text
+flattened owner text cs shown = option_and_then (saying owner text cs) (shown_commands shown)
+
+-- a text is a script that says, command for command, what was shown
+pub record SaysShown (owner : Owner) (shown text : Text) : Type 0 where
+  pub script : Commands
+  pub commands : List (List Text)
+  pub is_script : IsWithin text script
+  pub are_shown : shown_commands shown ≡ Some commands
+  pub are_said : map (said owner) (commands_in script) ≡ map (λ words. Some words) commands
