@@ -44,13 +44,17 @@ REQUESTS = (
 
 
 def answers(program, there, words, asked):
-    """What the request answers and what the variables are then, None where the program had no memory to say so."""
+    """What the request answers and what the variables are then, None where the program had no memory to put what is there,
+    or to say so."""
     text = f"requests\n{there}ask sh {words}\nvars\n"
     done = subprocess.run(
         [program], input=text.encode(), env=asked, capture_output=True, timeout=SECONDS, check=False
     )
-    answer, shown, left = done.stdout.decode().partition(f"> ask sh {words}\n")[2].partition("> vars\n")
-    return (answer.removeprefix("!").strip(), left) if shown and done.returncode == 0 else None
+    before, _, after = done.stdout.decode().partition(f"> ask sh {words}\n")
+    answer, shown, left = after.partition("> vars\n")
+    if not shown or done.returncode != 0 or "\n!" in before or left.startswith("!"):
+        return None
+    return answer.removeprefix("!").strip(), left
 
 
 def numbers_of(words):
