@@ -550,7 +550,7 @@ def alias_tree(folder):
     return tree(folder, {"a/1": COOKIE + f"set-alias shown {{{show.decode()} -a\tb}}\n"})
 
 
-def shown(shell, load):
+def words_shown(shell, load):
     """What the alias shows of two arguments and an empty one, in a shell that has evaluated the text of a load."""
     words = [shell, "-c", "eval \"$1\"; eval 'shown x \"y  z\" \"\"'", "sh", load]
     done = subprocess.run(words, env={b"PATH": b"/usr/bin:/bin"}, capture_output=True, timeout=SECONDS, check=False)
@@ -569,7 +569,7 @@ def test_an_alias_in_a_shell(folder, built, shell):
     env = {b"MODULEPATH": new, b"PATH": b"/usr/bin:/bin"}
     words = [built("modulecmd"), "sh", "load", "a/1"]
     load = subprocess.run(words, env=env, capture_output=True, timeout=SECONDS, check=True).stdout
-    same(shown(shell, load), b"<-a><b><x><y  z><>", f"what {shell} shows")
+    same(words_shown(shell, load), b"<-a><b><x><y  z><>", f"what {shell} shows")
 
 
 def test_an_alias_beside_environment_modules(folder, tool):
@@ -581,7 +581,7 @@ def test_an_alias_beside_environment_modules(folder, tool):
         env = {b"MODULEPATH": place, b"PATH": b"/usr/bin:/bin"}
         words = [tool, "sh", "load", "a/1"]
         load = subprocess.run(words, env=env, capture_output=True, timeout=SECONDS, check=True).stdout
-        found.append(shown("dash", load))
+        found.append(words_shown("dash", load))
     same(found, [b"<-a><b><x><y  z><>"] * 2, "what is shown")
 
 

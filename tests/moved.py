@@ -69,7 +69,7 @@ LAST = "no-such-module"
 
 COOKIE = "#%Module"
 WRITTEN = {"Latin-1": "latin-1", "CR LF": "utf-8"}
-TOLD = {"alone", "refused", "needs", "says", "why", "lost", "alias", "reads", "written", "there", "older"}
+TOLD = {"alone", "check", "refused", "needs", "says", "why", "lost", "alias", "reads", "written", "there", "older"}
 COUNTS = re.compile(r"^# (\d+) (.+)$", re.MULTILINE)
 PORT = re.compile(r"(translated|computed|dropped|left out): .+")
 
@@ -514,7 +514,7 @@ def checked(names):
         yield f"{names} refused: {refused.only('why')}"
         return
     for file in files:
-        verdict = "Asked" if file.only("reads") else VERDICTS.get(file.standing)
+        verdict = file.only("check") or ("Asked" if file.only("reads") else VERDICTS.get(file.standing))
         if file.directory not in STARTS:
             verdict = f"Unable to locate a modulefile for '{file.name}'"
         if verdict:
