@@ -26,7 +26,7 @@ use Rattle.envstate.specs.Roles.VariableRole.{LoadedPrereqs, Other}
 use Rattle.envstate.proofs.RoleLemmas.{name_of_role}
 use Rattle.envstate.proofs.StateLemmas.{start_of, state_of_written, one_path, one_stack, one_list, list_in_order}
 use Rattle.modulefile.specs.Moves.{Module, entry_of}
-use Rattle.reversal.specs.VariableUses.{VariableUse, Untouched, Fixed, Pathed, Stacked}
+use Rattle.reversal.specs.VariableUses.{VariableUse, Untouched, Fixed, Absent, Pathed, Stacked}
 use Rattle.reversal.specs.Live.{live_set, live_adds, live_pushes, entries_over}
 use Rattle.reversal.specs.Starts.{IsInOrder, IsStart, HasValue, HasStack, IsPermutation, none, next, swap, transitive}
 use Rattle.reversal.specs.Starts.{HasVariable, IsStartWith}
@@ -132,6 +132,7 @@ starts_agree uses b c e live s t w x = same_environment c b (λ n. go n (role_of
     cell : (v : Text) → is_editable v ≡ true → (y : VariableUse) → uses v ≡ y → HasVariable y b v live e → HasVariable y c v live e → HasValue b c v (lookup b v)
     cell v f Untouched u h k = record { value = sym k.value ∙ h.value; counters = sym k.counters ∙ h.counters; stack = sym k.stack ∙ h.stack }
     cell v f (Fixed value) u h k = record { value = t.fixed v value f u ∙ sym (s.fixed v value f u); counters = sym k.counters ∙ h.counters; stack = sym k.stack ∙ h.stack }
+    cell v f Absent u h k = record { value = t.absent v f u ∙ sym (s.absent v f u); counters = sym k.counters ∙ h.counters; stack = sym k.stack ∙ h.stack }
     cell v f (Pathed d) u h k =
         let same = one_path_start (path_in c v d) (path_in b v d) (path_in e v d) (live_adds v live)
         (IsWritable-state_of d (lookup c v) (lookup c (share_name v))).valid (IsWritable-state_of d (lookup b v) (lookup b (share_name v))).valid k.state h.state in
@@ -209,6 +210,9 @@ by_use uses b d e live c Untouched s o t a f u h k = inl tt
 by_use uses b d e live c (Fixed value) s o t a f u h k =
     let same : lookup b c.variable ≡ lookup d c.variable = s.fixed c.variable value f u ∙ sym (t.fixed c.variable value f u) in
     inr (nothing e c (set_beside b e c f).value (k.value ∙ ap (λ (z : Option Text). unwrap_or (live_set c.variable live) z) (sym same) ∙ sym h.value))
+by_use uses b d e live c Absent s o t a f u h k =
+    let same : lookup b c.variable ≡ lookup d c.variable = s.absent c.variable f u ∙ sym (t.absent c.variable f u) in
+    inr (nothing e c (set_beside b e c f).value (k.value ∙ sym same ∙ sym h.value))
 by_use uses b d e live c (Pathed delim) s o t a f u h k =
     inl (record {
       order = a.order.paths c.variable delim f u;

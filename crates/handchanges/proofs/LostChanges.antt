@@ -83,6 +83,7 @@ untouched_start : IsStart (λ v. Untouched) (env [])
 untouched_start = record {
   order = record { loaded = nothing_listed [] refl refl refl refl; paths = λ v d f q. absurd cc; stacks = λ v xs f q i. absurd cc };
   fixed = λ v value f q. absurd cc;
+  absent = λ v f q. absurd cc;
 }
 
 -- the moves of the first example, and the end that they reach

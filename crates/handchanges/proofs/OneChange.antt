@@ -32,7 +32,7 @@ use Rattle.envstate.proofs.FrameLemmas.{set_edits, path_edits_variable, stack_ed
 use Rattle.envstate.proofs.FrameLemmas.{keeps_other, keeps_loaded, rest_stays}
 use Rattle.envstate.proofs.StateLemmas.{one_stack, list_in_order}
 use Rattle.modulefile.specs.Moves.{Module}
-use Rattle.reversal.specs.VariableUses.{VariableUse, Untouched, Fixed, Pathed, Stacked}
+use Rattle.reversal.specs.VariableUses.{VariableUse, Untouched, Fixed, Absent, Pathed, Stacked}
 use Rattle.reversal.specs.Live.{live_set, live_adds, live_pushes}
 use Rattle.reversal.specs.Starts.{IsInOrder, IsStart, HasValue, HasPath, HasStack, IsPermutation, HasVariable, IsStartWith}
 use Rattle.reversal.specs.Laws.{Holds, MovesPreserve}
@@ -49,6 +49,7 @@ record Stands (uses : Text → VariableUse) (b e : Environment) (live : List Mod
   start_stack : (xs : List Entry) → uses v ≡ Stacked → loaded_in b ≡ Some xs → IsStackInOrder (names_of xs) b v
   stack : (xs : List Entry) → uses v ≡ Stacked → loaded_in e ≡ Some xs → IsStackInOrder (names_of xs) e v
   fixed : (value : Option Text) → uses v ≡ Fixed value → lookup b v ≡ value
+  absent : uses v ≡ Absent → lookup b v ≡ None
   here : HasVariable (uses v) b v live e
 
 stands_before : (uses : Text → VariableUse) (b e : Environment) (live : List Module) → IsStart uses b → IsInOrder uses e → IsStartWith uses b live e
@@ -59,6 +60,7 @@ stands_before uses b e live s o w v f = record {
   start_stack = λ xs q l. s.order.stacks v xs f q l;
   stack = λ xs q l. o.stacks v xs f q l;
   fixed = λ value q. s.fixed v value f q;
+  absent = λ q. s.absent v f q;
   here = w.variables v f;
 }
 
@@ -71,6 +73,7 @@ stands_kept uses b e c d live v k m l n s = record {
   start_stack = λ xs q h. k.stack_order (names_of xs) (s.start_stack xs q (sym l ∙ h));
   stack = λ xs q h. m.stack_order (names_of xs) (s.stack xs q (sym n ∙ h));
   fixed = λ value q. k.value ∙ s.fixed value q;
+  absent = λ q. k.value ∙ s.absent q;
   here = go (uses v) s.here;
 }
   where
@@ -82,6 +85,11 @@ stands_kept uses b e c d live v k m l n s = record {
     }
     go (Fixed value) h = record {
       value = m.value ∙ h.value ∙ ap (λ (t : Option Text). unwrap_or (live_set v live) t) (sym k.value);
+      counters = m.counters ∙ h.counters ∙ sym k.counters;
+      stack = m.stack_text ∙ h.stack ∙ sym k.stack_text;
+    }
+    go Absent h = record {
+      value = m.value ∙ h.value ∙ sym k.value;
       counters = m.counters ∙ h.counters ∙ sym k.counters;
       stack = m.stack_text ∙ h.stack ∙ sym k.stack_text;
     }
@@ -132,6 +140,7 @@ untouched_stands uses b e live c f u h =
       start_stack = λ xs q l. let z : Untouched ≡ Stacked = sym u ∙ q in absurd cc;
       stack = λ xs q l. let z : Untouched ≡ Stacked = sym u ∙ q in absurd cc;
       fixed = λ value q. let z : Untouched ≡ Fixed value = sym u ∙ q in absurd cc;
+      absent = λ q. let z : Untouched ≡ Absent = sym u ∙ q in absurd cc;
       here = subst (λ (y : VariableUse). HasVariable y (changed c b) c.variable live (changed c e)) (sym u) (record {
         value = t.value ∙ sym t.start_value;
         counters = t.counters ∙ h.counters ∙ sym t.start_counters;
@@ -185,6 +194,7 @@ stacked_stands uses b e live c f u n k h =
       start_stack = λ xs q l. inl start;
       stack = λ xs q l. inl now;
       fixed = λ value q. let z : Stacked ≡ Fixed value = sym u ∙ q in absurd cc;
+      absent = λ q. let z : Stacked ≡ Absent = sym u ∙ q in absurd cc;
       here = subst (λ (y : VariableUse). HasVariable y (changed c b) c.variable live (changed c e)) (sym u) (record {
         base = record { items = []; value = lookup (changed c b) c.variable };
         found = no_items (changed c b) c.variable start;
@@ -234,6 +244,7 @@ path_stands uses b e live c d f u h k edits =
       start_stack = λ xs q i. let z : Pathed d ≡ Stacked = sym u ∙ q in absurd cc;
       stack = λ xs q i. let z : Pathed d ≡ Stacked = sym u ∙ q in absurd cc;
       fixed = λ value q. let z : Pathed d ≡ Fixed value = sym u ∙ q in absurd cc;
+      absent = λ q. let z : Pathed d ≡ Absent = sym u ∙ q in absurd cc;
       here = subst (λ (y : VariableUse). HasVariable y (with_path b c.variable d s) c.variable live (changed c e)) (sym u) (record {
         state = subst (λ (p : PathState). path_runs.IsPathStartWith p (live_adds c.variable live) (path_in (changed c e) c.variable d)) (sym (path_in-written b c.variable d s w))
             (start_with_after (path_in b c.variable d) (live_adds c.variable live) (path_in e c.variable d) (path_in (changed c e) c.variable d) l);
@@ -277,6 +288,7 @@ assembled preserve uses b e c d live n s o w a here =
         stacks = λ v xs f q l. (each v f).start_stack xs q l;
       };
       fixed = λ v value f q. (each v f).fixed value q;
+      absent = λ v f q. (each v f).absent q;
     }
 
     order : IsInOrder uses d
@@ -351,6 +363,7 @@ path_edits b v d s f = record {
 pub start_edits : (b e : Environment) (live : List Module) (c : HandChange) (y : VariableUse) → is_editable c.variable ≡ true → EditsPath b (start_by_use (Some y) live b e c) c.variable
 start_edits b e live c Untouched f = (set_edits b c.variable c.value f).0
 start_edits b e live c (Fixed value) f = (set_edits b c.variable c.value f).0
+start_edits b e live c Absent f = (set_edits b c.variable c.value f).0
 start_edits b e live c (Pathed d) f = path_edits b c.variable d (path_after b e live c d) f
 start_edits b e live c Stacked f = (set_edits b c.variable c.value f).0
 
@@ -397,6 +410,7 @@ by_use preserve uses b e live c Untouched s o w f u h =
     set_holds preserve uses b e live c s o w f
     (untouched_stands uses b e live c f u (subst (λ (y : VariableUse). HasVariable y b c.variable live e) u (w.variables c.variable f)))
 by_use preserve uses b e live c (Fixed value) s o w f u h = absurd h
+by_use preserve uses b e live c Absent s o w f u h = absurd h
 by_use preserve uses b e live c (Pathed d) s o w f u h = path_holds preserve uses b e live c d s o w f u h
 by_use preserve uses b e live c Stacked s o w f u h = stack_holds preserve uses b e live c s o w f u h
 

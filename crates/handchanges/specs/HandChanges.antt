@@ -10,7 +10,7 @@ use Rattle.envstate.specs.Roles.{VariableRole, role_of}
 use Rattle.envstate.specs.Roles.VariableRole.{Variable, Counters, Stack, LoadedNames, LoadedFiles, LoadedConflicts}
 use Rattle.envstate.specs.Roles.VariableRole.{LoadedPrereqs, Other}
 use Rattle.modulefile.specs.Moves.{Module}
-use Rattle.reversal.specs.VariableUses.{VariableUse, Untouched, Fixed, Pathed, Stacked}
+use Rattle.reversal.specs.VariableUses.{VariableUse, Untouched, Fixed, Absent, Pathed, Stacked}
 use Rattle.reversal.specs.Live.{live_adds}
 
 -- a change by hand: a variable is given this value, or is unset
@@ -41,11 +41,12 @@ pub record KeepsLiveElements (live : List Module) (e : Environment) (v : Text) (
 
 -- Hands may make this change while these modules are live: any change of a variable that no module uses; a change of a
 -- path that keeps the elements of live modules; any of a variable that modules push on while it has no stack. None of a
--- variable that modules set or unset, and none of the tool's own.
+-- variable that modules set or unset, or keep absent, and none of the tool's own.
 abbrev pub MayChange : Option VariableUse → List Module → Environment → HandChange → Type 0
 MayChange None live e c = ⊥
 MayChange (Some Untouched) live e c = Unit {0}
 MayChange (Some (Fixed value)) live e c = ⊥
+MayChange (Some Absent) live e c = ⊥
 MayChange (Some (Pathed delim)) live e c = KeepsLiveElements live (changed c e) c.variable delim
 MayChange (Some Stacked) live e c = lookup e (stack_name c.variable) ≡ None
 
@@ -72,6 +73,7 @@ abbrev pub start_by_use : Option VariableUse → List Module → Environment →
 start_by_use None live start e c = changed c start
 start_by_use (Some Untouched) live start e c = changed c start
 start_by_use (Some (Fixed value)) live start e c = changed c start
+start_by_use (Some Absent) live start e c = changed c start
 start_by_use (Some (Pathed delim)) live start e c =
     with_path start c.variable delim
     (without_live_adds (path_in start c.variable delim) (live_adds c.variable live) (path_in (changed c e) c.variable delim))

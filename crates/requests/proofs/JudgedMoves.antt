@@ -7,7 +7,7 @@ use Rattle.modulefile.specs.Files.{Ran}
 use Rattle.modulefile.specs.Laws.{PlainFilesAgree}
 use Rattle.reversal.specs.VariableUses.{VariableUse, is_reversible}
 use Rattle.reversal.specs.Runs.{without_live, IsReversibleAndApart}
-use Rattle.reversal.proofs.Parts.{all_suit}
+use Rattle.reversal.proofs.Parts.{all_suit, all_return}
 use Rattle.requests.specs.Steps.{RequestContext}
 use Rattle.requests.specs.Sessions.{session_moves}
 use Rattle.requests.specs.PlainRuns.{HasEvaluatedTo, IsPlain, ArePlain}
@@ -35,7 +35,7 @@ plain_load : PlainFilesAgree → (s : RequestContext) (uses : Text → VariableU
 plain_load agree s uses live m (other, left, is) apart j =
     let (ran, judged, unasked, undone) = judged_of s m.name m.path j in
     let again : list_all is_reversible m.records ≡ true = subst (λ rs. list_all is_reversible rs ≡ true) (sym is) (judged_is_reversible agree s m.name m.path other j left) in
-    (record { suits = all_suit uses m.records again apart.follow_uses; sets_apart = apart.sets_apart }, (ran, judged, unasked))
+    (record { suits = all_suit uses m.records (all_return m.records again) apart.follow_uses; sets_apart = apart.sets_apart }, (ran, judged, unasked))
 
 are_plain : PlainFilesAgree → (s : RequestContext) (uses : Text → VariableUse) (ms : List Move) (live : List Module) → AllFrom s ms → AreJudged s uses live ms → ArePlain s uses live ms
 are_plain agree s uses [] live from judged = tt

@@ -14,7 +14,7 @@ use Rattle.reversal.specs.VariableUses.{VariableUse, IsUsedSo, Suits, AllSuit}
 use Rattle.reversal.specs.Undone.{undone_as, undo_of}
 use Rattle.reversal.specs.Laws.{UnloadsAreAlike}
 use Rattle.reversal.specs.Live.{set_by, last_set, adds_by, adds, push_by, last_push}
-use Rattle.reversal.proofs.RecordKinds.{accepted, same_accepted, uses_none, LeavesOf, leaves}
+use Rattle.reversal.proofs.RecordKinds.{accepted, same_accepted, LeavesOf, leaves}
 use Rattle.reversal.proofs.Frames.{effect_edits}
 
 -- what an unload makes by what is left of a record
@@ -31,7 +31,7 @@ had owner r old new n h =
     ap (λ (o : Option RecordReason). permitted o (edit_outcome (unloaded_by owner r old))) n ∙ ap edit_outcome h
 
 left_of : (owner : Text) (r : Record) (o : Option Record) → LeavesOf r o → (old new : Environment) → record_reason r ≡ None → unloaded_by owner r old ≡ Ok new → DoneBy owner o old new
-left_of owner r None l old new n h = same_accepted old new (sym ((uses_none r l).unloads owner old) ∙ h)
+left_of owner r None l old new n h = same_accepted old new (sym (l.unloads owner old) ∙ h)
 left_of owner r (Some u) l old new n h = had owner u old new (l.reason n) (sym (l.unloads owner old) ∙ h)
 
 step : (owner : Text) (o : Option Record) (us : List Record) (old mid new : Environment) → DoneBy owner o old mid
@@ -50,7 +50,7 @@ done_by_left owner (r ∷ rs) old new h =
 -- and the other way round, where nothing forbids a record
 
 from_left : (owner : Text) (r : Record) (o : Option Record) → LeavesOf r o → (old new : Environment) → record_reason r ≡ None → DoneBy owner o old new → effect unload owner r old ≡ Ok new
-from_left owner r None l old new n h = had owner r old new n ((uses_none r l).unloads owner old ∙ ap accepted (sym h))
+from_left owner r None l old new n h = had owner r old new n (l.unloads owner old ∙ ap accepted (sym h))
 from_left owner r (Some u) l old new n h = had owner r old new n (l.unloads owner old ∙ (effect_edits unload owner u old new h).1)
 
 first_done : (owner : Text) (o : Option Record) (us : List Record) (old new : Environment)
@@ -75,14 +75,14 @@ unloads_are_alike owner rs ss old new alike allowed h =
 
 suit_left : (uses : Text → VariableUse) (r : Record) (o : Option Record) → LeavesOf r o → (us : List Record) → Suits uses r → AllSuit uses us → AllSuit uses (cons_option o us)
 suit_left uses r None l us s k = k
-suit_left uses r (Some u) l us s k = ((l.reversible, subst (IsUsedSo uses) (sym l.uses) s.1), k)
+suit_left uses r (Some u) l us s k = ((l.returns, subst (IsUsedSo uses) (sym l.uses) s.1), k)
 
 pub left_suit : (uses : Text → VariableUse) (rs : List Record) → AllSuit uses rs → AllSuit uses (undo_of rs)
 left_suit uses [] s = tt
 left_suit uses (r ∷ rs) s = suit_left uses r (undone_as r) (leaves r) (undo_of rs) s.0 (left_suit uses rs s.1)
 
 add_left : (w x : Text) (r : Record) (o : Option Record) → LeavesOf r o → (us rs : List Record) → adds w x us ≡ adds w x rs → adds w x (cons_option o us) ≡ adds_by w x r + adds w x rs
-add_left w x r None l us rs i = let n = (uses_none r l).adds w x in omega (arith, n, i)
+add_left w x r None l us rs i = let n = l.adds w x in omega (arith, n, i)
 add_left w x r (Some u) l us rs i = let a = l.adds w x in omega (arith, a, i)
 
 pub left_adds : (w x : Text) (rs : List Record) → adds w x (undo_of rs) ≡ adds w x rs
@@ -101,7 +101,7 @@ or_none a (Some y) c h k = h
 
 set_left : (uses : Text → VariableUse) (w : Text) (r : Record) (o : Option Record) → LeavesOf r o → (us rs : List Record) → Suits uses r → is_some (last_set w us) ≡ is_some (last_set w rs)
     → is_some (last_set w (cons_option o us)) ≡ is_some (option_or (last_set w rs) (set_by w r))
-set_left uses w r None l us rs s i = or_none (last_set w us) (last_set w rs) (set_by w r) i (((uses_none r l).nothing s.0).sets w)
+set_left uses w r None l us rs s i = or_none (last_set w us) (last_set w rs) (set_by w r) i (l.sets s.0 w)
 set_left uses w r (Some u) l us rs s i = or_some (last_set w us) (last_set w rs) (set_by w u) (set_by w r) i (l.sets w)
 
 pub left_sets : (uses : Text → VariableUse) (w : Text) (rs : List Record) → AllSuit uses rs → is_some (last_set w (undo_of rs)) ≡ is_some (last_set w rs)
@@ -110,7 +110,7 @@ left_sets uses w (r ∷ rs) s = set_left uses w r (undone_as r) (leaves r) (undo
 
 push_left : (w : Text) (r : Record) (o : Option Record) → LeavesOf r o → (us rs : List Record) → is_some (last_push w us) ≡ is_some (last_push w rs)
     → is_some (last_push w (cons_option o us)) ≡ is_some (option_or (last_push w rs) (push_by w r))
-push_left w r None l us rs i = or_none (last_push w us) (last_push w rs) (push_by w r) i ((uses_none r l).pushes w)
+push_left w r None l us rs i = or_none (last_push w us) (last_push w rs) (push_by w r) i (l.pushes w)
 push_left w r (Some u) l us rs i = or_some (last_push w us) (last_push w rs) (push_by w u) (push_by w r) i (l.pushes w)
 
 pub left_pushes : (w : Text) (rs : List Record) → is_some (last_push w (undo_of rs)) ≡ is_some (last_push w rs)

@@ -3,12 +3,14 @@ use Rattle.std.proofs.Common.{◌≡◌, Bool, true, false, List, [], ◌∷◌,
 use Rattle.std.proofs.Common.{Result, Ok, Err}
 use Rattle.std.specs.Prelude.{bytes_eq}
 use Rattle.envvars.specs.Texts.{Text}
+use Rattle.envvars.specs.Names.{name_reason}
 use Rattle.envvars.specs.Environment.{Environment, lookup}
 use Rattle.envvars.specs.Reasons.{EnvReason}
 use Rattle.envloaded.specs.Loaded.{loaded_in}
 use Rattle.envstate.specs.Roles.{role_of, is_editable}
 use Rattle.envstate.specs.Roles.VariableRole.{Other}
 use Rattle.envstate.specs.Frames.{EditsVariable, IsVariableUnchanged, AreLoadedUnchanged}
+use Rattle.envstate.proofs.RoleLemmas.{no_reason_against}
 use Rattle.envstate.proofs.FrameLemmas.{drop_edits, pop_edits, path_edits_variable, stack_edits_variable, keeps_other}
 use Rattle.envstate.proofs.FrameLemmas.{keeps_loaded, rest_stays}
 use Rattle.modulefile.specs.Records.{Record, variable_of}
@@ -16,7 +18,8 @@ use Rattle.modulefile.specs.Judgments.{RecordReason, record_reason}
 use Rattle.modulefile.specs.Effects.{Mode, load, unload, display, whatis, unloaded_by, edited, edit_outcome, permitted}
 use Rattle.modulefile.specs.Effects.{effect, effects}
 use Rattle.modulefile.proofs.Effected.{parts}
-use Rattle.reversal.specs.VariableUses.{Untouched, Fixed, Pathed, Stacked, is_reversible, UsedVariable, use_by}
+use Rattle.reversal.specs.VariableUses.{Untouched, Fixed, Absent, Pathed, Stacked, can_return, UsedVariable}
+use Rattle.reversal.specs.VariableUses.{use_by}
 use Rattle.reversal.proofs.RecordKinds.{accepted, same_accepted, DoesBy, does, named_used, Touched, set_touched}
 use Rattle.reversal.proofs.RecordKinds.{touched_loaded}
 
@@ -29,14 +32,19 @@ permitted_ok (Some x) r new h = absurd (cc)
 pub effect_edits : (mode : Mode) (owner : Text) (r : Record) (old new : Environment) → effect mode owner r old ≡ Ok new → (record_reason r ≡ None) × (edited mode owner r old ≡ Ok new)
 effect_edits mode owner r old new h = permitted_ok (record_reason r) (edited mode owner r old) new h
 
+-- where nothing changes, nothing but the variable does
+edits_none : (v : Text) (old new : Environment) → name_reason v ≡ None → accepted old ≡ Ok new → EditsVariable old new v
+edits_none v old new n h = record { editable = (no_reason_against v).1 n; only = λ q i. ap (λ (e : Environment). lookup e q) (same_accepted old new h) }
+
 -- an unload touches nothing but the variable that the record uses
 edits_used : (owner : Text) (r : Record) (p : UsedVariable) → DoesBy r (Some p) → (old new : Environment) → record_reason r ≡ None → unloaded_by owner r old ≡ Ok new → EditsVariable old new p.0
 edits_used owner r (v, Untouched) d old new n h = absurd d
 edits_used owner r (v, Fixed k) d old new n h = set_touched v k old new (d.reason n) (sym (d.unloads owner old) ∙ h)
+edits_used owner r (v, Absent) d old new n h = edits_none v old new (d.reason n) (sym (d.unloads owner old) ∙ h)
 edits_used owner r (v, Pathed a) d old new n h = (path_edits_variable old new v (drop_edits old new v a d.elements (sym (d.unloads owner old) ∙ h))).0
 edits_used owner r (v, Stacked) d old new n h = (stack_edits_variable old new v (pop_edits old new v owner (sym (d.unloads owner old) ∙ h))).0
 
-touched_unloaded : (owner : Text) (r : Record) (o : Option UsedVariable) → DoesBy r o → (old new : Environment) → is_reversible r ≡ true → record_reason r ≡ None
+touched_unloaded : (owner : Text) (r : Record) (o : Option UsedVariable) → DoesBy r o → (old new : Environment) → can_return r ≡ true → record_reason r ≡ None
     → unloaded_by owner r old ≡ Ok new → Touched (variable_of r) old new
 touched_unloaded owner r None d old new s n h =
     subst (λ (v : Option Text). Touched v old new) (sym (d.nothing s).named) (same_accepted old new (sym (d.unloads owner old) ∙ h))
@@ -48,7 +56,7 @@ pub data Side : Mode → Type 0 where
   loads : Side load
   unloads : Side unload
 
-pub touched : (mode : Mode) (side : Side mode) (owner : Text) (r : Record) (old new : Environment) → is_reversible r ≡ true → effect mode owner r old ≡ Ok new → Touched (variable_of r) old new
+pub touched : (mode : Mode) (side : Side mode) (owner : Text) (r : Record) (old new : Environment) → can_return r ≡ true → effect mode owner r old ≡ Ok new → Touched (variable_of r) old new
 touched mode loads owner r old new s h = let p = effect_edits load owner r old new h in touched_loaded owner r old new p.0 p.1
 touched mode unloads owner r old new s h = let p = effect_edits unload owner r old new h in touched_unloaded owner r (use_by r) (does r) old new s p.0 p.1
 

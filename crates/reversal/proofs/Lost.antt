@@ -20,7 +20,7 @@ use Rattle.envloaded.specs.Loaded.{conflicts_text, prereqs_text, with_loaded}
 use Rattle.modulefile.specs.Records.{Record, Set, Unset, Path}
 use Rattle.modulefile.specs.declared.records.PathEdit.TheVariants.{Back, Remove}
 use Rattle.modulefile.specs.Moves.{Module, Move, Loads, Unloads}
-use Rattle.reversal.specs.VariableUses.{VariableUse, Untouched, Fixed, Pathed, Stacked}
+use Rattle.reversal.specs.VariableUses.{VariableUse, Untouched, Fixed, Absent, Pathed, Stacked}
 use Rattle.reversal.specs.Undone.{undo_of}
 use Rattle.reversal.specs.Starts.{IsStart}
 use Rattle.reversal.specs.Runs.{live_after}
@@ -28,9 +28,9 @@ use Rattle.reversal.specs.Examples.{of_kind, follows_use, apart, alive, undoes_a
 use Rattle.reversal.specs.Examples.{first_module, second_module, variable, there_and_back, crossed, add_front}
 use Rattle.reversal.specs.Examples.{push_value, EmptyPath, CounterOfNone, BottomAlone, HiddenValue, OtherEscapes}
 use Rattle.reversal.specs.Examples.{OwnerNotLoaded, ValueBeforeSet, OtherValue, EmptyLists, NeedsOfNone, ConflictTwice}
-use Rattle.reversal.specs.Examples.{IllSpelled, EmptyGroup, UnsetWithoutValue, ElementRemoved, OtherRecords}
+use Rattle.reversal.specs.Examples.{IllSpelled, EmptyGroup, ValueBeforeUnset, ElementRemoved, OtherRecords}
 use Rattle.reversal.specs.Examples.{StartUnloaded, SetAndPushed, UnsetAndPushed, AddedAndPushed, TwoDelimiters}
-use Rattle.reversal.specs.Examples.{SetByTwo}
+use Rattle.reversal.specs.Examples.{SetByTwo, SetAndAbsent}
 use Rattle.reversal.proofs.OneVariable.{by_test}
 use Rattle.reversal.proofs.Histories.{History, env, seen, lookup_seen, path_at, path_seen, played, played_leads}
 
@@ -99,6 +99,7 @@ a1_listed h n f c p = listed h a1 (record { each = record { each = refl; names =
 abbrev pub AtStart : VariableUse → Environment → Text → Type 0
 AtStart Untouched e name = Unit {0}
 AtStart (Fixed value) e name = lookup e name ≡ value
+AtStart Absent e name = lookup e name ≡ None
 AtStart (Pathed delim) e name = IsPathInOrder e name delim
 AtStart Stacked e name = lookup e (stack_name name) ≡ None
 
@@ -122,6 +123,9 @@ start_at name variable_use e l a = record {
   fixed = λ v value f q. by_test (bytes_eq v name) _
       (λ t. subst (λ (z : Text). lookup e z ≡ value) (sym (same_text v name t)) (subst (λ (y : VariableUse). AtStart y e name) (this_way name v variable_use (Fixed value) t q) a))
       (λ t. let z = no_way name v variable_use (Fixed value) t q in absurd cc);
+  absent = λ v f q. by_test (bytes_eq v name) _
+      (λ t. subst (λ (z : Text). lookup e z ≡ None) (sym (same_text v name t)) (subst (λ (y : VariableUse). AtStart y e name) (this_way name v variable_use Absent t q) a))
+      (λ t. let z = no_way name v variable_use Absent t q in absurd cc);
 }
 
 pub path_ordered : (h : History) (name : Text) (delim : ℕ)
@@ -206,6 +210,15 @@ other_value =
       lose = lose _ h (codes "V") refl refl refl;
     }
 
+pub value_before_unset : ValueBeforeUnset
+value_before_unset =
+    let h : History = (codes "V", Some (codes "y")) ∷ [] in
+    record {
+      reversible = (record { suits = ((refl, refl), tt); sets_apart = λ v s. refl }, (record { loaded = _; found = refl; alike = refl }, tt));
+      listed = nothing_listed h refl refl refl refl;
+      lose = lose _ h (codes "V") refl refl refl;
+    }
+
 pub empty_lists : EmptyLists
 empty_lists =
     let h : History = (codes "LOADEDMODULES", Some ([])) ∷ (codes "_LMFILES_", Some ([])) ∷ [] in
@@ -280,16 +293,6 @@ undo_in (Some m) = undo_of m.records
 
 nothing_found : (loaded : Module) → ◌≡◌ {A = Option Module} None (Some loaded) → ⊥
 nothing_found loaded h = absurd cc
-
-pub unset_without_value : UnsetWithoutValue
-unset_without_value =
-    let h : History = (codes "V", Some (codes "y")) ∷ [] in
-    record {
-      begins = start_at variable Untouched (env h) (nothing_listed h refl refl refl refl) tt;
-      others = but_kind (only_use variable Untouched) (there_and_back (Unset variable None)) ((tt, tt), (tt, tt))
-          ((λ v s. refl), (tt, tt)) (tt, ((_, refl), tt)) (tt, ((λ loaded f. ap undo_in f), tt));
-      lose = lose _ h (codes "V") refl refl refl;
-    }
 
 pub element_removed : ElementRemoved
 element_removed =
@@ -408,4 +411,17 @@ set_by_two_falls = record {
   end = env (end_of set_by_two []);
   reach = played_leads set_by_two [] (end_of set_by_two []) refl;
   differs = λ s. differ (seen (end_of set_by_two []) variable) (Some (codes "y")) refl (sym (lookup_seen (end_of set_by_two []) variable) ∙ (s.variables variable refl).value);
+}
+
+abbrev set_and_absent : List Move
+set_and_absent = Loads (first_module (Set variable (codes "x") ∷ [])) ∷ Loads (second_module (Unset variable None ∷ [])) ∷ Unloads (second_module (Unset variable None ∷ [])) ∷ []
+
+pub set_and_absent_falls : SetAndAbsent
+set_and_absent_falls = record {
+  begins = start_at variable (Fixed None) (env []) (nothing_listed [] refl refl refl refl) (lookup_seen [] variable);
+  others = but_way (only_use variable (Fixed None)) set_and_absent (refl, (refl, (tt, tt)))
+      ((λ v s. refl), ((λ v s. absurd (false≢true s)), (tt, tt))) (tt, (tt, ((_, refl), tt))) (tt, (tt, ((λ loaded f. ap undo_in f), tt)));
+  end = env (end_of set_and_absent []);
+  reach = played_leads set_and_absent [] (end_of set_and_absent []) refl;
+  differs = λ s. differ (seen (end_of set_and_absent []) variable) (Some (codes "x")) refl (sym (lookup_seen (end_of set_and_absent []) variable) ∙ (s.variables variable refl).value);
 }

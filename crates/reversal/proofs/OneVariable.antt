@@ -19,13 +19,13 @@ use Rattle.envstate.specs.Frames.{IsVariableUnchanged}
 use Rattle.envstate.proofs.FrameLemmas.{set_edits, add_edits, drop_edits, path_edits_variable, stack_edits_variable}
 use Rattle.modulefile.specs.Records.{Record, variable_of}
 use Rattle.modulefile.specs.Effects.{Mode, load, unload, effect, effects}
-use Rattle.reversal.specs.VariableUses.{VariableUse, Untouched, Fixed, Pathed, Suits, AllSuit}
+use Rattle.reversal.specs.VariableUses.{VariableUse, Untouched, Fixed, Absent, Pathed, Suits, AllSuit}
 use Rattle.reversal.specs.Live.{set_by, last_set, adds_by, adds}
 use Rattle.reversal.specs.Starts.{HasValue}
 use Rattle.reversal.proofs.RecordKinds.{accepted, same_accepted}
 use Rattle.reversal.proofs.Frames.{effect_edits, Side, loads, unloads, touched, is_named, kept_variable}
 use Rattle.reversal.proofs.Loads.{parts}
-use Rattle.reversal.proofs.Uses.{unnamed, uses_fixed, uses_path, set_by_none, adds_by_none, other_used}
+use Rattle.reversal.proofs.Uses.{unnamed, uses_fixed, uses_absent, uses_path, set_by_none, adds_by_none, other_used}
 
 -- by both results of a test
 pub by_test : (t : Bool) (P : Type 0) → (t ≡ true → P) → (t ≡ false → P) → P
@@ -121,6 +121,35 @@ unloads_fixed uses owner w k (r ∷ rs) b old new x h s f e v =
     let p = parts (effect unload owner r old) (effects unload owner rs) new e in
     subst (λ (y : Option Text). HasValue b new w y) (sym (or_pick (last_set w rs) (set_by w r) x k))
     (unloads_fixed uses owner w k rs b p.0 new (pick (set_by w r) x k) h s.1 f p.2 (unload_fixed uses owner w k r b old p.0 x h s.0 f p.1 v))
+
+-- a variable that is absent
+
+load_absent : (uses : Text → VariableUse) (owner w : Text) (r : Record) (b old new : Environment) → uses w ≡ Absent → Suits uses r → is_editable w ≡ true
+    → effect load owner r old ≡ Ok new → HasValue b old w None → HasValue b new w None
+load_absent uses owner w r b old new h s f e v = by_test (is_named w (variable_of r)) _
+    (λ t. value_set b old new w None None f (sym ((uses_absent uses w r h s t).loads owner old) ∙ (effect_edits load owner r old new e).1) v)
+    (λ t. value_kept b old new w None (one_keeps load loads uses owner w r old new s f e t) v)
+
+pub loads_absent : (uses : Text → VariableUse) (owner w : Text) (rs : List Record) (b old new : Environment) → uses w ≡ Absent → AllSuit uses rs → is_editable w ≡ true
+    → effects load owner rs old ≡ Ok new → HasValue b old w None → HasValue b new w None
+loads_absent uses owner w [] b old new h s f e v = let q : old ≡ new = cc in subst (λ (d : Environment). HasValue b d w None) q v
+loads_absent uses owner w (r ∷ rs) b old new h s f e v =
+    let p = parts (effect load owner r old) (effects load owner rs) new e in
+    loads_absent uses owner w rs b p.0 new h s.1 f p.2 (load_absent uses owner w r b old p.0 h s.0 f p.1 v)
+
+unload_absent : (uses : Text → VariableUse) (owner w : Text) (r : Record) (b old new : Environment) (x : Option Text) → uses w ≡ Absent → Suits uses r → is_editable w ≡ true
+    → effect unload owner r old ≡ Ok new → HasValue b old w x → HasValue b new w x
+unload_absent uses owner w r b old new x h s f e v = by_test (is_named w (variable_of r)) _
+    (λ t. subst (λ (d : Environment). HasValue b d w x)
+    (sym (same_accepted old new (sym ((uses_absent uses w r h s t).unloads owner old) ∙ (effect_edits unload owner r old new e).1))) v)
+    (λ t. value_kept b old new w x (one_keeps unload unloads uses owner w r old new s f e t) v)
+
+pub unloads_absent : (uses : Text → VariableUse) (owner w : Text) (rs : List Record) (b old new : Environment) (x : Option Text) → uses w ≡ Absent → AllSuit uses rs → is_editable w ≡ true
+    → effects unload owner rs old ≡ Ok new → HasValue b old w x → HasValue b new w x
+unloads_absent uses owner w [] b old new x h s f e v = let q : old ≡ new = cc in subst (λ (d : Environment). HasValue b d w x) q v
+unloads_absent uses owner w (r ∷ rs) b old new x h s f e v =
+    let p = parts (effect unload owner r old) (effects unload owner rs) new e in
+    unloads_absent uses owner w rs b p.0 new x h s.1 f p.2 (unload_absent uses owner w r b old p.0 x h s.0 f p.1 v)
 
 -- a path
 

@@ -21,7 +21,8 @@ use Rattle.modulefile.specs.declared.records.PathEdit.{PathEdit}
 use Rattle.modulefile.specs.declared.records.PathEdit.TheVariants.{Front, Back, Remove}
 use Rattle.modulefile.specs.Judgments.{bad_edit, value_reason, values_of, record_reason}
 use Rattle.modulefile.specs.Effects.{path_edited, loaded_by, unloaded_by}
-use Rattle.reversal.specs.VariableUses.{Untouched, Fixed, Pathed, Stacked, is_reversible, UsedVariable, use_by}
+use Rattle.reversal.specs.VariableUses.{Untouched, Fixed, Absent, Pathed, Stacked, can_return, UsedVariable}
+use Rattle.reversal.specs.VariableUses.{use_by, absent_by}
 use Rattle.reversal.specs.Live.{set_by, adds_by, push_by}
 use Rattle.reversal.specs.Undone.{undone_as}
 
@@ -64,6 +65,16 @@ pub record FixesVariable (v : Text) (k : Option Text) (r : Record) : Type 0 wher
   pub adds : (w x : Text) → adds_by w x r ≡ 0
   pub pushes : (w : Text) → push_by w r ≡ None
 
+-- it unsets the variable, and its unload does nothing
+pub record KeepsAbsent (v : Text) (r : Record) : Type 0 where
+  pub named : variable_of r ≡ Some v
+  pub reason : record_reason r ≡ None → name_reason v ≡ None
+  pub loads : (owner : Text) (e : Environment) → loaded_by owner r e ≡ accepted (with_value e v None)
+  pub unloads : (owner : Text) (e : Environment) → unloaded_by owner r e ≡ accepted e
+  pub sets : (w : Text) → set_by w r ≡ None
+  pub adds : (w x : Text) → adds_by w x r ≡ 0
+  pub pushes : (w : Text) → push_by w r ≡ None
+
 -- it adds elements to the path
 pub record AddsToPath (v : Text) (d : ℕ) (r : Record) : Type 0 where
   pub named : variable_of r ≡ Some v
@@ -93,17 +104,18 @@ pub record DoesNothing (r : Record) : Type 0 where
   pub loads : (owner : Text) (e : Environment) → loaded_by owner r e ≡ accepted e
   pub sets : (w : Text) → set_by w r ≡ None
 
--- it uses none: its unload does nothing, and unless it is of a kind that unloading doesn't undo, its load neither
+-- it uses none: its unload does nothing, and unless it removes elements, its load neither
 pub record UsesNone (r : Record) : Type 0 where
   pub unloads : (owner : Text) (e : Environment) → unloaded_by owner r e ≡ accepted e
   pub adds : (w x : Text) → adds_by w x r ≡ 0
   pub pushes : (w : Text) → push_by w r ≡ None
-  pub nothing : is_reversible r ≡ true → DoesNothing r
+  pub nothing : can_return r ≡ true → DoesNothing r
 
 abbrev pub DoesBy : Record → Option UsedVariable → Type 0
 DoesBy r None = UsesNone r
 DoesBy r (Some (v, Untouched)) = ⊥
 DoesBy r (Some (v, Fixed k)) = FixesVariable v k r
+DoesBy r (Some (v, Absent)) = KeepsAbsent v r
 DoesBy r (Some (v, Pathed d)) = AddsToPath v d r
 DoesBy r (Some (v, Stacked)) = PushesValue v r
 
@@ -143,7 +155,15 @@ does (Set v x) = record {
   adds = λ w y. refl;
   pushes = λ w. refl;
 }
-does (Unset v None) = record { unloads = λ owner e. refl; adds = λ w x. refl; pushes = λ w. refl; nothing = λ k. absurd (false≢true k) }
+does (Unset v None) = record {
+  named = refl;
+  reason = named_value v [];
+  loads = λ owner e. refl;
+  unloads = λ owner e. refl;
+  sets = λ w. refl;
+  adds = λ w x. refl;
+  pushes = λ w. refl;
+}
 does (Unset v (Some x)) = record {
   named = refl;
   reason = named_value v (x ∷ []);
@@ -179,12 +199,14 @@ uses_none r h = subst (DoesBy r) h (does r)
 pub named_used : (r : Record) (p : UsedVariable) → DoesBy r (Some p) → variable_of r ≡ Some p.0
 named_used r (v, Untouched) d = absurd d
 named_used r (v, Fixed k) d = d.named
+named_used r (v, Absent) d = d.named
 named_used r (v, Pathed a) d = d.named
 named_used r (v, Stacked) d = d.named
 
 name_allowed : (r : Record) (p : UsedVariable) → DoesBy r (Some p) → record_reason r ≡ None → name_reason p.0 ≡ None
 name_allowed r (v, Untouched) d n = absurd d
 name_allowed r (v, Fixed k) d n = d.reason n
+name_allowed r (v, Absent) d n = d.reason n
 name_allowed r (v, Pathed a) d n = d.reason n
 name_allowed r (v, Stacked) d n = d.reason n
 
@@ -220,15 +242,26 @@ touched_loaded owner r old new n h = same_accepted old new h
 pub record IsLeftOf (r u : Record) : Type 0 where
   pub reason : record_reason r ≡ None → record_reason u ≡ None
   pub unloads : (owner : Text) (e : Environment) → unloaded_by owner r e ≡ unloaded_by owner u e
-  pub reversible : is_reversible u ≡ true
+  pub returns : can_return u ≡ true
   pub uses : use_by u ≡ use_by r
+  pub absent : absent_by r ≡ None
   pub sets : (w : Text) → is_some (set_by w u) ≡ is_some (set_by w r)
   pub adds : (w x : Text) → adds_by w x u ≡ adds_by w x r
   pub pushes : (w : Text) → is_some (push_by w u) ≡ is_some (push_by w r)
 
--- nothing where the record uses no variable
+abbrev pub kept_absent : Text → UsedVariable
+kept_absent v = (v, Absent)
+
+-- nothing where an unload does nothing
+pub record LeavesNone (r : Record) : Type 0 where
+  pub unloads : (owner : Text) (e : Environment) → unloaded_by owner r e ≡ accepted e
+  pub uses : use_by r ≡ option_map kept_absent (absent_by r)
+  pub sets : can_return r ≡ true → (w : Text) → set_by w r ≡ None
+  pub adds : (w x : Text) → adds_by w x r ≡ 0
+  pub pushes : (w : Text) → push_by w r ≡ None
+
 abbrev pub LeavesOf : Record → Option Record → Type 0
-LeavesOf r None = use_by r ≡ None
+LeavesOf r None = LeavesNone r
 LeavesOf r (Some u) = IsLeftOf r u
 
 given : {T : Type 0} (b : Bool) (x y : T) → is_some (cond b (Some x) None) ≡ is_some (cond b (Some y) None)
@@ -236,50 +269,54 @@ given true x y = refl
 given false x y = refl
 
 -- the record itself
-all_left : (r : Record) → is_reversible r ≡ true → IsLeftOf r r
-all_left r k = record {
+all_left : (r : Record) → can_return r ≡ true → absent_by r ≡ None → IsLeftOf r r
+all_left r k a = record {
   reason = λ n. n;
   unloads = λ owner e. refl;
-  reversible = k;
+  returns = k;
   uses = refl;
+  absent = a;
   sets = λ w. refl;
   adds = λ w x. refl;
   pushes = λ w. refl;
 }
 
 path_leaves : (edit : PathEdit) (d : ℕ) (v : Text) (xs : List Text) → LeavesOf (Path edit d v xs) (undone_as (Path edit d v xs))
-path_leaves Front d v xs = all_left (Path Front d v xs) refl
+path_leaves Front d v xs = all_left (Path Front d v xs) refl refl
 path_leaves Back d v xs = record {
   reason = λ n. n;
   unloads = λ owner e. refl;
-  reversible = refl;
+  returns = refl;
   uses = refl;
+  absent = refl;
   sets = λ w. refl;
   adds = λ w x. refl;
   pushes = λ w. refl;
 }
-path_leaves Remove d v xs = refl
+path_leaves Remove d v xs = record { unloads = λ owner e. refl; uses = refl; sets = λ k. absurd (false≢true k); adds = λ w x. refl; pushes = λ w. refl }
 
 pub leaves : (r : Record) → LeavesOf r (undone_as r)
 leaves (Set v x) = record {
   reason = by_name v (x ∷ []);
   unloads = λ owner e. refl;
-  reversible = refl;
+  returns = refl;
   uses = refl;
+  absent = refl;
   sets = λ w. given (bytes_eq w v) (Some []) (Some x);
   adds = λ w y. refl;
   pushes = λ w. refl;
 }
-leaves (Unset v None) = refl
-leaves (Unset v (Some x)) = all_left (Unset v (Some x)) refl
+leaves (Unset v None) = record { unloads = λ owner e. refl; uses = refl; sets = λ k w. refl; adds = λ w x. refl; pushes = λ w. refl }
+leaves (Unset v (Some x)) = all_left (Unset v (Some x)) refl refl
 leaves (Push v x) = record {
   reason = by_name v (x ∷ []);
   unloads = λ owner e. refl;
-  reversible = refl;
+  returns = refl;
   uses = refl;
+  absent = refl;
   sets = λ w. refl;
   adds = λ w y. refl;
   pushes = λ w. given (bytes_eq w v) [] x;
 }
 leaves (Path edit d v xs) = path_leaves edit d v xs
-leaves r = refl
+leaves r = record { unloads = λ owner e. refl; uses = refl; sets = λ k w. refl; adds = λ w x. refl; pushes = λ w. refl }

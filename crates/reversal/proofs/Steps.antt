@@ -29,7 +29,7 @@ use Rattle.modulefile.specs.Records.{Record, variable_of}
 use Rattle.modulefile.specs.Judgments.{RecordReason}
 use Rattle.modulefile.specs.Effects.{Mode, load, unload, effect, effects}
 use Rattle.modulefile.specs.Moves.{Module, Loads, Unloads, entry_of, moved, Fits}
-use Rattle.reversal.specs.VariableUses.{VariableUse, Untouched, Fixed, Pathed, Stacked, AllSuit}
+use Rattle.reversal.specs.VariableUses.{VariableUse, Untouched, Fixed, Absent, Pathed, Stacked, AllSuit}
 use Rattle.reversal.specs.Live.{last_set, live_set, adds, live_adds, last_push, with_push, live_pushes, entries_over}
 use Rattle.reversal.specs.Undone.{undo_of, UndoAlike}
 use Rattle.reversal.specs.Starts.{IsStart, HasValue, IsPermutation}
@@ -38,6 +38,7 @@ use Rattle.reversal.proofs.Frames.{Side, loads, unloads, touched, kept_loaded, k
 use Rattle.reversal.proofs.Loads.{parts, load_parts, unload_parts}
 use Rattle.reversal.proofs.Alike.{done_by_left, left_suit, left_adds, left_sets, left_pushes}
 use Rattle.reversal.proofs.OneVariable.{by_test, pick, same_pick, value_kept, all_untouched, loads_fixed, unloads_fixed, or_unwrap}
+use Rattle.reversal.proofs.OneVariable.{loads_absent, unloads_absent}
 use Rattle.reversal.proofs.OneVariable.{PathAt, path_kept, path_same, loads_path, unloads_path}
 use Rattle.reversal.proofs.OneStack.{more_loaded, StackAt, stack_kept, Pusher, loads_push, unloads_push, popped}
 use Rattle.reversal.proofs.ModuleEntries.{added_entry}
@@ -79,6 +80,7 @@ pub record StackHeld (b e : Environment) (w : Text) (loaded : List Text) (live :
 abbrev pub Held : VariableUse → Environment → Text → List Text → List Module → Environment → Type 0
 Held Untouched b w loaded live e = HasValue b e w (lookup b w)
 Held (Fixed k) b w loaded live e = HasValue b e w (unwrap_or (live_set w live) (lookup b w))
+Held Absent b w loaded live e = HasValue b e w (lookup b w)
 Held (Pathed d) b w loaded live e = PathAt b e w d (live_adds w live)
 Held Stacked b w loaded live e = StackHeld b e w loaded live
 
@@ -86,6 +88,7 @@ held_kept : (y : VariableUse) (b : Environment) (w : Text) (loaded : List Text) 
     (old new : Environment) → IsVariableUnchanged old new w → Held y b w loaded live old → Held y b w loaded live new
 held_kept Untouched b w loaded live old new k h = value_kept b old new w (lookup b w) k h
 held_kept (Fixed v) b w loaded live old new k h = value_kept b old new w (unwrap_or (live_set w live) (lookup b w)) k h
+held_kept Absent b w loaded live old new k h = value_kept b old new w (lookup b w) k h
 held_kept (Pathed d) b w loaded live old new k h = path_kept b old new w d (live_adds w live) k h
 held_kept Stacked b w loaded live old new k h = record { base = h.base; found = h.found; pushes = h.pushes; order = h.order; at_ = stack_kept b old new w loaded h.base h.pushes k h.at_ }
 
@@ -147,6 +150,9 @@ held_load uses b xs live m old mid w Untouched q g f s e n a l h = all_untouched
 held_load uses b xs live m old mid w (Fixed k) q g f s e n a l h =
     subst (HasValue b mid w) (sym (or_unwrap (last_set w m.records) (live_set w live) (lookup b w)))
     (loads_fixed uses m.name w k m.records b old mid (unwrap_or (live_set w live) (lookup b w)) q s f e h)
+held_load uses b xs live m old mid w Absent q g f s e n a l h =
+    let none : lookup b w ≡ None = g.start.absent w f q in
+    subst (HasValue b mid w) (sym none) (loads_absent uses m.name w m.records b old mid q s f e (subst (HasValue b old w) none h))
 held_load uses b xs live m old mid w (Pathed d) q g f s e n a l h = loads_path uses m.name w d m.records b old mid (live_adds w live) q s f e h
 held_load uses b xs live m old mid w Stacked q g f s e n a l h =
     let p = pusher uses b xs w m.name (names_of (entries_over xs (m ∷ live))) h.base g f q h.found n (newest_there m.name xs m live (bytes_eq-same m.name)) a in
@@ -221,6 +227,7 @@ held_unload uses b xs live m old mid w (Fixed k) q g f l fit sound e h =
         let none_left = set_alone uses w m.name live m l fit (ap (λ (z : Option (Option Text)). is_some z) i) in
         subst (λ (z : Option (Option Text)). HasValue b mid w (unwrap_or z (lookup b w))) (sym none_left)
         (subst (HasValue b mid w) (sym (g.start.fixed w k f q)) v2)
+held_unload uses b xs live m old mid w Absent q g f l fit sound e h = unloads_absent uses m.name w (undo_of m.records) b old mid (lookup b w) q (left_suit uses m.records (suits_of uses m.name live m l fit)) f e h
 held_unload uses b xs live m old mid w (Pathed d) q g f l fit sound e h =
     unloads_path uses m.name w d (undo_of m.records) b old mid (live_adds w (without_live m.name live)) q (left_suit uses m.records (suits_of uses m.name live m l fit)) f e
     (path_same b old w d (live_adds w live) (λ x. adds w x (undo_of m.records) + live_adds w (without_live m.name live) x)

@@ -10,8 +10,8 @@ use Rattle.envpaths.specs.declared.adding.End.{End}
 use Rattle.envstacks.specs.StackVariables.{pushed_value, popped_value}
 use Rattle.modulefile.specs.Records.{Record, variable_of}
 use Rattle.modulefile.specs.Effects.{loaded_by, unloaded_by}
-use Rattle.reversal.specs.VariableUses.{VariableUse, Untouched, Fixed, Pathed, Stacked, is_reversible, UsedVariable}
-use Rattle.reversal.specs.VariableUses.{use_by, IsUsedSo, Suits}
+use Rattle.reversal.specs.VariableUses.{VariableUse, Untouched, Fixed, Absent, Pathed, Stacked, can_return}
+use Rattle.reversal.specs.VariableUses.{UsedVariable, use_by, IsUsedSo, Suits}
 use Rattle.reversal.specs.Live.{set_by, adds_by, push_by}
 use Rattle.reversal.proofs.RecordKinds.{accepted, DoesBy, does, named_used}
 use Rattle.reversal.proofs.Frames.{is_named}
@@ -30,11 +30,11 @@ pub record UsesVariable (w : Text) (r : Record) : Type 0 where
   pub by : use_by r ≡ Some used
   pub named : bytes_eq w used.0 ≡ true
 
-named_by : (w : Text) (r : Record) (o : Option UsedVariable) → DoesBy r o → use_by r ≡ o → is_reversible r ≡ true → is_named w (variable_of r) ≡ true → UsesVariable w r
+named_by : (w : Text) (r : Record) (o : Option UsedVariable) → DoesBy r o → use_by r ≡ o → can_return r ≡ true → is_named w (variable_of r) ≡ true → UsesVariable w r
 named_by w r None d u s e = absurd (false≢true (ap (is_named w) (sym (d.nothing s).named) ∙ e))
 named_by w r (Some p) d u s e = record { used = p; does = d; by = u; named = ap (is_named w) (sym (named_used r p d)) ∙ e }
 
-uses_named : (w : Text) (r : Record) → is_reversible r ≡ true → is_named w (variable_of r) ≡ true → UsesVariable w r
+uses_named : (w : Text) (r : Record) → can_return r ≡ true → is_named w (variable_of r) ≡ true → UsesVariable w r
 uses_named w r s e = named_by w r (use_by r) (does r) refl s e
 
 -- an untouched variable is named by none
@@ -42,6 +42,7 @@ uses_named w r s e = named_by w r (use_by r) (does r) refl s e
 untouched_by : (uses : Text → VariableUse) (w : Text) (r : Record) (p : UsedVariable) → DoesBy r (Some p) → uses w ≡ Untouched → uses p.0 ≡ p.1 → bytes_eq w p.0 ≡ true → ⊥
 untouched_by uses w r (v, Untouched) d h s e = absurd d
 untouched_by uses w r (v, Fixed k) d h s e = wrong uses w v (Fixed k) Untouched h s e (λ z. cc)
+untouched_by uses w r (v, Absent) d h s e = wrong uses w v Absent Untouched h s e (λ z. cc)
 untouched_by uses w r (v, Pathed d) c h s e = wrong uses w v (Pathed d) Untouched h s e (λ z. cc)
 untouched_by uses w r (v, Stacked) d h s e = wrong uses w v Stacked Untouched h s e (λ z. cc)
 
@@ -71,11 +72,30 @@ fixed_by uses w k r (v, Fixed a) d h s e =
       unloads = λ owner c. d.unloads owner c ∙ moved_value v w a k c p q;
       by = d.sets w ∙ ap (λ (b : Bool). cond b (Some d.value) None) e;
     }
+fixed_by uses w k r (v, Absent) d h s e = wrong uses w v Absent (Fixed k) h s e (λ z. cc)
 fixed_by uses w k r (v, Pathed a) d h s e = wrong uses w v (Pathed a) (Fixed k) h s e (λ z. cc)
 fixed_by uses w k r (v, Stacked) d h s e = wrong uses w v Stacked (Fixed k) h s e (λ z. cc)
 
 pub uses_fixed : (uses : Text → VariableUse) (w : Text) (k : Option Text) (r : Record) → uses w ≡ Fixed k → Suits uses r → is_named w (variable_of r) ≡ true → UsesFixed w k r
 uses_fixed uses w k r h s e = let u = uses_named w r s.0 e in fixed_by uses w k r u.used u.does h (subst (IsUsedSo uses) u.by s.1) u.named
+
+-- a record that names an absent variable unsets it, and its unload does nothing
+pub record UsesAbsent (w : Text) (r : Record) : Type 0 where
+  pub loads : (owner : Text) (e : Environment) → loaded_by owner r e ≡ accepted (with_value e w None)
+  pub unloads : (owner : Text) (e : Environment) → unloaded_by owner r e ≡ accepted e
+
+absent_by : (uses : Text → VariableUse) (w : Text) (r : Record) (p : UsedVariable) → DoesBy r (Some p) → uses w ≡ Absent → uses p.0 ≡ p.1 → bytes_eq w p.0 ≡ true → UsesAbsent w r
+absent_by uses w r (v, Untouched) d h s e = absurd d
+absent_by uses w r (v, Fixed k) d h s e = wrong uses w v (Fixed k) Absent h s e (λ z. cc)
+absent_by uses w r (v, Absent) d h s e = record {
+  loads = λ owner c. d.loads owner c ∙ ap (λ (t : Text). accepted (with_value c t None)) (sym (same_text w v e));
+  unloads = d.unloads;
+}
+absent_by uses w r (v, Pathed a) d h s e = wrong uses w v (Pathed a) Absent h s e (λ z. cc)
+absent_by uses w r (v, Stacked) d h s e = wrong uses w v Stacked Absent h s e (λ z. cc)
+
+pub uses_absent : (uses : Text → VariableUse) (w : Text) (r : Record) → uses w ≡ Absent → Suits uses r → is_named w (variable_of r) ≡ true → UsesAbsent w r
+uses_absent uses w r h s e = let u = uses_named w r s.0 e in absent_by uses w r u.used u.does h (subst (IsUsedSo uses) u.by s.1) u.named
 
 pub record UsesPath (w : Text) (d : ℕ) (r : Record) : Type 0 where
   pub elements : List Text
@@ -96,6 +116,7 @@ moved_drop v w a d xs e h k = ap (λ (t : Text). dropped_path e t a xs) h ∙ ap
 path_by : (uses : Text → VariableUse) (w : Text) (d : ℕ) (r : Record) (p : UsedVariable) → DoesBy r (Some p) → uses w ≡ Pathed d → uses p.0 ≡ p.1 → bytes_eq w p.0 ≡ true → UsesPath w d r
 path_by uses w d r (v, Untouched) c h s e = absurd c
 path_by uses w d r (v, Fixed k) c h s e = wrong uses w v (Fixed k) (Pathed d) h s e (λ z. cc)
+path_by uses w d r (v, Absent) c h s e = wrong uses w v Absent (Pathed d) h s e (λ z. cc)
 path_by uses w d r (v, Pathed a) c h s e =
     let p : v ≡ w = sym (same_text w v e) in
     let q : a ≡ d = same_delim a d (meets uses w v (Pathed a) (Pathed d) h s e) in
@@ -120,6 +141,7 @@ pub record UsesStack (w : Text) (r : Record) : Type 0 where
 stack_by : (uses : Text → VariableUse) (w : Text) (r : Record) (p : UsedVariable) → DoesBy r (Some p) → uses w ≡ Stacked → uses p.0 ≡ p.1 → bytes_eq w p.0 ≡ true → UsesStack w r
 stack_by uses w r (v, Untouched) d h s e = absurd d
 stack_by uses w r (v, Fixed k) d h s e = wrong uses w v (Fixed k) Stacked h s e (λ z. cc)
+stack_by uses w r (v, Absent) d h s e = wrong uses w v Absent Stacked h s e (λ z. cc)
 stack_by uses w r (v, Pathed a) d h s e = wrong uses w v (Pathed a) Stacked h s e (λ z. cc)
 stack_by uses w r (v, Stacked) d h s e =
     let p : v ≡ w = sym (same_text w v e) in
@@ -139,10 +161,11 @@ abbrev pub IsOther : Text → Option UsedVariable → Type 0
 IsOther w None = Unit {0}
 IsOther w (Some p) = bytes_eq w p.0 ≡ false
 
-set_by_other : (w : Text) (r : Record) (o : Option UsedVariable) → DoesBy r o → is_reversible r ≡ true → IsOther w o → set_by w r ≡ None
+set_by_other : (w : Text) (r : Record) (o : Option UsedVariable) → DoesBy r o → can_return r ≡ true → IsOther w o → set_by w r ≡ None
 set_by_other w r None d s e = (d.nothing s).sets w
 set_by_other w r (Some (v, Untouched)) d s e = absurd d
 set_by_other w r (Some (v, Fixed k)) d s e = d.sets w ∙ ap (λ (b : Bool). cond b (Some d.value) None) e
+set_by_other w r (Some (v, Absent)) d s e = d.sets w
 set_by_other w r (Some (v, Pathed a)) d s e = d.sets w
 set_by_other w r (Some (v, Stacked)) d s e = d.sets w
 
@@ -150,6 +173,7 @@ adds_by_other : (w x : Text) (r : Record) (o : Option UsedVariable) → DoesBy r
 adds_by_other w x r None d e = d.adds w x
 adds_by_other w x r (Some (v, Untouched)) d e = absurd d
 adds_by_other w x r (Some (v, Fixed k)) d e = d.adds w x
+adds_by_other w x r (Some (v, Absent)) d e = d.adds w x
 adds_by_other w x r (Some (v, Pathed a)) d e = d.adds w x ∙ ap (λ (b : Bool). cond b (count_by (bytes_eq x) d.elements) 0) e
 adds_by_other w x r (Some (v, Stacked)) d e = d.adds w x
 
@@ -157,10 +181,11 @@ push_by_other : (w : Text) (r : Record) (o : Option UsedVariable) → DoesBy r o
 push_by_other w r None d e = d.pushes w
 push_by_other w r (Some (v, Untouched)) d e = absurd d
 push_by_other w r (Some (v, Fixed k)) d e = d.pushes w
+push_by_other w r (Some (v, Absent)) d e = d.pushes w
 push_by_other w r (Some (v, Pathed a)) d e = d.pushes w
 push_by_other w r (Some (v, Stacked)) d e = d.pushes w ∙ ap (λ (b : Bool). cond b (Some d.value) None) e
 
-pub set_by_none : (w : Text) (r : Record) → is_reversible r ≡ true → IsOther w (use_by r) → set_by w r ≡ None
+pub set_by_none : (w : Text) (r : Record) → can_return r ≡ true → IsOther w (use_by r) → set_by w r ≡ None
 set_by_none w r s e = set_by_other w r (use_by r) (does r) s e
 
 pub adds_by_none : (w x : Text) (r : Record) → IsOther w (use_by r) → adds_by w x r ≡ 0
@@ -186,12 +211,13 @@ given_so : (b : Bool) (x : Option Text) → is_some (cond b (Some x) None) ≡ t
 given_so true x h = refl
 given_so false x h = h
 
-set_used_by : (w : Text) (r : Record) (o : Option UsedVariable) → DoesBy r o → use_by r ≡ o → is_reversible r ≡ true → is_some (set_by w r) ≡ true → SetsUsed w r
+set_used_by : (w : Text) (r : Record) (o : Option UsedVariable) → DoesBy r o → use_by r ≡ o → can_return r ≡ true → is_some (set_by w r) ≡ true → SetsUsed w r
 set_used_by w r None d u s e = absurd (false≢true (ap is_some (sym ((d.nothing s).sets w)) ∙ e))
 set_used_by w r (Some (v, Untouched)) d u s e = absurd d
 set_used_by w r (Some (v, Fixed k)) d u s e = (k, u ∙ ap (λ (t : Text). Some (t, Fixed k)) (sym (same_text w v (given_so (bytes_eq w v) d.value (ap is_some (sym (d.sets w)) ∙ e)))))
+set_used_by w r (Some (v, Absent)) d u s e = absurd (false≢true (ap is_some (sym (d.sets w)) ∙ e))
 set_used_by w r (Some (v, Pathed a)) d u s e = absurd (false≢true (ap is_some (sym (d.sets w)) ∙ e))
 set_used_by w r (Some (v, Stacked)) d u s e = absurd (false≢true (ap is_some (sym (d.sets w)) ∙ e))
 
-pub set_used : (w : Text) (r : Record) → is_reversible r ≡ true → is_some (set_by w r) ≡ true → SetsUsed w r
+pub set_used : (w : Text) (r : Record) → can_return r ≡ true → is_some (set_by w r) ≡ true → SetsUsed w r
 set_used w r s e = set_used_by w r (use_by r) (does r) refl s e

@@ -1,5 +1,5 @@
 -- Whole runs, and what follows from what each step preserves.
-use Rattle.std.proofs.Common.{◌≡◌, ℕ, true, List, [], ◌∷◌, ◌++◌, refl, sym, ap, ◌∙◌, subst, Some, Result, Ok}
+use Rattle.std.proofs.Common.{◌≡◌, ℕ, true, List, [], ◌∷◌, ◌++◌, refl, sym, ap, ◌∙◌, subst, Some, Ok}
 use Rattle.std.specs.Prelude.{bytes_eq}
 use Rattle.std.proofs.lemmas.Option.{same_Some, none-some}
 use Rattle.envvars.specs.Texts.{Text}
@@ -19,10 +19,8 @@ use Rattle.envstate.specs.Roles.VariableRole.{Variable, Counters, Stack, LoadedN
 use Rattle.envstate.specs.Roles.VariableRole.{LoadedPrereqs, Other}
 use Rattle.envstate.proofs.RoleLemmas.{name_of_role}
 use Rattle.envstate.proofs.StateLemmas.{start_of, one_path, one_stack, one_list, list_in_order}
-use Rattle.modulefile.specs.Records.{Record}
-use Rattle.modulefile.specs.Judgments.{RecordReason}
 use Rattle.modulefile.specs.Moves.{Module, Move, Loads, Unloads, moved, MovesReach}
-use Rattle.reversal.specs.VariableUses.{VariableUse, Untouched, Fixed, Pathed, Stacked}
+use Rattle.reversal.specs.VariableUses.{VariableUse, Untouched, Fixed, Absent, Pathed, Stacked}
 use Rattle.reversal.specs.Live.{live_adds, entries_over}
 use Rattle.reversal.specs.Starts.{IsInOrder, IsStart, HasValue, HasVariable, IsStartWith}
 use Rattle.reversal.specs.Runs.{live_named, live_after, without_live, Undoes, AreReversibleTogether, AreReversible}
@@ -50,6 +48,7 @@ kept_from uses b e xs live l o s a = record {
     go : (w : Text) → is_editable w ≡ true → (y : VariableUse) → uses w ≡ y → HasVariable y b w live e → Held y b w (names_of (entries_over xs live)) live e
     go w f Untouched q h = h
     go w f (Fixed k) q h = h
+    go w f Absent q h = h
     go w f (Pathed d) q h = record { order = o.paths w d f q; state = h.state; stack = h.stack }
     go w f Stacked q h = record {
       base = h.base;
@@ -83,6 +82,7 @@ start_with_live uses b e xs live l k = record {
     go : (v : Text) (y : VariableUse) → Held y b v (names_of (entries_over xs live)) live e → HasVariable y b v live e
     go v Untouched h = h
     go v (Fixed k) h = h
+    go v Absent h = h
     go v (Pathed d) h = record { state = h.state; stack = h.stack }
     go v Stacked h = record { base = h.base; found = h.found; pushes = h.pushes; order = h.order; state = h.at_.state; counters = h.at_.counters }
 
@@ -100,6 +100,7 @@ kept_start uses b xs g = record {
     go : (w : Text) → is_editable w ≡ true → (y : VariableUse) → uses w ≡ y → Held y b w (names_of xs) [] b
     go w f Untouched q = record { value = refl; counters = refl; stack = refl }
     go w f (Fixed k) q = record { value = refl; counters = refl; stack = refl }
+    go w f Absent q = record { value = refl; counters = refl; stack = refl }
     go w f (Pathed d) q = record { order = g.start.order.paths w d f q; state = IsPathStartWith-start (path_in b w d) (path_state b w d); stack = refl }
     go w f Stacked q =
         let order = g.start.order.stacks w xs f q g.list in
@@ -114,6 +115,7 @@ back uses b e xs g k = same_environment e b (λ n. go n (role_of n) refl (name_o
     cell : (v : Text) → is_editable v ≡ true → (y : VariableUse) → uses v ≡ y → Held y b v (names_of xs) [] e → HasValue b e v (lookup b v)
     cell v f Untouched q h = h
     cell v f (Fixed y) q h = h
+    cell v f Absent q h = h
     cell v f (Pathed d) q h =
         let p = one_path e b v d h.order (g.start.order.paths v d f q) (IsPathStartWith-restored (path_in b v d) (path_in e v d) (live_adds v []) h.state (λ x. refl)) in
         record { value = p.elements; counters = p.counters; stack = h.stack }

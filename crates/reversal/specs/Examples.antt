@@ -10,8 +10,8 @@ use Rattle.envloaded.specs.Loaded.{AreLoadedInOrder}
 use Rattle.modulefile.specs.Records.{Record, Set, Unset, Push, Path}
 use Rattle.modulefile.specs.declared.records.PathEdit.TheVariants.{Front, Back, Remove}
 use Rattle.modulefile.specs.Moves.{Module, Move, Loads, Unloads, MovesReach}
-use Rattle.reversal.specs.VariableUses.{VariableUse, Untouched, Fixed, Pathed, Stacked, is_reversible, AllFollowUses}
-use Rattle.reversal.specs.VariableUses.{AllSuit}
+use Rattle.reversal.specs.VariableUses.{VariableUse, Untouched, Fixed, Absent, Pathed, Stacked, can_return}
+use Rattle.reversal.specs.VariableUses.{AllFollowUses, AllSuit}
 use Rattle.reversal.specs.Live.{last_set, live_set}
 use Rattle.reversal.specs.Undone.{UndoAlike}
 use Rattle.reversal.specs.Starts.{IsStart, IsStartWith}
@@ -46,7 +46,7 @@ pub record LoseUnlisted (start : Environment) (ms : List Move) : Type 0 where
 
 -- The parts of the premises about moves.
 pub data Part : Type 0 where
-  -- A module that is loaded has records of the kinds alone that unloading undoes;
+  -- A module that is loaded has records of the kinds alone after which the start can be back;
   of_kind : Part
   -- it follows the use of each variable;
   follows_use : Part
@@ -59,7 +59,7 @@ pub data Part : Type 0 where
 
 -- what a part means for a load, and for an unload, while these modules are live
 abbrev pub OfLoad : Part → (Text → VariableUse) → List Module → Module → Type 0
-OfLoad of_kind uses live m = list_all is_reversible m.records ≡ true
+OfLoad of_kind uses live m = list_all can_return m.records ≡ true
 OfLoad follows_use uses live m = AllFollowUses uses m.records
 OfLoad apart uses live m = (v : Text) → is_some (last_set v m.records) ≡ true → live_set v live ≡ None
 OfLoad alive uses live m = Unit {0}
@@ -185,6 +185,11 @@ OtherValue =
     LoseUnstarted (only_use variable (Fixed (Some (codes "x")))) (held ((variable, codes "y") ∷ []))
     (there_and_back (Unset variable (Some (codes "x"))))
 
+-- A variable that is unset without a value has one at the start.
+abbrev pub ValueBeforeUnset : Type 0
+ValueBeforeUnset =
+    LoseUnstarted (only_use variable Absent) (held ((variable, codes "y") ∷ [])) (there_and_back (Unset variable None))
+
 -- Loaded lists. Lists set to the empty text are unset in the end.
 abbrev pub EmptyLists : Type 0
 EmptyLists = LoseUnlisted (held ((codes "LOADEDMODULES", codes "") ∷ (codes "_LMFILES_", codes "") ∷
@@ -206,12 +211,7 @@ IllSpelled = LoseUnlisted (listed_with ((codes "__MODULES_LMPREREQ", codes "a/1&
 abbrev pub EmptyGroup : Type 0
 EmptyGroup = LoseUnlisted (listed_with ((codes "__MODULES_LMPREREQ", codes "a/1&k&") ∷ [])) without_records
 
--- Kinds that unloading doesn't undo.
-abbrev pub UnsetWithoutValue : Type 0
-UnsetWithoutValue =
-    LoseIrreversible of_kind (only_use variable Untouched) (held ((variable, codes "y") ∷ []))
-    (there_and_back (Unset variable None))
-
+-- The kind after which the start can't be back.
 abbrev pub ElementRemoved : Type 0
 ElementRemoved =
     LoseIrreversible of_kind (only_use variable (Pathed colon)) (held ((variable, codes "/a:/b") ∷ []))
@@ -259,3 +259,10 @@ SetByTwo =
     LoseBetween apart (only_use variable (Fixed None)) (held [])
     (Loads (first_module (Set variable (codes "x") ∷ [])) ∷ Loads (second_module (Set variable (codes "y") ∷ []))
     ∷ Unloads (first_module (Set variable (codes "x") ∷ [])) ∷ [])
+
+-- One sets a variable, and the other unsets it without a value, and is unloaded: the first one's value is gone.
+abbrev pub SetAndAbsent : Type 0
+SetAndAbsent =
+    LoseBetween follows_use (only_use variable (Fixed None)) (held [])
+    (Loads (first_module (Set variable (codes "x") ∷ [])) ∷ Loads (second_module (Unset variable None ∷ []))
+    ∷ Unloads (second_module (Unset variable None ∷ [])) ∷ [])

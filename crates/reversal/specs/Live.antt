@@ -7,10 +7,12 @@ use Rattle.envloaded.specs.Loaded.{Entry}
 use Rattle.modulefile.specs.Records.{Record, Set, Unset, Push, added_elements}
 use Rattle.modulefile.specs.Moves.{Module, entry_of}
 
--- What a record sets the variable to, a value or unset; none where it does neither.
+-- What a record sets the variable to, a value or unset, until it is unloaded; none where it does neither. (An unset
+-- without a value is of an absent variable.)
 abbrev pub set_by : Text → Record → Option (Option Text)
 set_by v (Set var value) = if bytes_eq v var then Some (Some value) else None
-set_by v (Unset var value) = if bytes_eq v var then Some None else None
+set_by v (Unset var None) = None
+set_by v (Unset var (Some value)) = if bytes_eq v var then Some None else None
 set_by v r = None
 
 -- what the last of the records sets it to that does

@@ -16,7 +16,7 @@ SetLosesValue =
     (owner v value before : Text) (old new : Environment) → lookup old v ≡ Some before
     → ThereAndBack owner (Set v value ∷ []) old new → new ≢ old
 
--- An unset without a value of a variable that had one: it is of no kind that unloading undoes.
+-- An unset without a value of a variable that had one.
 abbrev pub UnsetLosesValue : Type 0
 UnsetLosesValue =
     (owner v before : Text) (old new : Environment) → lookup old v ≡ Some before

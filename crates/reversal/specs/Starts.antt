@@ -1,5 +1,5 @@
 -- An environment in order, a start, and a start with live modules over it (own).
-use Rattle.std.specs.Prelude.{◌≡◌, ℕ, true, List, [], ◌∷◌, Option, Some, unwrap_or}
+use Rattle.std.specs.Prelude.{◌≡◌, ℕ, true, List, [], ◌∷◌, Option, Some, None, unwrap_or}
 use Rattle.envvars.specs.Texts.{Text}
 use Rattle.envvars.specs.Names.{share_name, stack_name}
 use Rattle.envvars.specs.Environment.{Environment, lookup}
@@ -13,7 +13,7 @@ use Rattle.envloaded.specs.Loaded.{Entry, names_of, loaded_in, AreLoadedInOrder}
 use Rattle.envstate.specs.Roles.{role_of, is_editable}
 use Rattle.envstate.specs.Roles.VariableRole.{Other}
 use Rattle.modulefile.specs.Moves.{Module}
-use Rattle.reversal.specs.VariableUses.{VariableUse, Untouched, Fixed, Pathed, Stacked}
+use Rattle.reversal.specs.VariableUses.{VariableUse, Untouched, Fixed, Absent, Pathed, Stacked}
 use Rattle.reversal.specs.Live.{live_set, live_adds, live_pushes, entries_over}
 
 -- In order, by the uses of variables: the loaded list, each path by its delimiter, and each stack, whose owners are
@@ -24,10 +24,12 @@ pub record IsInOrder (uses : Text → VariableUse) (e : Environment) : Type 0 wh
   pub stacks : (v : Text) (entries : List Entry) → is_editable v ≡ true → uses v ≡ Stacked → loaded_in e ≡ Some entries
       → IsStackInOrder (names_of entries) e v
 
--- A start: in order, and each variable that records fix has the value that their unload gives back.
+-- A start: in order, each variable that records fix has the value that their unload gives back, and the absent ones are
+-- unset.
 pub record IsStart (uses : Text → VariableUse) (start : Environment) : Type 0 where
   pub order : IsInOrder uses start
   pub fixed : (v : Text) (value : Option Text) → is_editable v ≡ true → uses v ≡ Fixed value → lookup start v ≡ value
+  pub absent : (v : Text) → is_editable v ≡ true → uses v ≡ Absent → lookup start v ≡ None
 
 -- the variable has this value or is unset, and its counters and its stack are as in the start
 pub record HasValue (start e : Environment) (v : Text) (set : Option Text) : Type 0 where
@@ -60,6 +62,7 @@ pub record HasStack (start e : Environment) (v : Text) (live : List (Text × Tex
 abbrev pub HasVariable : VariableUse → Environment → Text → List Module → Environment → Type 0
 HasVariable Untouched start v live e = HasValue start e v (lookup start v)
 HasVariable (Fixed value) start v live e = HasValue start e v (unwrap_or (live_set v live) (lookup start v))
+HasVariable Absent start v live e = HasValue start e v (lookup start v)
 HasVariable (Pathed delim) start v live e = HasPath start e v delim (live_adds v live)
 HasVariable Stacked start v live e = HasStack start e v (live_pushes v live)
 

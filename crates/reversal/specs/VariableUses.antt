@@ -1,5 +1,6 @@
--- How loads and unloads use variables, and the records that unloading undoes (own).
-use Rattle.std.specs.Prelude.{◌≡◌, ℕ, Bool, true, false, List, [], ◌∷◌, if◌then◌else◌, Option, Some, None}
+-- How loads and unloads use variables, the records that unloading undoes, and those after which the start can be back
+-- (own).
+use Rattle.std.specs.Prelude.{◌≡◌, ℕ, Bool, true, false, List, [], ◌∷◌, filter_map, if◌then◌else◌, Option, Some, None}
 use Rattle.envvars.specs.Texts.{Text}
 use Rattle.modulefile.specs.Records.{Record, Set, Unset, Push, Path, Conflict, Prereq, Whatis, adds_elements}
 
@@ -9,6 +10,8 @@ pub data VariableUse : Type 0 where
   Untouched : VariableUse
   -- set or unset while a module is loaded, and of this value else, or unset
   Fixed : (value : Option Text) → VariableUse
+  -- unset throughout: no module gives it a value, and the start has none
+  Absent : VariableUse
   -- a path, parted by this delimiter
   Pathed : (delim : ℕ) → VariableUse
   -- a stack of pushed values
@@ -20,16 +23,22 @@ is_reversible (Unset var None) = false
 is_reversible (Path edit delim var xs) = adds_elements edit
 is_reversible r = true
 
+-- After an unload the start can be back where the records are of these kinds: all but removals of elements. (An unset
+-- without a value is not undone, but changes nothing where the variable is absent.)
+abbrev pub can_return : Record → Bool
+can_return (Path edit delim var xs) = adds_elements edit
+can_return r = true
+
 -- a variable, and a use of it
 abbrev pub UsedVariable : Type 0
 UsedVariable = Text × VariableUse
 
--- The variable that a record uses, and how: `setenv` sets it, `unsetenv` unsets the value that it gives, and the others
--- use it as a path with a delimiter, or as a stack. None where the record names no variable, or is of a kind that
--- unloading doesn't undo.
+-- The variable that a record uses, and how: `setenv` sets it, `unsetenv` unsets the value that it gives, or without one
+-- keeps it absent, and the others use it as a path with a delimiter, or as a stack. None where the record names no
+-- variable, or removes elements.
 abbrev pub use_by : Record → Option UsedVariable
 use_by (Set var value) = Some (var, Fixed None)
-use_by (Unset var None) = None
+use_by (Unset var None) = Some (var, Absent)
 use_by (Unset var (Some value)) = Some (var, Fixed (Some value))
 use_by (Push var value) = Some (var, Stacked)
 use_by (Path edit delim var xs) = if adds_elements edit then Some (var, Pathed delim) else None
@@ -37,12 +46,21 @@ use_by (Conflict names) = None
 use_by (Prereq names) = None
 use_by (Whatis text) = None
 
+-- the variable that a record keeps absent
+abbrev pub absent_by : Record → Option Text
+absent_by (Unset var None) = Some var
+absent_by r = None
+
+-- those that records do, in their order
+abbrev pub absent_in : List Record → List Text
+absent_in rs = filter_map absent_by rs
+
 -- this use of a variable, if it is one, is the use that the variable has
 abbrev pub IsUsedSo : (Text → VariableUse) → Option UsedVariable → Type 0
 IsUsedSo uses None = Unit {0}
 IsUsedSo uses (Some p) = uses p.0 ≡ p.1
 
--- The record follows the use of the variable that it uses. Of the kinds that are not undone nothing is asked here.
+-- The record follows the use of the variable that it uses. Of removals of elements nothing is asked here.
 abbrev pub FollowsUse : (Text → VariableUse) → Record → Type 0
 FollowsUse uses r = IsUsedSo uses (use_by r)
 
@@ -51,9 +69,9 @@ abbrev pub AllFollowUses : (Text → VariableUse) → List Record → Type 0
 AllFollowUses uses [] = Unit {0}
 AllFollowUses uses (r ∷ rs) = FollowsUse uses r × AllFollowUses uses rs
 
--- it is of a kind that unloading undoes, and follows the use of its variable
+-- it is of a kind after which the start can be back, and follows the use of its variable
 abbrev pub Suits : (Text → VariableUse) → Record → Type 0
-Suits uses r = (is_reversible r ≡ true) × FollowsUse uses r
+Suits uses r = (can_return r ≡ true) × FollowsUse uses r
 
 -- all records do
 abbrev pub AllSuit : (Text → VariableUse) → List Record → Type 0

@@ -35,9 +35,8 @@ pub fn unloads()
     ensures { UnloadsAreAlike }
 {}
 
-/// Why a variable that records set has to be unset at the start, one that they unset with a value has to have that
-/// value there, and none may be unset without a value: else a load and its unload of that one record lose the start (of
-/// an unset without a value, where the variable had one).
+/// Why a variable that records set, or unset without a value, has to be unset at the start, and one that they unset
+/// with a value has to have that value there: else a load and its unload of that one record lose the start.
 pub fn losses()
     ensures set { SetLosesValue }
     ensures unset { UnsetLosesValue }

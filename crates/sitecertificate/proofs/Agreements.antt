@@ -3,10 +3,10 @@ use Rattle.std.proofs.Common.{◌⊎◌, inl, inr, List, Some, None}
 use Rattle.std.specs.Prelude.{◌↔◌}
 use Rattle.envvars.specs.Texts.{Text}
 use Rattle.modulefile.specs.Moves.{Module}
-use Rattle.reversal.specs.VariableUses.{VariableUse, Fixed, Pathed, Stacked}
+use Rattle.reversal.specs.VariableUses.{VariableUse, Fixed, Absent, Pathed, Stacked}
 use Rattle.sitecertificate.specs.RecordUses.{used_by_modules, IsAmong, Uses}
-use Rattle.sitecertificate.specs.Disagreements.{loaded_texts, is_set, has_not_value, path_not_in_order}
-use Rattle.sitecertificate.specs.Disagreements.{stack_not_in_order}
+use Rattle.sitecertificate.specs.Disagreements.{loaded_texts, is_set, has_not_value, is_not_absent}
+use Rattle.sitecertificate.specs.Disagreements.{path_not_in_order, stack_not_in_order}
 use Rattle.sitecertificate.specs.Laws.{AgreementIsOfEach, DisagreementIsOfOne, DisagreementsRefute}
 use Rattle.sitecertificate.proofs.UsedLemmas.{by_cases, used_among, user_of}
 
@@ -31,6 +31,7 @@ pub disagreement_is_of_one : DisagreementIsOfOne
 disagreement_is_of_one ms e loaded_texts = (λ n. inl n, λ c. by_cases c (λ n. n) (λ k. k.2))
 disagreement_is_of_one ms e (is_set v) = of_user ms v (Fixed None) _
 disagreement_is_of_one ms e (has_not_value v value) = of_user ms v (Fixed (Some value)) _
+disagreement_is_of_one ms e (is_not_absent v) = of_user ms v Absent _
 disagreement_is_of_one ms e (path_not_in_order v d) = of_user ms v (Pathed d) _
 disagreement_is_of_one ms e (stack_not_in_order v) = of_user ms v Stacked _
 
@@ -38,5 +39,6 @@ pub disagreements_refute : DisagreementsRefute
 disagreements_refute ps e loaded_texts n a = n a.loaded
 disagreements_refute ps e (is_set v) n a = n.1 (a.uses v (Fixed None) n.0)
 disagreements_refute ps e (has_not_value v value) n a = n.1 (a.uses v (Fixed (Some value)) n.0)
+disagreements_refute ps e (is_not_absent v) n a = n.1 (a.uses v Absent n.0)
 disagreements_refute ps e (path_not_in_order v d) n a = n.1 (a.uses v (Pathed d) n.0)
 disagreements_refute ps e (stack_not_in_order v) n a = n.1 (a.uses v Stacked n.0)

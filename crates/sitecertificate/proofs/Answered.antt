@@ -1,10 +1,8 @@
 -- By what is answered of modules: those that clash with none of those that stay are those that stay.
 use Rattle.std.proofs.Common.{◌≡◌, inl, inr, Bool, true, false, cond, List, [], ◌∷◌, filter, length, refl, sym, ap, ◌∙◌, Some}
 use Rattle.std.proofs.Common.{None, Option}
-use Rattle.std.proofs.lemmas.Bool.{false≢true}
 use Rattle.modulefile.specs.Moves.{Module}
 use Rattle.sitecertificate.specs.RecordUses.{IsAmong, IsInStep}
-use Rattle.sitecertificate.specs.Clashes.{is_other, do_clash}
 use Rattle.sitecertificate.specs.Certificates.{stays, staying, certified, IsCertified}
 use Rattle.sitecertificate.specs.ClashAnswers.{ClashesWithNone, AreAnswers, without_clashes}
 use Rattle.sitecertificate.specs.declared.answers.Clash.{Clash}

@@ -1,6 +1,6 @@
 -- The certified modules: those of the definition, which no others meet, together and no more, in whatever order.
-use Rattle.std.proofs.Common.{arith, zero, suc, ◌≡◌, ◌↔◌, inl, inr, ℕ, ◌+◌, ◌<◌, Bool, true, cond, not, ◌&&◌, List, [], ◌∷◌}
-use Rattle.std.proofs.Common.{filter, length, refl, sym, ap, ◌∙◌}
+use Rattle.std.proofs.Common.{arith, zero, suc, ◌≡◌, ◌↔◌, inl, inr, ℕ, ◌+◌, Bool, true, cond, not, ◌&&◌, List, [], ◌∷◌}
+use Rattle.std.proofs.Common.{filter, refl, sym, ap, ◌∙◌}
 use Rattle.std.specs.List.{Contains, list_any, flat_map, sum_by, count_by}
 use Rattle.std.specs.List.Sorted.{IsPermutation}
 use Rattle.std.proofs.Common.{nat_cmp}
@@ -9,14 +9,12 @@ use Rattle.std.specs.Cmp.Lexicographic.{slice_cmp}
 use Rattle.std.proofs.lemmas.Bool.{false≢true, and_parts}
 use Rattle.std.proofs.lemmas.List.Sums.{sum_by-cons, sum_by-append}
 use Rattle.std.proofs.lemmas.List.Sorted.{Contains-permutation, sum_by-IsPermutation, IsPermutation-sym}
-use Rattle.envvars.specs.Texts.{Text}
 use Rattle.modulefile.specs.Moves.{Module}
-use Rattle.reversal.specs.VariableUses.{VariableUse}
-use Rattle.sitecertificate.specs.RecordUses.{IsAmong, IsInStep, is_in_step}
+use Rattle.sitecertificate.specs.RecordUses.{IsAmong, is_in_step}
 use Rattle.sitecertificate.specs.Users.{ModuleUse, uses_of_module, uses_of_modules}
 use Rattle.sitecertificate.specs.Ranks.{is_rival, rivals, rank_order, comes_before}
-use Rattle.sitecertificate.specs.Clashes.{is_other, Clash, do_clash}
-use Rattle.sitecertificate.specs.Certificates.{clashes_before, staying, certified, HasPlace, IsCertified}
+use Rattle.sitecertificate.specs.Clashes.{is_other, do_clash}
+use Rattle.sitecertificate.specs.Certificates.{clashes_before, certified, HasPlace, IsCertified}
 use Rattle.sitecertificate.specs.Laws.{CertifiedAreExact, CertifiedAreUnique, CertifiedInAnyOrder, CertifiedDontClash}
 use Rattle.sitecertificate.specs.Laws.{CertifiedAreMost}
 use Rattle.sitecertificate.proofs.UsedLemmas.{by_test}

@@ -13,7 +13,7 @@ use Rattle.envvars.specs.Texts.{Text, has}
 use Rattle.envvars.proofs.TextLemmas.{same_text}
 use Rattle.modulefile.specs.Records.{conflict_names}
 use Rattle.modulefile.specs.Moves.{Module}
-use Rattle.reversal.specs.VariableUses.{VariableUse, Untouched, Fixed, Pathed, Stacked}
+use Rattle.reversal.specs.VariableUses.{VariableUse, Untouched, Fixed, Absent, Pathed, Stacked}
 use Rattle.sitecertificate.specs.RecordUses.{IsAmong}
 use Rattle.sitecertificate.specs.Clashes.{is_other, names_in_conflict, exclude, go_together, uses_clash}
 use Rattle.sitecertificate.specs.Users.{ModuleUse, first_part, do_users_clash, IsClashAmong}
@@ -119,18 +119,27 @@ at_start e false h = absurd (false≢true h)
 together : (e : Bool) (x y : VariableUse) → go_together x y ≡ true → uses_clash e x y ≡ false
 together e Untouched Untouched h = absurd (false≢true h)
 together e Untouched (Fixed b) h = absurd (false≢true h)
+together e Untouched Absent h = absurd (false≢true h)
 together e Untouched (Pathed b) h = absurd (false≢true h)
 together e Untouched Stacked h = absurd (false≢true h)
 together e (Fixed a) Untouched h = absurd (false≢true h)
 together e (Fixed a) (Fixed b) h = absurd (false≢true h)
+together e (Fixed a) Absent h = absurd (false≢true h)
 together e (Fixed a) (Pathed b) h = absurd (false≢true h)
 together e (Fixed a) Stacked h = absurd (false≢true h)
+together e Absent Untouched h = absurd (false≢true h)
+together e Absent (Fixed b) h = absurd (false≢true h)
+together e Absent Absent h = at_start e true h
+together e Absent (Pathed b) h = absurd (false≢true h)
+together e Absent Stacked h = absurd (false≢true h)
 together e (Pathed a) Untouched h = absurd (false≢true h)
 together e (Pathed a) (Fixed b) h = absurd (false≢true h)
+together e (Pathed a) Absent h = absurd (false≢true h)
 together e (Pathed a) (Pathed b) h = at_start e (nat_eq a b) h
 together e (Pathed a) Stacked h = absurd (false≢true h)
 together e Stacked Untouched h = absurd (false≢true h)
 together e Stacked (Fixed b) h = absurd (false≢true h)
+together e Stacked Absent h = absurd (false≢true h)
 together e Stacked (Pathed b) h = absurd (false≢true h)
 together e Stacked Stacked h = at_start e true h
 

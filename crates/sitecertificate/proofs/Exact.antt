@@ -4,14 +4,14 @@ use Rattle.std.proofs.Common.{subst, Option, Some, None, inl, inr}
 use Rattle.std.specs.Prelude.{bytes_eq}
 use Rattle.std.specs.List.{list_all, list_any}
 use Rattle.std.specs.Option.{option_eq}
-use Rattle.std.proofs.lemmas.Bool.{false≢true, eqb-true, eq-eqb, and_parts, and_from, or_cases, not-true}
-use Rattle.std.proofs.lemmas.Bool.{not_from_false, false_from_ne_true}
+use Rattle.std.proofs.lemmas.Bool.{false≢true, eqb-true, eq-eqb, and_parts, and_from, or_cases}
 use Rattle.envvars.specs.Texts.{Text}
 use Rattle.envvars.specs.Fields.{colon}
 use Rattle.envvars.proofs.TextLemmas.{same_text, bytes_eq-same}
 use Rattle.modulefile.specs.Records.{Record}
 use Rattle.modulefile.specs.Moves.{Module}
-use Rattle.reversal.specs.VariableUses.{VariableUse, Untouched, Fixed, Pathed, Stacked, is_reversible, UsedVariable}
+use Rattle.reversal.specs.VariableUses.{VariableUse, Untouched, Fixed, Absent, Pathed, Stacked, can_return}
+use Rattle.reversal.specs.VariableUses.{UsedVariable}
 use Rattle.sitecertificate.specs.RecordUses.{used_by, IsAmong, Uses, modulepath, AreInStep, IsInStep}
 use Rattle.sitecertificate.specs.RecordUses.{same_use, use_alike, are_in_step, is_in_step}
 use Rattle.sitecertificate.specs.Clashes.{exclude, uses_clash, Clash, do_clash}
@@ -75,24 +75,34 @@ option_itself (Some x) = bytes_eq-same x
 pub use_same : (x y : VariableUse) → same_use x y ≡ true → x ≡ y
 use_same Untouched Untouched h = refl
 use_same Untouched (Fixed a) h = absurd (false≢true h)
+use_same Untouched Absent h = absurd (false≢true h)
 use_same Untouched (Pathed a) h = absurd (false≢true h)
 use_same Untouched Stacked h = absurd (false≢true h)
 use_same (Fixed a) Untouched h = absurd (false≢true h)
 use_same (Fixed a) (Fixed b) h = ap Fixed (option_same a b h)
+use_same (Fixed a) Absent h = absurd (false≢true h)
 use_same (Fixed a) (Pathed b) h = absurd (false≢true h)
 use_same (Fixed a) Stacked h = absurd (false≢true h)
+use_same Absent Untouched h = absurd (false≢true h)
+use_same Absent (Fixed b) h = absurd (false≢true h)
+use_same Absent Absent h = refl
+use_same Absent (Pathed b) h = absurd (false≢true h)
+use_same Absent Stacked h = absurd (false≢true h)
 use_same (Pathed a) Untouched h = absurd (false≢true h)
 use_same (Pathed a) (Fixed b) h = absurd (false≢true h)
+use_same (Pathed a) Absent h = absurd (false≢true h)
 use_same (Pathed a) (Pathed b) h = ap Pathed (eqb-true a b h)
 use_same (Pathed a) Stacked h = absurd (false≢true h)
 use_same Stacked Untouched h = absurd (false≢true h)
 use_same Stacked (Fixed b) h = absurd (false≢true h)
+use_same Stacked Absent h = absurd (false≢true h)
 use_same Stacked (Pathed b) h = absurd (false≢true h)
 use_same Stacked Stacked h = refl
 
 pub use_itself : (x : VariableUse) → same_use x x ≡ true
 use_itself Untouched = refl
 use_itself (Fixed a) = option_itself a
+use_itself Absent = refl
 use_itself (Pathed a) = eq-eqb a a refl
 use_itself Stacked = refl
 
@@ -135,10 +145,10 @@ to_steps rs s = each_all (suits_all (used_by rs)) (used_by rs) (λ p a. and_from
     (each_all (use_alike p) (used_by rs) (λ q b. to_alike p q (λ e. s.one_use p.0 p.1 q.1 a (subst (λ (w : Text). IsAmong (w, q.1) (used_by rs)) (sym e) b)))))
 
 pub in_step : (m : Module) → is_in_step m ≡ true → IsInStep m
-in_step m h = let p = and_parts (list_all is_reversible m.records) (are_in_step (used_by m.records)) h in record { reversible = p.0; in_step = steps m.records p.1 }
+in_step m h = let p = and_parts (list_all can_return m.records) (are_in_step (used_by m.records)) h in record { returns = p.0; in_step = steps m.records p.1 }
 
 pub to_in_step : (m : Module) → IsInStep m → is_in_step m ≡ true
-to_in_step m s = and_from (list_all is_reversible m.records) (are_in_step (used_by m.records)) s.reversible (to_steps m.records s.in_step)
+to_in_step m s = and_from (list_all can_return m.records) (are_in_step (used_by m.records)) s.returns (to_steps m.records s.in_step)
 
 -- modules that clash
 

@@ -1,5 +1,5 @@
 -- What holds between moves, and what other uses of variables may be taken up or laid down there.
-use Rattle.std.proofs.Common.{◌≡◌, ◌⊎◌, ℕ, true, List, [], ◌∷◌, refl, sym, ◌∙◌, subst, Option, Some}
+use Rattle.std.proofs.Common.{◌≡◌, ◌⊎◌, ℕ, true, List, [], ◌∷◌, refl, sym, ◌∙◌, subst, Option, Some, None}
 use Rattle.std.proofs.lemmas.Option.{same_Some}
 use Rattle.envvars.specs.Texts.{Text}
 use Rattle.envvars.specs.Environment.{Environment, lookup}
@@ -10,7 +10,8 @@ use Rattle.envstate.specs.Roles.{is_editable}
 use Rattle.envstate.specs.EnvLaws.{AreSound}
 use Rattle.envstate.proofs.StateLemmas.{list_in_order}
 use Rattle.modulefile.specs.Moves.{Module}
-use Rattle.reversal.specs.VariableUses.{VariableUse, Untouched, Fixed, Pathed, Stacked, UsedVariable}
+use Rattle.reversal.specs.VariableUses.{VariableUse, Untouched, Fixed, Absent, Pathed, Stacked}
+use Rattle.reversal.specs.VariableUses.{UsedVariable}
 use Rattle.reversal.specs.Live.{entries_over}
 use Rattle.reversal.specs.Starts.{HasVariable, IsInOrder, IsStart, IsStartWith}
 use Rattle.reversal.specs.Laws.{RunsReturn}
@@ -32,6 +33,7 @@ AreUsesButForUnused u w live = (v : Text) → (u v ≡ w v) ⊎ Unused v (used_b
 pub agreed : (u : Text → VariableUse) (start : Environment) → IsStart u start → (v : Text) → is_editable v ≡ true → (x : VariableUse) → u v ≡ x → AgreesWithUse start v x
 agreed u start s v f Untouched q = tt
 agreed u start s v f (Fixed value) q = s.fixed v value f q
+agreed u start s v f Absent q = s.absent v f q
 agreed u start s v f (Pathed d) q = s.order.paths v d f q
 agreed u start s v f Stacked q = λ xs l. s.order.stacks v xs f q l
 
@@ -43,6 +45,7 @@ is_start u start o a = record {
     stacks = λ v xs f q l. stack_of v xs l (subst (AgreesWithUse start v) q (a v f));
   };
   fixed = λ v value f q. value_of v value (subst (AgreesWithUse start v) q (a v f));
+  absent = λ v f q. none_of v (subst (AgreesWithUse start v) q (a v f));
 }
   where
     path_of : (v : Text) (d : ℕ) → AgreesWithUse start v (Pathed d) → IsPathInOrder start v d
@@ -53,6 +56,9 @@ is_start u start o a = record {
 
     value_of : (v : Text) (value : Option Text) → AgreesWithUse start v (Fixed value) → lookup start v ≡ value
     value_of v value h = h
+
+    none_of : (v : Text) → AgreesWithUse start v Absent → lookup start v ≡ None
+    none_of v h = h
 
 unused_agrees : (start : Environment) (v : Text) (ps : List UsedVariable) → Unused v ps → AgreesWithUse start v (first_use v ps)
 unused_agrees start v ps n = subst (AgreesWithUse start v) (sym n.untouched) tt
@@ -168,6 +174,7 @@ laid_down u start e live begin same k o = record {
     ordered : (d : Environment) (xs : List Entry) → IsInOrder u d → loaded_in d ≡ Some xs → (v : Text) → is_editable v ≡ true → (y : VariableUse) → u v ≡ y → IsUseInOrder y (names_of xs) d v
     ordered d xs i l v f Untouched q = tt
     ordered d xs i l v f (Fixed value) q = tt
+    ordered d xs i l v f Absent q = tt
     ordered d xs i l v f (Pathed delim) q = i.paths v delim f q
     ordered d xs i l v f Stacked q = i.stacks v xs f q l
 

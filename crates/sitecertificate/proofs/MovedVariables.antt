@@ -22,7 +22,7 @@ use Rattle.envstacks.proofs.StackInOrder.{order_of_more}
 use Rattle.envloaded.specs.Loaded.{Entry, names_of}
 use Rattle.envstate.proofs.StateLemmas.{one_path, one_stack}
 use Rattle.modulefile.specs.Moves.{Module, entry_of}
-use Rattle.reversal.specs.VariableUses.{VariableUse, Untouched, Fixed, Pathed, Stacked}
+use Rattle.reversal.specs.VariableUses.{VariableUse, Untouched, Fixed, Absent, Pathed, Stacked}
 use Rattle.reversal.specs.Live.{live_adds, live_pushes, entries_over}
 use Rattle.reversal.specs.Starts.{HasValue, IsPermutation, none, next, swap, transitive, HasVariable}
 use Rattle.sitecertificate.specs.RecordUses.{used_by_modules, IsAmong}
@@ -81,6 +81,7 @@ pub by_any_use : (y : VariableUse) (start e : Environment) (v : Text) (live : Li
     → Unused v (used_by_modules live) → HasVariable y start v [] start → IsAsIn start v e → HasVariable y start v live e
 by_any_use Untouched start e v live k n s h = h
 by_any_use (Fixed value) start e v live k n s h = subst (λ (o : Option (Option Text)). HasValue start e v (unwrap_or o (lookup start v))) (sym (none_sets v live k n.none)) h
+by_any_use Absent start e v live k n s h = h
 by_any_use (Pathed d) start e v live k n s h =
     let adds_none : live_adds v [] ≡ live_adds v live = λ i y. sym (none_adds v live n.none y) i in
     record {
@@ -109,6 +110,7 @@ empty_order ps qs (transitive {ps = a} {qs = b} {rs = c} h k) e = empty_order a 
 abbrev pub IsUseInOrder : VariableUse → List Text → Environment → Text → Type 0
 IsUseInOrder Untouched names e v = Unit {0}
 IsUseInOrder (Fixed value) names e v = Unit {0}
+IsUseInOrder Absent names e v = Unit {0}
 IsUseInOrder (Pathed d) names e v = IsPathInOrder e v d
 IsUseInOrder Stacked names e v = IsStackInOrder names e v
 
@@ -117,6 +119,7 @@ pub as_before : (y : VariableUse) (start e : Environment) (v : Text) (live : Lis
     → IsUseInOrder y names e v → IsUseInOrder y others start v → HasVariable y start v live e → IsAsIn start v e
 as_before Untouched start e v live names others k n a b o s h = h
 as_before (Fixed value) start e v live names others k n a b o s h = subst (λ (p : Option (Option Text)). HasValue start e v (unwrap_or p (lookup start v))) (none_sets v live k n.none) h
+as_before Absent start e v live names others k n a b o s h = h
 as_before (Pathed d) start e v live names others k n a b o s h =
     let p = one_path e start v d o s (IsPathStartWith-restored (path_in start v d) (path_in e v d) (live_adds v live) h.state (none_adds v live n.none)) in
     record { value = p.elements; counters = p.counters; stack = h.stack }

@@ -13,7 +13,7 @@ use Rattle.envvars.proofs.TextLemmas.{same_text, bytes_eq-same}
 use Rattle.modulefile.specs.Moves.{Module}
 use Rattle.reversal.specs.VariableUses.{UsedVariable}
 use Rattle.sitecertificate.specs.RecordUses.{used_by, used_by_modules, same_use, IsAmong}
-use Rattle.sitecertificate.proofs.UsedLemmas.{by_test, by_cases}
+use Rattle.sitecertificate.proofs.UsedLemmas.{by_test}
 use Rattle.sitecertificate.proofs.Exact.{filtered, in_filter, use_same, use_itself}
 use Rattle.sitecertificate.specs.declared.answers.Clash.{Clash}
 use Rattle.sitecertificate.specs.ClashAnswers.{without_clash, without_clashes}
@@ -213,18 +213,27 @@ of_once p (q ∷ ps) (inr a) = inr (of_once p ps (filtered (λ r. not (same_used
 pub use_keys_same : (a b : UseKey) → UseKeyEq.eq-value.it a b ≡ same_use (key_view a) (key_view b)
 use_keys_same keys.Set keys.Set = refl
 use_keys_same keys.Set (keys.Unset y) = refl
+use_keys_same keys.Set keys.Absent = refl
 use_keys_same keys.Set (keys.Path y) = refl
 use_keys_same keys.Set keys.Stack = refl
 use_keys_same (keys.Unset x) keys.Set = refl
 use_keys_same (keys.Unset x) (keys.Unset y) = refl
+use_keys_same (keys.Unset x) keys.Absent = refl
 use_keys_same (keys.Unset x) (keys.Path y) = refl
 use_keys_same (keys.Unset x) keys.Stack = refl
+use_keys_same keys.Absent keys.Set = refl
+use_keys_same keys.Absent (keys.Unset y) = refl
+use_keys_same keys.Absent keys.Absent = refl
+use_keys_same keys.Absent (keys.Path y) = refl
+use_keys_same keys.Absent keys.Stack = refl
 use_keys_same (keys.Path x) keys.Set = refl
 use_keys_same (keys.Path x) (keys.Unset y) = refl
+use_keys_same (keys.Path x) keys.Absent = refl
 use_keys_same (keys.Path x) (keys.Path y) = refl
 use_keys_same (keys.Path x) keys.Stack = refl
 use_keys_same keys.Stack keys.Set = refl
 use_keys_same keys.Stack (keys.Unset y) = refl
+use_keys_same keys.Stack keys.Absent = refl
 use_keys_same keys.Stack (keys.Path y) = refl
 use_keys_same keys.Stack keys.Stack = refl
 

@@ -52,7 +52,7 @@ certified_of ms (n ∷ live) t m (inl e) = subst (IsAsCertified ms) (sym e) t.0
 certified_of ms (n ∷ live) t m (inr a) = certified_of ms live t.2 m a
 
 pub of_kind : (ms live : List Module) → AreCertifiedTogether ms live → AreOfKind live
-of_kind ms live t m a = (certified_of ms live t m a).reversible
+of_kind ms live t m a = (certified_of ms live t m a).returns
 
 -- the newest of the modules beside an older one
 beside : (ms live : List Module) (m : Module) (v : Text) (x y : VariableUse) → AreCertifiedTogether ms (m ∷ live) → Uses m.records v x → IsAmong (v, y) (used_by_modules live) → go_together x y ≡ true
@@ -102,9 +102,9 @@ AreUses u live = (v : Text) (x : VariableUse) → IsAmong (v, x) (used_by_module
 
 pub newest_fits : (ms live : List Module) (m : Module) (u : Text → VariableUse) → AreCertifiedTogether ms (m ∷ live) → AreUses u (m ∷ live) → IsReversibleAndApart u live m
 newest_fits ms live m u t h = record {
-  suits = all_suit u m.records t.0.reversible (all_follow u m.records (λ v x a. h v x (among_left (v, x) (used_by m.records) (used_by_modules live) a)));
+  suits = all_suit u m.records t.0.returns (all_follow u m.records (λ v x a. h v x (among_left (v, x) (used_by m.records) (used_by_modules live) a)));
   sets_apart = λ v s.
-      let p = sets_used v m.records t.0.reversible s in
+      let p = sets_used v m.records t.0.returns s in
       older_sets live (of_kind ms live t.2) v (λ k a. no_fixed (Fixed k) p.0 (beside ms live m v (Fixed p.0) (Fixed k) t p.1 a));
 }
 

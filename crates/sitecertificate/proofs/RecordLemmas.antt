@@ -9,7 +9,7 @@ use Rattle.envvars.proofs.TextLemmas.{same_text}
 use Rattle.envvars.proofs.EditLemmas.{both_true}
 use Rattle.modulefile.specs.Records.{Record}
 use Rattle.modulefile.specs.Moves.{Module}
-use Rattle.reversal.specs.VariableUses.{VariableUse, Fixed, is_reversible, IsUsedSo, AllFollowUses, UsedVariable, use_by}
+use Rattle.reversal.specs.VariableUses.{VariableUse, Fixed, can_return, IsUsedSo, AllFollowUses, UsedVariable, use_by}
 use Rattle.reversal.specs.Live.{set_by, last_set, live_set, adds_by, adds, live_adds, push_by, last_push, with_push}
 use Rattle.reversal.specs.Live.{live_pushes}
 use Rattle.reversal.proofs.Uses.{IsOther, set_by_none, adds_by_none, push_by_none, set_used}
@@ -34,7 +34,7 @@ other_use v (Some p) h = by_test (bytes_eq v p.0) _
     (λ t. absurd (h p.1 (ap (λ (w : Text). Some (w, p.1)) (sym (same_text v p.0 t)))))
     (λ t. t)
 
-no_set : (v : Text) (r : Record) → is_reversible r ≡ true → ((x : VariableUse) → use_by r ≡ Some (v, x) → ⊥) → set_by v r ≡ None
+no_set : (v : Text) (r : Record) → can_return r ≡ true → ((x : VariableUse) → use_by r ≡ Some (v, x) → ⊥) → set_by v r ≡ None
 no_set v r k h = set_by_none v r k (other_use v (use_by r) h)
 
 no_add : (v y : Text) (r : Record) → ((x : VariableUse) → use_by r ≡ Some (v, x) → ⊥) → adds_by v y r ≡ 0
@@ -45,10 +45,10 @@ no_push v r h = push_by_none v r (other_use v (use_by r) h)
 
 -- the same of several records
 
-pub no_sets : (v : Text) (rs : List Record) → list_all is_reversible rs ≡ true → ((x : VariableUse) → Uses rs v x → ⊥) → last_set v rs ≡ None
+pub no_sets : (v : Text) (rs : List Record) → list_all can_return rs ≡ true → ((x : VariableUse) → Uses rs v x → ⊥) → last_set v rs ≡ None
 no_sets v [] k h = refl
 no_sets v (r ∷ rs) k h =
-    let b = both_true (is_reversible r) (list_all is_reversible rs) k in
+    let b = both_true (can_return r) (list_all can_return rs) k in
     ap (λ (o : Option (Option Text)). option_or o (set_by v r)) (no_sets v rs b.1 (λ x u. h x (used_later (v, x) r rs u)))
     ∙ no_set v r b.0 (λ x e. h x (used_first (v, x) r rs e))
 
@@ -68,7 +68,7 @@ no_pushes v (r ∷ rs) h =
 -- and of modules
 
 abbrev pub AreOfKind : List Module → Type 0
-AreOfKind ms = (m : Module) → IsAmong m ms → list_all is_reversible m.records ≡ true
+AreOfKind ms = (m : Module) → IsAmong m ms → list_all can_return m.records ≡ true
 
 first_unused : (v : Text) (m : Module) (ms : List Module) → ((x : VariableUse) → IsAmong (v, x) (used_by_modules (m ∷ ms)) → ⊥) → (x : VariableUse) → Uses m.records v x → ⊥
 first_unused v m ms h x u = h x (among_left (v, x) (used_by m.records) (used_by_modules ms) u)
@@ -101,10 +101,10 @@ later_none : (o p : Option (Option Text)) → is_some o ≡ false → is_some (o
 later_none None p h k = k
 later_none (Some x) p h k = absurd (false≢true (sym h))
 
-pub sets_used : (v : Text) (rs : List Record) → list_all is_reversible rs ≡ true → is_some (last_set v rs) ≡ true → (k : Option Text) × Uses rs v (Fixed k)
+pub sets_used : (v : Text) (rs : List Record) → list_all can_return rs ≡ true → is_some (last_set v rs) ≡ true → (k : Option Text) × Uses rs v (Fixed k)
 sets_used v [] k h = absurd (false≢true h)
 sets_used v (r ∷ rs) k h =
-    let b = both_true (is_reversible r) (list_all is_reversible rs) k in
+    let b = both_true (can_return r) (list_all can_return rs) k in
     by_test (is_some (last_set v rs)) _
     (λ t. let p = sets_used v rs b.1 t in (p.0, used_later (v, Fixed p.0) r rs p.1))
     (λ t. let p = set_used v r b.0 (later_none (last_set v rs) (set_by v r) t h) in (p.0, used_first (v, Fixed p.0) r rs p.1))

@@ -6,14 +6,15 @@ use Rattle.std.proofs.Math.Seq.{take-length}
 use Rattle.std.proofs.lemmas.List.{take_more, map-append}
 use Rattle.envvars.specs.Environment.{Environment}
 use Rattle.envloaded.specs.Loaded.{AreLoadedInOrder}
-use Rattle.reversal.specs.VariableUses.{Untouched, Fixed, Pathed, Stacked, UsedVariable}
+use Rattle.reversal.specs.VariableUses.{Untouched, Fixed, Absent, Pathed, Stacked, UsedVariable}
 use Rattle.sitecertificate.specs.RecordUses.{IsAmong}
 use Rattle.sitecertificate.specs.Certificates.{AgreesWithUse, AgreesWith}
 use Rattle.sitecertificate.specs.UseViews.{used_view}
 use Rattle.sitecertificate.specs.declared.uses.UsedVariable as code
 use Rattle.sitecertificate.proofs.UsedLemmas.{by_cases, among_left, among_right, among_either}
-use Rattle.sitecertificate.specs.Disagreements.{Disagreement, loaded_texts, is_set, has_not_value, path_not_in_order}
-use Rattle.sitecertificate.specs.Disagreements.{stack_not_in_order, IsDisagreement, AreReasons, AreDisagreements}
+use Rattle.sitecertificate.specs.Disagreements.{Disagreement, loaded_texts, is_set, has_not_value, is_not_absent}
+use Rattle.sitecertificate.specs.Disagreements.{path_not_in_order, stack_not_in_order, IsDisagreement, AreReasons}
+use Rattle.sitecertificate.specs.Disagreements.{AreDisagreements}
 use Rattle.sitecertificate.specs.Disagreements.{use_named, IsJudged, IsListJudged}
 
 -- what a reason says of the environment, whatever the certificate
@@ -164,6 +165,7 @@ abbrev reason_of : UsedVariable → Disagreement
 reason_of (v, Untouched) = loaded_texts
 reason_of (v, Fixed None) = is_set v
 reason_of (v, Fixed (Some value)) = has_not_value v value
+reason_of (v, Absent) = is_not_absent v
 reason_of (v, Pathed d) = path_not_in_order v d
 reason_of (v, Stacked) = stack_not_in_order v
 
@@ -171,6 +173,7 @@ one_reason : (d : Disagreement) (p : UsedVariable) → use_named d ≡ Some p �
 one_reason loaded_texts p h = cc
 one_reason (is_set v) p h = let e : (v, Fixed None) ≡ p = cc in ap reason_of e
 one_reason (has_not_value v value) p h = let e : (v, Fixed (Some value)) ≡ p = cc in ap reason_of e
+one_reason (is_not_absent v) p h = let e : (v, Absent) ≡ p = cc in ap reason_of e
 one_reason (path_not_in_order v d) p h = let e : (v, Pathed d) ≡ p = cc in ap reason_of e
 one_reason (stack_not_in_order v) p h = let e : (v, Stacked) ≡ p = cc in ap reason_of e
 
@@ -181,6 +184,7 @@ named_is : (e : Environment) (ps : List UsedVariable) (ds : List Disagreement) �
 named_is e ps ds r loaded_texts h = (r.holds loaded_texts h).list refl
 named_is e ps ds r (is_set v) h = (r.of (is_set v) (v, Fixed None) h refl, (r.holds (is_set v) h).uses (v, Fixed None) refl)
 named_is e ps ds r (has_not_value v value) h = (r.of (has_not_value v value) (v, Fixed (Some value)) h refl, (r.holds (has_not_value v value) h).uses (v, Fixed (Some value)) refl)
+named_is e ps ds r (is_not_absent v) h = (r.of (is_not_absent v) (v, Absent) h refl, (r.holds (is_not_absent v) h).uses (v, Absent) refl)
 named_is e ps ds r (path_not_in_order v d) h = (r.of (path_not_in_order v d) (v, Pathed d) h refl, (r.holds (path_not_in_order v d) h).uses (v, Pathed d) refl)
 named_is e ps ds r (stack_not_in_order v) h = (r.of (stack_not_in_order v) (v, Stacked) h refl, (r.holds (stack_not_in_order v) h).uses (v, Stacked) refl)
 
@@ -188,6 +192,7 @@ is_named : (e : Environment) (ps : List UsedVariable) (ds : List Disagreement) �
 is_named e ps ds r loaded_texts n = by_cases r.list (λ o. absurd (n o)) (λ h. h)
 is_named e ps ds r (is_set v) k = there e ps ds (v, Fixed None) r k.0 k.1
 is_named e ps ds r (has_not_value v value) k = there e ps ds (v, Fixed (Some value)) r k.0 k.1
+is_named e ps ds r (is_not_absent v) k = there e ps ds (v, Absent) r k.0 k.1
 is_named e ps ds r (path_not_in_order v d) k = there e ps ds (v, Pathed d) r k.0 k.1
 is_named e ps ds r (stack_not_in_order v) k = there e ps ds (v, Stacked) r k.0 k.1
 

@@ -1,6 +1,6 @@
 -- Which modules of a list stay: those that clash with none that stays and comes before them.
-use Rattle.std.proofs.Common.{arith, zero, suc, ◌≡◌, ◌⊎◌, ◌↔◌, inl, inr, ℕ, ◌<◌, ◌≤◌, Bool, true, false, cond, not, ◌&&◌}
-use Rattle.std.proofs.Common.{◌||◌, List, [], ◌∷◌, filter, length, refl, sym, ap, ◌∙◌, subst, Option, Some, None}
+use Rattle.std.proofs.Common.{arith, zero, suc, ◌≡◌, ◌↔◌, inl, inr, ℕ, ◌<◌, ◌≤◌, Bool, true, false, not, ◌&&◌}
+use Rattle.std.proofs.Common.{◌||◌, List, [], ◌∷◌, filter, length, refl, sym, ap, ◌∙◌, Option, Some, None}
 use Rattle.std.specs.Prelude.{bytes_eq}
 use Rattle.std.specs.List.{list_any}
 use Rattle.std.specs.Option.{option_eq}
@@ -14,13 +14,13 @@ use Rattle.std.proofs.lemmas.Map.Text.{is_eq-slice_cmp}
 use Rattle.envvars.specs.Texts.{Text}
 use Rattle.envvars.proofs.TextLemmas.{bytes_eq-symmetric}
 use Rattle.modulefile.specs.Moves.{Module}
-use Rattle.reversal.specs.VariableUses.{VariableUse, Untouched, Fixed, Pathed, Stacked}
+use Rattle.reversal.specs.VariableUses.{VariableUse, Untouched, Fixed, Absent, Pathed, Stacked}
 use Rattle.sitecertificate.specs.RecordUses.{IsAmong}
 use Rattle.sitecertificate.specs.Clashes.{is_other, names_in_conflict, exclude, go_together, agree_at_start, uses_clash}
 use Rattle.sitecertificate.specs.Clashes.{Clash, do_clash}
 use Rattle.sitecertificate.specs.Ranks.{rivals, rank_order, comes_before}
 use Rattle.sitecertificate.specs.Certificates.{clashes_before, stays, staying}
-use Rattle.sitecertificate.proofs.UsedLemmas.{by_test, by_cases}
+use Rattle.sitecertificate.proofs.UsedLemmas.{by_test}
 use Rattle.sitecertificate.proofs.Members.{fails_each}
 use Rattle.sitecertificate.proofs.Exact.{any_some, some_any, filtered, in_filter, clashes, to_clashes}
 
@@ -150,12 +150,19 @@ option_turned (Some x) (Some y) = bytes_eq-symmetric x y
 pub go_equal : (x y : VariableUse) → go_together x y ≡ true → x ≡ y
 go_equal Untouched y h = absurd (false≢true h)
 go_equal (Fixed a) y h = absurd (false≢true h)
+go_equal Absent Untouched h = absurd (false≢true h)
+go_equal Absent (Fixed a) h = absurd (false≢true h)
+go_equal Absent Absent h = refl
+go_equal Absent (Pathed d) h = absurd (false≢true h)
+go_equal Absent Stacked h = absurd (false≢true h)
 go_equal (Pathed d) Untouched h = absurd (false≢true h)
 go_equal (Pathed d) (Fixed a) h = absurd (false≢true h)
+go_equal (Pathed d) Absent h = absurd (false≢true h)
 go_equal (Pathed d) (Pathed k) h = ap Pathed (eqb-true d k h)
 go_equal (Pathed d) Stacked h = absurd (false≢true h)
 go_equal Stacked Untouched h = absurd (false≢true h)
 go_equal Stacked (Fixed a) h = absurd (false≢true h)
+go_equal Stacked Absent h = absurd (false≢true h)
 go_equal Stacked (Pathed d) h = absurd (false≢true h)
 go_equal Stacked Stacked h = refl
 
@@ -168,18 +175,27 @@ go_turned x y = by_test (go_together x y) _
 agree_turned : (x y : VariableUse) → agree_at_start x y ≡ agree_at_start y x
 agree_turned Untouched Untouched = refl
 agree_turned Untouched (Fixed b) = refl
+agree_turned Untouched Absent = refl
 agree_turned Untouched (Pathed b) = refl
 agree_turned Untouched Stacked = refl
 agree_turned (Fixed a) Untouched = refl
 agree_turned (Fixed a) (Fixed b) = option_turned a b
+agree_turned (Fixed a) Absent = refl
 agree_turned (Fixed a) (Pathed b) = refl
 agree_turned (Fixed a) Stacked = refl
+agree_turned Absent Untouched = refl
+agree_turned Absent (Fixed b) = refl
+agree_turned Absent Absent = refl
+agree_turned Absent (Pathed b) = refl
+agree_turned Absent Stacked = refl
 agree_turned (Pathed a) Untouched = refl
 agree_turned (Pathed a) (Fixed b) = refl
+agree_turned (Pathed a) Absent = refl
 agree_turned (Pathed a) (Pathed b) = refl
 agree_turned (Pathed a) Stacked = refl
 agree_turned Stacked Untouched = refl
 agree_turned Stacked (Fixed b) = refl
+agree_turned Stacked Absent = refl
 agree_turned Stacked (Pathed b) = refl
 agree_turned Stacked Stacked = refl
 

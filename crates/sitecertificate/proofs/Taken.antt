@@ -1,12 +1,12 @@
 -- Modules that are taken in their order are those that stay.
-use Rattle.std.proofs.Common.{arith, zero, suc, ◌≡◌, ◌⊎◌, ◌↔◌, inl, inr, ℕ, ◌+◌, ◌<◌, ◌≤◌, Bool, true, false, cond, not, ◌&&◌}
-use Rattle.std.proofs.Common.{◌||◌, List, [], ◌∷◌, ◌++◌, map, length, take, get_or, refl, sym, ap, ◌∙◌, subst, nat_cmp}
+use Rattle.std.proofs.Common.{arith, suc, ◌≡◌, ◌⊎◌, ◌↔◌, inl, inr, ℕ, ◌+◌, ◌<◌, ◌≤◌, Bool, true, false, cond, not, ◌&&◌}
+use Rattle.std.proofs.Common.{List, [], ◌∷◌, ◌++◌, map, length, take, get_or, refl, sym, ap, ◌∙◌, subst, nat_cmp}
 use Rattle.std.specs.List.{list_any, fold}
 use Rattle.std.specs.List.Sorted.{IsPermutation, IsSortedBy}
 use Rattle.std.specs.Cmp.{IsTotalOrder, IsStrictWeakOrder}
 use Rattle.std.specs.Ordering.{is_lt, ordering_then}
 use Rattle.std.specs.Cmp.Lexicographic.{slice_cmp}
-use Rattle.std.proofs.lemmas.Bool.{false≢true, and_parts, not-true}
+use Rattle.std.proofs.lemmas.Bool.{false≢true, and_parts}
 use Rattle.std.proofs.lemmas.List.{map-append}
 use Rattle.std.proofs.lemmas.List.Sorted.{sorted_far, ranks_by, IsPermutation-sym}
 use Rattle.std.proofs.lemmas.Cmp.{nat_cmp_total, nat_list_cmp_total, on_total, then_total}
@@ -23,7 +23,7 @@ use Rattle.sitecertificate.specs.UsingModules.{module_of}
 use Rattle.sitecertificate.proofs.UsedLemmas.{by_test, by_cases, among_left, among_right, among_either}
 use Rattle.sitecertificate.proofs.Exact.{any_some}
 use Rattle.sitecertificate.proofs.Members.{fails_each}
-use Rattle.sitecertificate.proofs.Staying.{IsChoice, is_free, free_of, clash_before, before_either, other_turned, none_of}
+use Rattle.sitecertificate.proofs.Staying.{IsChoice, is_free, free_of, clash_before, before_either}
 use Rattle.sitecertificate.proofs.Staying.{staying_chosen, one_choice}
 use Rattle.sitecertificate.proofs.CertifiedOnes.{among_moved, among_contains}
 use Rattle.sitecertificate.proofs.AnswerLemmas.{among_mapped, map_more}

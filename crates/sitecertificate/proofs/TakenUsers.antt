@@ -1,10 +1,10 @@
 -- The users in the table of modules that are taken.
-use Rattle.std.proofs.Common.{◌≡◌, ℕ, ◌+◌, ◌<◌, Bool, true, false, cond, ◌&&◌, List, [], ◌∷◌, ◌++◌, map, take, length, get_or}
+use Rattle.std.proofs.Common.{◌≡◌, ℕ, ◌+◌, ◌<◌, true, false, ◌&&◌, List, [], ◌∷◌, ◌++◌, map, take, length, get_or}
 use Rattle.std.proofs.Common.{refl, sym, ap, ◌∙◌, subst, append-nil}
-use Rattle.std.specs.List.{list_any, flat_map, fold}
+use Rattle.std.specs.List.{fold}
 use Rattle.std.specs.List.Sorted.{IsPermutation, IsSortedBy}
 use Rattle.std.specs.Ordering.{is_lt}
-use Rattle.std.proofs.lemmas.Bool.{false≢true, and_parts, and_from}
+use Rattle.std.proofs.lemmas.Bool.{and_parts, and_from}
 use Rattle.std.proofs.lemmas.Grind.{flat_map-append}
 use Rattle.std.proofs.lemmas.List.{take_more, map-append}
 use Rattle.envvars.specs.Texts.{Text}
@@ -12,14 +12,13 @@ use Rattle.modulefile.specs.Moves.{Module}
 use Rattle.sitecertificate.specs.RecordUses.{IsAmong}
 use Rattle.sitecertificate.specs.Clashes.{is_other, do_clash}
 use Rattle.sitecertificate.specs.Users.{ModuleUse, AreUsersOf, EntersAll, uses_of_module, uses_of_modules, do_users_clash}
-use Rattle.sitecertificate.specs.ClashAnswers.{ClashesWithNone}
 use Rattle.sitecertificate.specs.Certificates.{staying}
 use Rattle.sitecertificate.specs.Ranked.{ranked_module, ranked_order, AreRanked, clashes_among, with_next, taken}
 use Rattle.sitecertificate.specs.Takes.{TakesNext}
 use Rattle.sitecertificate.specs.declared.ranks.Ranked.{Ranked}
 use Rattle.sitecertificate.proofs.UsedLemmas.{by_test}
 use Rattle.sitecertificate.proofs.Taken.{taken_stay, ranks_in_order}
-use Rattle.sitecertificate.proofs.Exact.{any_some, some_any, clashes, to_clashes}
+use Rattle.sitecertificate.proofs.Exact.{any_some, some_any, clashes}
 use Rattle.sitecertificate.proofs.TableLemmas.{some_clash}
 use Rattle.sitecertificate.proofs.AnswerLemmas.{among_of, among_some, clashes_with_none, two_clash}
 

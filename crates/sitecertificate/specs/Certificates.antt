@@ -1,6 +1,6 @@
 -- The certificate of a list of modules, as those of a whole site (own): which of them are certified, and which starts
 -- agree with what modules use.
-use Rattle.std.specs.Prelude.{◌≡◌, ℕ, zero, suc, Bool, true, false, not, ◌&&◌, List, filter, length, Some}
+use Rattle.std.specs.Prelude.{◌≡◌, ℕ, zero, suc, Bool, true, false, not, ◌&&◌, List, filter, length, Some, None}
 use Rattle.std.specs.List.{list_any}
 use Rattle.envvars.specs.Texts.{Text, has}
 use Rattle.envvars.specs.Environment.{Environment, lookup}
@@ -8,7 +8,8 @@ use Rattle.envpaths.specs.PathOrder.{IsPathInOrder}
 use Rattle.envstacks.specs.StackVariables.{IsStackInOrder}
 use Rattle.envloaded.specs.Loaded.{Entry, names_of, loaded_in, AreLoadedInOrder}
 use Rattle.modulefile.specs.Moves.{Module}
-use Rattle.reversal.specs.VariableUses.{VariableUse, Untouched, Fixed, Pathed, Stacked, UsedVariable}
+use Rattle.reversal.specs.VariableUses.{VariableUse, Untouched, Fixed, Absent, Pathed, Stacked}
+use Rattle.reversal.specs.VariableUses.{UsedVariable}
 use Rattle.sitecertificate.specs.RecordUses.{used_by_modules, IsAmong, IsInStep, is_in_step}
 use Rattle.sitecertificate.specs.Clashes.{is_other, Clash, do_clash}
 use Rattle.sitecertificate.specs.Ranks.{comes_before}
@@ -47,11 +48,12 @@ IsCertified ms m = HasPlace ms (certified ms) m
 abbrev pub certificate : List Module → List UsedVariable
 certificate ms = used_by_modules (certified ms)
 
--- The start agrees with a use of a variable. One that is set is unset in it, one that is unset has its value, a path is
--- in order with its delimiter, and a stack is in order with the loaded modules as owners.
+-- The start agrees with a use of a variable. One that is set is unset in it, one that is unset has its value, an absent
+-- one is unset, a path is in order with its delimiter, and a stack is in order with the loaded modules as owners.
 abbrev pub AgreesWithUse : Environment → Text → VariableUse → Type 0
 AgreesWithUse start v Untouched = Unit {0}
 AgreesWithUse start v (Fixed value) = lookup start v ≡ value
+AgreesWithUse start v Absent = lookup start v ≡ None
 AgreesWithUse start v (Pathed delim) = IsPathInOrder start v delim
 AgreesWithUse start v Stacked =
     (entries : List Entry) → loaded_in start ≡ Some entries → IsStackInOrder (names_of entries) start v

@@ -1,5 +1,5 @@
 -- Modules that are never loaded at once, and modules that clash in a variable (own).
-use Rattle.std.specs.Prelude.{◌≡◌, Bool, true, false, not, ◌&&◌, ◌||◌, ◌==◌, bytes_eq}
+use Rattle.std.specs.Prelude.{◌≡◌, Bool, true, false, not, ◌&&◌, ◌||◌, ◌==◌, bytes_eq, is_none}
 use Rattle.std.specs.List.{list_any}
 use Rattle.std.specs.Option.{option_eq}
 use Rattle.modulename.specs.ModuleName.{means}
@@ -7,7 +7,7 @@ use Rattle.envvars.specs.Texts.{Text}
 use Rattle.envloaded.specs.Loaded.{Entry}
 use Rattle.modulefile.specs.Records.{conflict_names}
 use Rattle.modulefile.specs.Moves.{Module}
-use Rattle.reversal.specs.VariableUses.{VariableUse, Fixed, Pathed, Stacked}
+use Rattle.reversal.specs.VariableUses.{VariableUse, Fixed, Absent, Pathed, Stacked}
 use Rattle.sitecertificate.specs.RecordUses.{used_by, Uses}
 
 -- They are two modules: their names differ, or the paths of their files.
@@ -31,17 +31,20 @@ in_conflict_with_entry m x =
 abbrev pub exclude : Module → Module → Bool
 exclude m n = bytes_eq m.name n.name || in_conflict m n
 
--- Modules that are loaded at once may use a variable in these two ways: both as a path with one delimiter, or both as a
--- stack.
+-- Modules that are loaded at once may use a variable in these two ways: both as a path with one delimiter, both as a
+-- stack, or both as absent.
 abbrev pub go_together : VariableUse → VariableUse → Bool
 go_together (Pathed d) (Pathed k) = d == k
 go_together Stacked Stacked = true
+go_together Absent Absent = true
 go_together x y = false
 
--- A start may agree with both uses. None does where one sets a variable that the other unsets, and none where they
--- unset different values.
+-- A start may agree with both uses. None does where one unsets a value and the other sets the variable or keeps it
+-- absent, and none where they unset different values.
 abbrev pub agree_at_start : VariableUse → VariableUse → Bool
 agree_at_start (Fixed x) (Fixed y) = option_eq bytes_eq x y
+agree_at_start (Fixed x) Absent = is_none x
+agree_at_start Absent (Fixed y) = is_none y
 agree_at_start x y = true
 
 -- whether two uses of one variable clash, by modules that exclude each other or don't

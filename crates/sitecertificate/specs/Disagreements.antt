@@ -5,16 +5,18 @@ use Rattle.envvars.specs.Environment.{Environment, lookup}
 use Rattle.envpaths.specs.PathOrder.{IsPathInOrder}
 use Rattle.envloaded.specs.Loaded.{AreLoadedInOrder}
 use Rattle.modulefile.specs.Moves.{Module}
-use Rattle.reversal.specs.VariableUses.{Fixed, Pathed, Stacked, UsedVariable}
+use Rattle.reversal.specs.VariableUses.{Fixed, Absent, Pathed, Stacked, UsedVariable}
 use Rattle.sitecertificate.specs.RecordUses.{used_by, IsAmong}
 use Rattle.sitecertificate.specs.Certificates.{AgreesWithUse, IsNotLoaded}
 
 -- Why: the texts of the loaded modules aren't in order; a variable is set that a module sets, or has not the value that
--- a module unsets; a variable isn't in order as a path with this delimiter, or as a stack.
+-- a module unsets, or is set where a module keeps it absent; a variable isn't in order as a path with this delimiter,
+-- or as a stack.
 pub data Disagreement : Type 0 where
   loaded_texts : Disagreement
   is_set : (variable : Text) → Disagreement
   has_not_value : (variable value : Text) → Disagreement
+  is_not_absent : (variable : Text) → Disagreement
   path_not_in_order : (variable : Text) (delim : ℕ) → Disagreement
   stack_not_in_order : (variable : Text) → Disagreement
 
@@ -23,6 +25,7 @@ abbrev pub IsDisagreement : List UsedVariable → Environment → Disagreement �
 IsDisagreement ps e loaded_texts = AreLoadedInOrder e → ⊥
 IsDisagreement ps e (is_set v) = IsAmong (v, Fixed None) ps × (lookup e v ≡ None → ⊥)
 IsDisagreement ps e (has_not_value v value) = IsAmong (v, Fixed (Some value)) ps × (lookup e v ≡ Some value → ⊥)
+IsDisagreement ps e (is_not_absent v) = IsAmong (v, Absent) ps × (lookup e v ≡ None → ⊥)
 IsDisagreement ps e (path_not_in_order v d) = IsAmong (v, Pathed d) ps × (IsPathInOrder e v d → ⊥)
 IsDisagreement ps e (stack_not_in_order v) = IsAmong (v, Stacked) ps × (AgreesWithUse e v Stacked → ⊥)
 
@@ -37,6 +40,7 @@ abbrev pub use_named : Disagreement → Option UsedVariable
 use_named loaded_texts = None
 use_named (is_set v) = Some (v, Fixed None)
 use_named (has_not_value v value) = Some (v, Fixed (Some value))
+use_named (is_not_absent v) = Some (v, Absent)
 use_named (path_not_in_order v d) = Some (v, Pathed d)
 use_named (stack_not_in_order v) = Some (v, Stacked)
 

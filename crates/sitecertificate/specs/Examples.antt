@@ -46,6 +46,9 @@ sets value = Set variable value
 abbrev pub unsets : Text → Record
 unsets value = Unset variable (Some value)
 
+abbrev pub keeps_absent : Record
+keeps_absent = Unset variable None
+
 abbrev pub semicolon_path : Record
 semicolon_path = Path Back 59 variable (codes "/b" ∷ [])
 
@@ -59,6 +62,10 @@ OneDelimiter = BothAreCertified (first (add_front ∷ [])) (second (Path Back co
 -- A stack.
 abbrev pub OneStack : Type 0
 OneStack = BothAreCertified (first (push_value ∷ [])) (second (push_value ∷ []))
+
+-- A variable that both keep absent.
+abbrev pub BothAbsent : Type 0
+BothAbsent = BothAreCertified (first (keeps_absent ∷ [])) (second (keeps_absent ∷ []))
 
 -- Uses that clash. A path with two delimiters.
 abbrev pub TwoDelimiters : Type 0
@@ -75,6 +82,10 @@ BothSet = FirstIsCertified (first (sets (codes "x") ∷ [])) (second (sets (code
 -- A variable whose one value both unset.
 abbrev pub BothUnset : Type 0
 BothUnset = FirstIsCertified (first (unsets (codes "x") ∷ [])) (second (unsets (codes "x") ∷ []))
+
+-- A variable that one sets and the other keeps absent: the first is a rival of its own.
+abbrev pub SetAndAbsent : Type 0
+SetAndAbsent = SecondIsCertified (first (sets (codes "x") ∷ [])) (second (keeps_absent ∷ []))
 
 -- Other variables clash with none.
 abbrev pub OtherVariable : Type 0
@@ -127,10 +138,19 @@ abbrev pub ExclusiveDelimiters : Type 0
 ExclusiveDelimiters =
     BothAreCertified (first (conflict (codes "n") ∷ add_front ∷ [])) (second (semicolon_path ∷ []))
 
+abbrev pub SetOrAbsent : Type 0
+SetOrAbsent =
+    BothAreCertified (first (conflict (codes "n") ∷ sets (codes "x") ∷ [])) (second (keeps_absent ∷ []))
+
 -- They clash all the same where no start agrees with both: one sets the variable and the other unsets it,
 abbrev pub SetAndUnset : Type 0
 SetAndUnset =
     FirstIsCertified (first (conflict (codes "n") ∷ sets (codes "x") ∷ [])) (second (unsets (codes "x") ∷ []))
+
+-- or one unsets a value and the other keeps the variable absent,
+abbrev pub UnsetAndAbsent : Type 0
+UnsetAndAbsent =
+    SecondIsCertified (first (conflict (codes "n") ∷ unsets (codes "x") ∷ [])) (second (keeps_absent ∷ []))
 
 -- or they unset two values,
 abbrev pub TwoValues : Type 0
@@ -175,7 +195,7 @@ ModulepathExtended =
     BothAreCertified (first (Path Front colon modulepath (codes "/n" ∷ []) ∷ []))
     (second (Path Back colon modulepath (codes "/o" ∷ []) ∷ []))
 
--- Nor does any clash with one that has a record of a kind that unloading doesn't undo.
+-- Nor does any clash with one that removes elements.
 abbrev pub OneWay : Type 0
 OneWay =
     SecondIsCertified (first (sets (codes "y") ∷ Path Remove colon (codes "PATH") (codes "/a" ∷ []) ∷ []))
@@ -218,6 +238,13 @@ LoseByBothSet =
     LoseBetween (first (sets (codes "x") ∷ []) ∷ second (sets (codes "y") ∷ []) ∷ []) (held [])
     (Loads (first (sets (codes "x") ∷ [])) ∷ Loads (second (sets (codes "y") ∷ []))
     ∷ Unloads (first (sets (codes "x") ∷ [])) ∷ [])
+
+-- One sets a variable, and the load of another, which keeps it absent, takes the value.
+abbrev pub LoseBySetAndAbsent : Type 0
+LoseBySetAndAbsent =
+    LoseBetween (first (sets (codes "x") ∷ []) ∷ second (keeps_absent ∷ []) ∷ []) (held [])
+    (Loads (first (sets (codes "x") ∷ [])) ∷ Loads (second (keeps_absent ∷ []))
+    ∷ Unloads (second (keeps_absent ∷ [])) ∷ [])
 
 -- One module with two uses of a variable: it sets it, and then pushes a value. After a load and its unload the variable
 -- has the value that was set, though it was unset in a start that agrees with both uses.

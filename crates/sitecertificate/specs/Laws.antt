@@ -12,7 +12,7 @@ use Rattle.reversal.specs.Starts.{IsInOrder, IsStart, IsStartWith}
 use Rattle.reversal.specs.Runs.{without_live, live_after, Undoes}
 use Rattle.reversal.specs.Laws.{Holds}
 use Rattle.reversal.specs.Undone.{UndoAlike}
-use Rattle.reversal.specs.VariableUses.{VariableUse, UsedVariable, is_reversible}
+use Rattle.reversal.specs.VariableUses.{VariableUse, UsedVariable, can_return, absent_in}
 use Rattle.sitecertificate.specs.RecordUses.{used_by, used_by_modules, IsAmong, IsInStep, uses_by}
 use Rattle.sitecertificate.specs.Clashes.{is_other, in_conflict, in_conflict_with_entry, exclude, Clash}
 use Rattle.sitecertificate.specs.Certificates.{HasPlace, IsCertified, certified, AgreesWith, IsNotLoaded}
@@ -48,15 +48,16 @@ CertifiedInAnyOrder =
     (ms ns : List Module) → IsPermutation ms ns → (m : Module) → IsCertified ms m → IsCertified ns m
 
 -- The module is a certified one, with these records, or with others that undo what those of the certificate undo, are of
--- kinds that unloading undoes, and are in conflict with the same names: as one whose file sets another value in another
--- shell.
+-- kinds after which the start can be back, keep the same variables absent, and are in conflict with the same names: as
+-- one whose file sets another value in another shell.
 pub record IsAsCertified (ms : List Module) (m : Module) : Type 0 where
   pub certain : Module
   pub certified : IsCertified ms certain
   pub name : certain.name ≡ m.name
   pub path : certain.path ≡ m.path
   pub alike : UndoAlike m.records certain.records
-  pub reversible : list_all is_reversible m.records ≡ true
+  pub returns : list_all can_return m.records ≡ true
+  pub absent : absent_in m.records ≡ absent_in certain.records
   pub conflicts : conflict_names m.records ≡ conflict_names certain.records
 
 -- Each load is of a certified module, as it loads, that is in conflict with no live one, and with whose uses the start

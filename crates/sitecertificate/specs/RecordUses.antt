@@ -7,8 +7,8 @@ use Rattle.envvars.specs.Texts.{Text}
 use Rattle.envvars.specs.Fields.{colon}
 use Rattle.modulefile.specs.Records.{Record}
 use Rattle.modulefile.specs.Moves.{Module}
-use Rattle.reversal.specs.VariableUses.{VariableUse, Untouched, Fixed, Pathed, Stacked, is_reversible, UsedVariable}
-use Rattle.reversal.specs.VariableUses.{use_by}
+use Rattle.reversal.specs.VariableUses.{VariableUse, Untouched, Fixed, Absent, Pathed, Stacked, can_return}
+use Rattle.reversal.specs.VariableUses.{UsedVariable, use_by}
 
 -- what the records use
 abbrev pub used_by : List Record → List UsedVariable
@@ -36,15 +36,16 @@ pub record AreInStep (rs : List Record) : Type 0 where
   pub one_use : (v : Text) (x y : VariableUse) → Uses rs v x → Uses rs v y → x ≡ y
   pub modulepath : (x : VariableUse) → Uses rs modulepath x → x ≡ Pathed colon
 
--- A module in step: its records are of the kinds alone that unloading undoes, and they are in step.
+-- A module in step: its records are of the kinds alone after which the start can be back, and they are in step.
 pub record IsInStep (m : Module) : Type 0 where
-  pub reversible : list_all is_reversible m.records ≡ true
+  pub returns : list_all can_return m.records ≡ true
   pub in_step : AreInStep m.records
 
 -- The same as tests. Two uses are one.
 abbrev pub same_use : VariableUse → VariableUse → Bool
 same_use Untouched Untouched = true
 same_use (Fixed x) (Fixed y) = option_eq bytes_eq x y
+same_use Absent Absent = true
 same_use (Pathed d) (Pathed k) = d == k
 same_use Stacked Stacked = true
 same_use x y = false
@@ -59,7 +60,7 @@ are_in_step ps = list_all (λ p. use_alike p (modulepath, Pathed colon) && list_
 
 -- the module is in step
 abbrev pub is_in_step : Module → Bool
-is_in_step m = list_all is_reversible m.records && are_in_step (used_by m.records)
+is_in_step m = list_all can_return m.records && are_in_step (used_by m.records)
 
 -- The use of a variable by the first of the pairs that has it; untouched where none has.
 abbrev pub first_use : Text → List UsedVariable → VariableUse

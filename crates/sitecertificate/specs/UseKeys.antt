@@ -1,6 +1,6 @@
 -- The keys of uses in the code, as the definitions see them (own).
 use Rattle.std.specs.Prelude.{◌≡◌, List, map, Some, None}
-use Rattle.reversal.specs.VariableUses.{VariableUse, Fixed, Pathed, Stacked, UsedVariable}
+use Rattle.reversal.specs.VariableUses.{VariableUse, Fixed, Absent, Pathed, Stacked, UsedVariable}
 use Rattle.sitecertificate.specs.UseViews.{used_view}
 use Rattle.sitecertificate.specs.declared.keys.UseKey.{UseKey}
 use Rattle.sitecertificate.specs.declared.keys.UseKey.TheVariants as keys
@@ -11,6 +11,7 @@ use Rattle.sitecertificate.specs.declared.once.UsesOnce.{UsesOnce}
 abbrev pub key_view : UseKey → VariableUse
 key_view keys.Set = Fixed None
 key_view (keys.Unset value) = Fixed (Some value.now)
+key_view keys.Absent = Absent
 key_view (keys.Path delim) = Pathed delim
 key_view keys.Stack = Stacked
 

@@ -9,6 +9,7 @@ use Rattle.sitecertificate.specs.declared.uses.UsedVariable.{UsedVariable}
 -- a use
 abbrev pub use_view : VariableUse → uses.VariableUse
 use_view (code.Fixed value) = uses.Fixed (option_map string_bytes value)
+use_view code.Absent = uses.Absent
 use_view (code.Pathed delim) = uses.Pathed delim.character
 use_view code.Stacked = uses.Stacked
 

@@ -34,7 +34,7 @@ fn agrees_with_use(
 {
     let variable = wanted.variable.as_str();
     match &wanted.used {
-        VariableUse::Fixed(None) => Ok(env.get(variable).is_none()),
+        VariableUse::Fixed(None) | VariableUse::Absent => Ok(env.get(variable).is_none()),
         VariableUse::Fixed(Some(value)) => Ok(env.get(variable) == Some(value.as_str())),
         VariableUse::Pathed(delim) => is_path_in_order(alloc, env, variable, delim.character),
         VariableUse::Stacked => match owners {
@@ -55,6 +55,7 @@ fn reason_for(alloc: Global, wanted: &UsedVariable) -> Result<Disagreement, Allo
             let value = String::from_str(alloc, value.as_str())?;
             Ok(Disagreement::HasNotValue { variable, value })
         }
+        VariableUse::Absent => Ok(Disagreement::IsNotAbsent(variable)),
         VariableUse::Pathed(delim) => Ok(Disagreement::PathNotInOrder {
             variable,
             delim: *delim,

@@ -10,6 +10,8 @@ pub enum Disagreement {
     IsSet(String),
     /// It has not this value of the variable, which a module unsets.
     HasNotValue { variable: String, value: String },
+    /// It has the variable set, which modules keep absent.
+    IsNotAbsent(String),
     /// The variable, which modules use as a path with this delimiter, isn't in order as one.
     PathNotInOrder { variable: String, delim: Delimiter },
     /// The variable, which modules use as a stack, isn't in order as one.

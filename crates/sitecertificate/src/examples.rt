@@ -1,21 +1,26 @@
 //! Worked examples of certificates, computed from the definitions, and why the rules are as they are.
-ghost use Rattle.sitecertificate.specs.Examples.{OneDelimiter, OneStack, TwoDelimiters, PathAndStack, BothSet};
-ghost use Rattle.sitecertificate.specs.Examples.{BothUnset, OtherVariable, FirstInConflict, SecondInConflict};
-ghost use Rattle.sitecertificate.specs.Examples.{ConflictByPart, ConflictByLetters, ConflictWithAnother, TwoVersions};
-ghost use Rattle.sitecertificate.specs.Examples.{TwoFiles, SetAndPushed, ExclusiveDelimiters, SetAndUnset, TwoValues};
+ghost use Rattle.sitecertificate.specs.Examples.{OneDelimiter, OneStack, BothAbsent, TwoDelimiters, PathAndStack};
+ghost use Rattle.sitecertificate.specs.Examples.{BothSet, BothUnset, SetAndAbsent, OtherVariable, FirstInConflict};
+ghost use Rattle.sitecertificate.specs.Examples.{SecondInConflict, ConflictByPart, ConflictByLetters};
+ghost use Rattle.sitecertificate.specs.Examples.{ConflictWithAnother, TwoVersions};
+ghost use Rattle.sitecertificate.specs.Examples.{TwoFiles, SetAndPushed, ExclusiveDelimiters, SetOrAbsent};
+ghost use Rattle.sitecertificate.specs.Examples.{SetAndUnset, UnsetAndAbsent, TwoValues};
 ghost use Rattle.sitecertificate.specs.Examples.{TwoFilesAndValues, OneValue, TwoUses, DelimitersInOne, ValuesInOne};
 ghost use Rattle.sitecertificate.specs.Examples.{ModulepathPushed, ModulepathParted, ModulepathExtended, OneWay};
 ghost use Rattle.sitecertificate.specs.Examples.{LoseByDelimiters, LoseByPathAndStack, LoseBySetAndPush};
-ghost use Rattle.sitecertificate.specs.Examples.{LoseByUnsetAndPush, LoseByBothSet, SetAndPushLeaveValue, StartsAgree};
+ghost use Rattle.sitecertificate.specs.Examples.{LoseByUnsetAndPush, LoseByBothSet, LoseBySetAndAbsent};
+ghost use Rattle.sitecertificate.specs.Examples.{SetAndPushLeaveValue, StartsAgree};
 
 /// Two modules that don't exclude each other use one variable.
 pub fn clashes()
     ensures one_delimiter { OneDelimiter }
     ensures one_stack { OneStack }
+    ensures both_absent { BothAbsent }
     ensures two_delimiters { TwoDelimiters }
     ensures path_and_stack { PathAndStack }
     ensures both_set { BothSet }
     ensures both_unset { BothUnset }
+    ensures set_and_absent { SetAndAbsent }
     ensures other_variable { OtherVariable }
 {}
 
@@ -34,7 +39,9 @@ pub fn exclusions()
 pub fn exclusive_uses()
     ensures set_and_pushed { SetAndPushed }
     ensures delimiters { ExclusiveDelimiters }
+    ensures set_or_absent { SetOrAbsent }
     ensures set_and_unset { SetAndUnset }
+    ensures unset_and_absent { UnsetAndAbsent }
     ensures two_values { TwoValues }
     ensures two_files { TwoFilesAndValues }
     ensures one_value { OneValue }
@@ -60,6 +67,7 @@ pub fn clashes_matter()
     ensures set_and_push { LoseBySetAndPush }
     ensures unset_and_push { LoseByUnsetAndPush }
     ensures both_set { LoseByBothSet }
+    ensures set_and_absent { LoseBySetAndAbsent }
     ensures two_uses { SetAndPushLeaveValue }
     ensures starts { StartsAgree }
 {

@@ -12,6 +12,8 @@ pub(crate) enum UseKey<'a> {
     Set,
     /// It is unset, and has this value else.
     Unset(&'a str),
+    /// It is unset, and absent else.
+    Absent,
     /// It is a path with this delimiter.
     Path(char),
     /// It is a stack.
@@ -25,6 +27,7 @@ pub(crate) fn key_of(used: &VariableUse) -> UseKey<'_>
     match used {
         VariableUse::Fixed(None) => UseKey::Set,
         VariableUse::Fixed(Some(value)) => UseKey::Unset(value.as_str()),
+        VariableUse::Absent => UseKey::Absent,
         VariableUse::Pathed(delim) => UseKey::Path(delim.character),
         VariableUse::Stacked => UseKey::Stack,
     }

@@ -15,6 +15,8 @@ use std::alloc::{AllocError, Global};
 pub enum VariableUse {
     /// It sets the variable, which is unset else; or it unsets the variable, which else has this value.
     Fixed(Option<String>),
+    /// It unsets the variable, which has no value else either.
+    Absent,
     /// It uses the variable as a path with this delimiter.
     Pathed(Delimiter),
     /// It uses the variable as a stack.
@@ -32,6 +34,7 @@ impl VariableUse {
                 let value = String::from_str(alloc, value.as_str())?;
                 Ok(VariableUse::Fixed(Some(value)))
             }
+            VariableUse::Absent => Ok(VariableUse::Absent),
             VariableUse::Pathed(delim) => Ok(VariableUse::Pathed(*delim)),
             VariableUse::Stacked => Ok(VariableUse::Stacked),
         }
@@ -57,7 +60,7 @@ fn use_of(alloc: Global, variable: &str, used: VariableUse) -> Result<UsedVariab
     })
 }
 
-/// The variable that a record uses, and how; `None` where it names no variable, or where unloading doesn't undo it.
+/// The variable that a record uses, and how; `None` where it names no variable, or removes elements.
 fn use_by(alloc: Global, recorded: &Record) -> Result<Option<UsedVariable>, AllocError>
     ensures { IfOk result (λ found. option_map used_view found ≡ variable_uses.use_by (record_view recorded.now)) }
 {
@@ -72,6 +75,9 @@ fn use_by(alloc: Global, recorded: &Record) -> Result<Option<UsedVariable>, Allo
             let value = String::from_str(alloc, value.as_str())?;
             use_of(alloc, var.as_str(), VariableUse::Fixed(Some(value))).map(Some)
         }
+        Record::Unset { var, value: None } => {
+            use_of(alloc, var.as_str(), VariableUse::Absent).map(Some)
+        }
         Record::Push { var, value: _ } => {
             use_of(alloc, var.as_str(), VariableUse::Stacked).map(Some)
         }
@@ -82,10 +88,7 @@ fn use_by(alloc: Global, recorded: &Record) -> Result<Option<UsedVariable>, Allo
         Record::Path { delim, var, .. } => {
             use_of(alloc, var.as_str(), VariableUse::Pathed(*delim)).map(Some)
         }
-        Record::Unset { value: None, .. }
-        | Record::Conflict(_)
-        | Record::Prereq(_)
-        | Record::Whatis(_) => Ok(None),
+        Record::Conflict(_) | Record::Prereq(_) | Record::Whatis(_) => Ok(None),
     }
 }
 
@@ -114,8 +117,8 @@ pub fn used_by(alloc: Global, records: &[Record]) -> Result<Vec<UsedVariable>, A
     Ok(used)
 }
 
-/// Whether modules that are loaded at once may use a variable in these two ways: both as a path with one delimiter, or
-/// both as a stack.
+/// Whether modules that are loaded at once may use a variable in these two ways: both as a path with one delimiter,
+/// both as a stack, or both as absent.
 pub fn go_together(one: &VariableUse, other: &VariableUse) -> bool
     ensures { result ≡ clashes.go_together (use_view one.now) (use_view other.now) }
 {
@@ -123,7 +126,8 @@ pub fn go_together(one: &VariableUse, other: &VariableUse) -> bool
         (VariableUse::Pathed(one), VariableUse::Pathed(other)) => {
             one.character == other.character
         }
-        (VariableUse::Stacked, VariableUse::Stacked) => true,
+        (VariableUse::Stacked, VariableUse::Stacked) | (VariableUse::Absent, VariableUse::Absent) =>
+            true,
         _ => false,
     }
 }
@@ -138,6 +142,8 @@ fn agree_at_start(one: &VariableUse, other: &VariableUse) -> bool
             one.as_str() == other.as_str()
         }
         (VariableUse::Fixed(_), VariableUse::Fixed(_)) => false,
+        (VariableUse::Fixed(value), VariableUse::Absent)
+        | (VariableUse::Absent, VariableUse::Fixed(value)) => value.is_none(),
         _ => true,
     }
 }
@@ -154,7 +160,8 @@ fn same_use(one: &VariableUse, other: &VariableUse) -> bool
         (VariableUse::Pathed(one), VariableUse::Pathed(other)) => {
             one.character == other.character
         }
-        (VariableUse::Stacked, VariableUse::Stacked) => true,
+        (VariableUse::Stacked, VariableUse::Stacked) | (VariableUse::Absent, VariableUse::Absent) =>
+            true,
         _ => false,
     }
 }

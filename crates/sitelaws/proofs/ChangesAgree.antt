@@ -14,7 +14,7 @@ use Rattle.envstate.specs.Frames.{IsVariableUnchanged}
 use Rattle.envstate.proofs.RoleLemmas.{name_of_role}
 use Rattle.envstate.proofs.FrameLemmas.{keeps, keeps_other, path_edits_variable}
 use Rattle.modulefile.specs.Moves.{Module}
-use Rattle.reversal.specs.VariableUses.{VariableUse, Untouched, Fixed, Pathed, Stacked}
+use Rattle.reversal.specs.VariableUses.{VariableUse, Untouched, Fixed, Absent, Pathed, Stacked}
 use Rattle.reversal.specs.Live.{live_adds, live_pushes}
 use Rattle.reversal.specs.Starts.{IsStart, HasValue, HasPath, HasStack, HasVariable, IsStartWith}
 use Rattle.handchanges.specs.HandChanges.{HandChange, changed, use_of_role, MayChange, start_by_use}
@@ -31,6 +31,7 @@ use Rattle.sitelaws.proofs.Editable.{settled_editable}
 kept_agrees : (b d : Environment) (v : Text) (x : VariableUse) → IsVariableUnchanged b d v → loaded_in d ≡ loaded_in b → AgreesWithUse b v x → AgreesWithUse d v x
 kept_agrees b d v Untouched k l a = tt
 kept_agrees b d v (Fixed value) k l a = k.value ∙ a
+kept_agrees b d v Absent k l a = k.value ∙ a
 kept_agrees b d v (Pathed delim) k l a = k.path_order delim a
 kept_agrees b d v Stacked k l a = λ xs h. k.stack_order (names_of xs) (a xs (sym l ∙ h))
 
@@ -40,6 +41,7 @@ given_agrees : (b e : Environment) (live : List Module) (c : HandChange) (x : Va
     → MayChange (Some x) live e c → AgreesWithUse (changed c b) c.variable x
 given_agrees b e live c Untouched f n k m = tt
 given_agrees b e live c (Fixed value) f n k m = absurd m
+given_agrees b e live c Absent f n k m = absurd m
 given_agrees b e live c (Pathed d) f n k m =
     let t = set_beside b e c f in
     (keeps (changed c e) (changed c b) c.variable
@@ -54,6 +56,7 @@ path_agrees : (b d e : Environment) (live : List Module) (c : HandChange) (delim
     → MayChange (Some x) live e c → AgreesWithUse d c.variable x
 path_agrees b d e live c delim Untouched s k o same m = tt
 path_agrees b d e live c delim (Fixed value) s k o same m = absurd m
+path_agrees b d e live c delim Absent s k o same m = absurd m
 path_agrees b d e live c delim (Pathed g) s k o same m = subst (IsPathInOrder d c.variable) (sym (same g refl)) o
 path_agrees b d e live c delim Stacked s k o same m = λ xs l. inl (s ∙ sym k ∙ m)
 
@@ -79,6 +82,7 @@ changes_agree holds allowed site ms live start e m c settled agrees layered may 
         let k : HasValue start e c.variable (lookup start c.variable) = subst (λ (y : VariableUse). HasVariable y start c.variable live e) u (over.variables c.variable f) in
         given_agrees start e live c x f k.counters k.stack (each x a)
     here (Fixed value) x f u h s a = absurd h
+    here Absent x f u h s a = absurd h
     here (Pathed d) x f u h s a =
         let k : HasPath start e c.variable d (live_adds c.variable live) = subst (λ (y : VariableUse). HasVariable y start c.variable live e) u (over.variables c.variable f) in
         path_agrees start (start_by_use (Some (Pathed d)) live start e c) e live c d x

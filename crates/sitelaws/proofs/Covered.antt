@@ -1,50 +1,51 @@
 -- The ways that a file asks for are all ways, as far as it asks; and what evaluations that are alike leave in them.
-use Rattle.std.proofs.Common.{◌≡◌, ◌⊎◌, inl, inr, Bool, true, false, ◌&&◌, ◌||◌, not, List, [], ◌∷◌, ◌++◌, Result, Ok, Err, refl, sym}
+use Rattle.std.proofs.Common.{◌≡◌, ◌⊎◌, inl, inr, Bool, true, false, cond, ◌&&◌, ◌||◌, not, nat_le, length, List, [], ◌∷◌, ◌++◌, Result, Ok, Err, refl, ap, sym}
 use Rattle.std.proofs.Common.{◌∙◌, subst, Option, Some, None}
-use Rattle.std.specs.Prelude.{flat_map, is_none, bytes_eq}
-use Rattle.std.specs.List.{list_all}
-use Rattle.std.proofs.lemmas.Bool.{false≢true, and_parts, or_from}
+use Rattle.std.specs.Prelude.{flat_map, bytes_eq}
+use Rattle.std.specs.List.{list_all, cons_option}
+use Rattle.std.proofs.lemmas.Bool.{false≢true, and_parts, and_from, or_from}
 use Rattle.std.proofs.lemmas.List.Folds.{list_any-append}
 use Rattle.envvars.specs.Texts.{Text, has}
 use Rattle.shelltext.specs.declared.shell.Shell.{Shell}
 use Rattle.shelltext.specs.declared.shell.Shell.TheVariants.{Sh, Bash, Ksh, Zsh, Csh, Tcsh, Fish}
-use Rattle.tclrules.specs.Oracle.{Question}
-use Rattle.modulefile.specs.Calls.{InfoField}
+use Rattle.tclrules.specs.Oracle.{Question, OfCommand, OfVariable}
+use Rattle.modulefile.specs.Calls.{CallForm, adds_record, adds_message, getenv, is_loaded, own_name, typed_name, info, info_test}
+use Rattle.modulefile.specs.Calls.{call_of}
 use Rattle.modulefile.specs.Effects.{Mode, load, unload, display, whatis}
 use Rattle.modulefile.specs.Files.{Ran}
 use Rattle.modulefile.specs.Records.{Record, conflict_names}
-use Rattle.reversal.specs.VariableUses.{is_reversible}
+use Rattle.reversal.specs.VariableUses.{can_return, absent_in}
 use Rattle.reversal.specs.Undone.{UndoAlike}
 use Rattle.requests.specs.Reasons.{RequestReason}
 use Rattle.settled.specs.Resting.{rests, field_of, is_mode, is_shell, asks_mode, asks_shell, is_changing, variables_read}
-use Rattle.settled.specs.Ways.{Way, first_way, loading_in, more_in, ways_in, other_shells, ways_elsewhere, other_ways, FileRuns}
+use Rattle.settled.specs.Resting.{asks_way, call_asks_way, field_of_call, names_of, names_of_call, loaded_questions}
+use Rattle.settled.specs.LoadedAnswers.{is_one_of, once_after, are_few, distinct_questions, most_questions, questions_tried, loaded_lists}
+use Rattle.settled.specs.Ways.{Way, first_way, loading_in, more_in, ways_in, other_shells, ways_elsewhere, more_with, ways_with}
+use Rattle.settled.specs.Ways.{other_ways, FileRuns}
 use Rattle.settled.specs.Ways.{same_by, do_undo_alike, asks_no_more, loads_alike, records_alike, is_ran_alike, is_alike, are_alike}
 use Rattle.settled.specs.Ways.{are_runs_alike, keeps_answer, keep_answers, is_settled, read_in, reads_in}
 use Rattle.settled.specs.Laws.{UndoIsTested}
 use Rattle.settled.proofs.UndoTested.{texts_sound}
 use Rattle.sitecertificate.specs.RecordUses.{IsAmong}
 use Rattle.sitecertificate.proofs.UsedLemmas.{by_test, by_cases, among_left, among_right}
+use Rattle.sitecertificate.proofs.Exact.{all_each}
 use Rattle.sitelaws.specs.Sites.{Site, SiteModule, EvaluatesBy, EvaluateBy, EvaluatesTo}
 use Rattle.sitelaws.specs.Laws.{LoadAlike}
+use Rattle.sitelaws.proofs.Chosen.{in_flat, loaded_by, IsTried, is_tried_list, one_among, once_has}
 
 -- ---- the ways
 
-in_flat : {X Y : Type 0} (f : X → List Y) (xs : List X) (x : X) (y : Y) → IsAmong x xs → IsAmong y (f x) → IsAmong y (flat_map f xs)
-in_flat f [] x y a b = absurd a
-in_flat {X} {Y} f (z ∷ xs) x y (inl e) b = among_left y (f z) (flat_map f xs) (subst (λ (w : X). IsAmong y (f w)) e b)
-in_flat f (z ∷ xs) x y (inr a) b = among_right y (f z) (flat_map f xs) (in_flat f xs x y a b)
-
-abbrev way_of : Mode → Bool → Shell → Way
-way_of m s h = record { mode = m; in_switch = s; shell = h }
+abbrev way_of : Mode → Bool → Shell → List Text → Way
+way_of m s h loaded = record { mode = m; in_switch = s; shell = h; loaded = loaded }
 
 -- each way of a shell that changes the environment
-each_in : (m : Mode) (s : Bool) (h : Shell) → is_changing m ≡ true → IsAmong (way_of m s h) (ways_in true h)
-each_in load false h c = inl refl
-each_in load true h c = inr (inl refl)
-each_in unload false h c = inr (inr (inl refl))
-each_in unload true h c = inr (inr (inr (inl refl)))
-each_in display s h c = absurd (false≢true c)
-each_in whatis s h c = absurd (false≢true c)
+each_in : (m : Mode) (s : Bool) (h : Shell) (loaded : List Text) → is_changing m ≡ true → IsAmong (way_of m s h loaded) (ways_in true loaded h)
+each_in load false h loaded c = inl refl
+each_in load true h loaded c = inr (inl refl)
+each_in unload false h loaded c = inr (inr (inl refl))
+each_in unload true h loaded c = inr (inr (inr (inl refl)))
+each_in display s h loaded c = absurd (false≢true c)
+each_in whatis s h loaded c = absurd (false≢true c)
 
 each_shell : (h : Shell) → (h ≡ Sh) ⊎ IsAmong h other_shells
 each_shell Sh = inl refl
@@ -55,114 +56,177 @@ each_shell Csh = inr (inr (inr (inr (inl refl))))
 each_shell Tcsh = inr (inr (inr (inr (inr (inl refl)))))
 each_shell Fish = inr (inr (inr (inr (inr (inr (inl refl))))))
 
--- the first way, or one of the others of this mode and shell
-abbrev IsWay : Bool → Bool → Way → Type 0
-IsWay a b way = (way ≡ first_way) ⊎ IsAmong way (more_in a Sh ++ ways_elsewhere a b)
+in_sh : (a b : Bool) (loaded : List Text) (way : Way) → IsAmong way (ways_in a loaded Sh) → IsAmong way (ways_with a b loaded)
+in_sh a b loaded way (inl e) = inl e
+in_sh a b loaded way (inr i) = inr (among_left way (more_in a Sh loaded) (ways_elsewhere a b loaded) i)
 
-in_sh : (a b : Bool) (way : Way) → IsAmong way (ways_in a Sh) → IsWay a b way
-in_sh a b way (inl e) = inl e
-in_sh a b way (inr i) = inr (among_left way (more_in a Sh) (ways_elsewhere a b) i)
+elsewhere : (a : Bool) (h : Shell) (loaded : List Text) (way : Way) → (h ≡ Sh) ⊎ IsAmong h other_shells → IsAmong way (ways_in a loaded h) → IsAmong way (ways_with a true loaded)
+elsewhere a h loaded way (inl e) i = in_sh a true loaded way (subst (λ (x : Shell). IsAmong way (ways_in a loaded x)) e i)
+elsewhere a h loaded way (inr s) i = inr (among_right way (more_in a Sh loaded) (ways_elsewhere a true loaded) (in_flat (ways_in a loaded) other_shells h way s i))
 
-elsewhere : (a : Bool) (h : Shell) (way : Way) → (h ≡ Sh) ⊎ IsAmong h other_shells → IsAmong way (ways_in a h) → IsWay a true way
-elsewhere a h way (inl e) i = in_sh a true way (subst (λ (x : Shell). IsAmong way (ways_in a x)) e i)
-elsewhere a h way (inr s) i = inr (among_right way (more_in a Sh) (ways_elsewhere a true) (in_flat (ways_in a) other_shells h way s i))
+-- the first way, or one of the others, where this is asked for and these questions are answered by each choice
+abbrev IsWay : Bool → Bool → List (List Text) → Way → Type 0
+IsWay a b questions way = (way ≡ first_way) ⊎ IsAmong way (more_with a b [] ++ flat_map (ways_with a b) (loaded_lists questions))
 
--- a way that is the same as this mode, half and shell, as far as these are asked for
-pub record Matches (a b : Bool) (m : Mode) (s : Bool) (h : Shell) (way : Way) : Type 0 where
-  pub asked : IsWay a b way
+with_nothing : (a b : Bool) (questions : List (List Text)) (way : Way) → IsAmong way (ways_with a b []) → IsWay a b questions way
+with_nothing a b questions way (inl e) = inl e
+with_nothing a b questions way (inr i) = inr (among_left way (more_with a b []) (flat_map (ways_with a b) (loaded_lists questions)) i)
+
+with_chosen : (a b : Bool) (questions : List (List Text)) (loaded : List Text) (way : Way) → IsTried loaded questions → IsAmong way (ways_with a b loaded) → IsWay a b questions way
+with_chosen a b questions loaded way (inl e) i = with_nothing a b questions way (subst (λ (l : List Text). IsAmong way (ways_with a b l)) e i)
+with_chosen a b questions loaded way (inr c) i =
+    inr (among_right way (more_with a b []) (flat_map (ways_with a b) (loaded_lists questions)) (in_flat (ways_with a b) (loaded_lists questions) loaded way c i))
+
+-- a way with these loaded that is the same as this mode, half and shell, as far as these are asked for
+pub record Matches (a b : Bool) (m : Mode) (s : Bool) (h : Shell) (loaded : List Text) (way : Way) : Type 0 where
+  pub asked : IsAmong way (ways_with a b loaded)
   pub changing : is_changing way.mode ≡ true
   pub mode : a ≡ true → way.mode ≡ m
   pub in_switch : a ≡ true → way.in_switch ≡ s
   pub shell : b ≡ true → way.shell ≡ h
+  pub with_loaded : way.loaded ≡ loaded
   pub loads : m ≡ load → way.mode ≡ load
 
-pub matched : (a b : Bool) (m : Mode) (s : Bool) (h : Shell) → is_changing m ≡ true → (way : Way) × Matches a b m s h way
-matched false false m s h c = (
-  first_way,
+pub matched : (a b : Bool) (m : Mode) (s : Bool) (h : Shell) (loaded : List Text) → is_changing m ≡ true → (way : Way) × Matches a b m s h loaded way
+matched false false m s h loaded c = (
+  loading_in Sh loaded,
   record {
     asked = inl refl;
     changing = refl;
     mode = λ t. absurd (false≢true t);
     in_switch = λ t. absurd (false≢true t);
     shell = λ t. absurd (false≢true t);
+    with_loaded = refl;
     loads = λ e. refl;
   },
 )
-matched true false m s h c = (
-  way_of m s Sh,
+matched true false m s h loaded c = (
+  way_of m s Sh loaded,
   record {
-    asked = in_sh true false (way_of m s Sh) (each_in m s Sh c);
+    asked = in_sh true false loaded (way_of m s Sh loaded) (each_in m s Sh loaded c);
     changing = c;
     mode = λ t. refl;
     in_switch = λ t. refl;
     shell = λ t. absurd (false≢true t);
+    with_loaded = refl;
     loads = λ e. e;
   },
 )
-matched false true m s h c = (
-  loading_in h,
+matched false true m s h loaded c = (
+  loading_in h loaded,
   record {
-    asked = elsewhere false h (loading_in h) (each_shell h) (inl refl);
+    asked = elsewhere false h loaded (loading_in h loaded) (each_shell h) (inl refl);
     changing = refl;
     mode = λ t. absurd (false≢true t);
     in_switch = λ t. absurd (false≢true t);
     shell = λ t. refl;
+    with_loaded = refl;
     loads = λ e. refl;
   },
 )
-matched true true m s h c = (
-  way_of m s h,
+matched true true m s h loaded c = (
+  way_of m s h loaded,
   record {
-    asked = elsewhere true h (way_of m s h) (each_shell h) (each_in m s h c);
+    asked = elsewhere true h loaded (way_of m s h loaded) (each_shell h) (each_in m s h loaded c);
     changing = c;
     mode = λ t. refl;
     in_switch = λ t. refl;
     shell = λ t. refl;
+    with_loaded = refl;
     loads = λ e. e;
   },
 )
 
+-- with what the choice of its answers has loaded, it is one of the ways that are asked for
+pub is_way : (a b : Bool) (m : Mode) (s : Bool) (h : Shell) (questions : List (List Text)) (loaded : List Text) (way : Way) → Matches a b m s h (loaded_by loaded questions) way → IsWay a b questions way
+is_way a b m s h questions loaded way w = with_chosen a b questions (loaded_by loaded questions) way (is_tried_list loaded questions) w.asked
+
 -- ---- settled evaluations
 
 -- what asks nothing of the way
-none_of_way : (o : Option InfoField) → is_none o ≡ true → (is_mode o ≡ false) × (is_shell o ≡ false)
-none_of_way None h = (refl, refl)
-none_of_way (Some f) h = absurd (false≢true h)
+pub record AsksNothing (asked : List Question) : Type 0 where
+  pub mode : asks_mode asked ≡ false
+  pub shell : asks_shell asked ≡ false
+  pub loaded : loaded_questions asked ≡ []
 
-abbrev AsksNothing : List Question → Type 0
-AsksNothing asked = (asks_mode asked ≡ false) × (asks_shell asked ≡ false)
+by_call : (call : CallForm) → call_asks_way call ≡ false → (field_of_call call ≡ None) × (names_of_call call ≡ None)
+by_call (Err reason) h = (refl, refl)
+by_call (Ok (adds_record r)) h = (refl, refl)
+by_call (Ok (adds_message text)) h = (refl, refl)
+by_call (Ok (getenv var default)) h = (refl, refl)
+by_call (Ok (is_loaded names)) h = absurd (false≢true (sym h))
+by_call (Ok own_name) h = (refl, refl)
+by_call (Ok typed_name) h = (refl, refl)
+by_call (Ok (info field)) h = absurd (false≢true (sym h))
+by_call (Ok (info_test field word)) h = absurd (false≢true (sym h))
+
+none_of_way : (q : Question) → asks_way q ≡ false → (field_of q ≡ None) × (names_of q ≡ None)
+none_of_way (OfCommand words answer) h = by_call (call_of words) h
+none_of_way (OfVariable name value) h = (refl, refl)
 
 asks_nothing : (rs : List Record) (asked : List Question) → list_all (keeps_answer false rs) asked ≡ true → AsksNothing asked
-asks_nothing rs [] h = (refl, refl)
+asks_nothing rs [] h = record { mode = refl; shell = refl; loaded = refl }
 asks_nothing rs (q ∷ asked) h =
     let p = and_parts (keeps_answer false rs q) (list_all (keeps_answer false rs) asked) h in
-    let n = none_of_way (field_of q) (and_parts (rests rs q) (is_none (field_of q)) p.0).1 in
+    let unasked : asks_way q ≡ false = not_from (asks_way q) (and_parts (rests rs q) (not (asks_way q)) p.0).1 in
+    let n = none_of_way q unasked in
     let more = asks_nothing rs asked p.1 in
-    (or_from (is_mode (field_of q)) (asks_mode asked) n.0 more.0, or_from (is_shell (field_of q)) (asks_shell asked) n.1 more.1)
+    record {
+      mode = or_from (is_mode (field_of q)) (asks_mode asked) (ap is_mode n.0) more.mode;
+      shell = or_from (is_shell (field_of q)) (asks_shell asked) (ap is_shell n.0) more.shell;
+      loaded = (λ i. cons_option (n.1 i) (more.loaded i));
+    }
+  where
+    not_from : (b : Bool) → not b ≡ true → b ≡ false
+    not_from true e = absurd (false≢true e)
+    not_from false e = refl
 
 all_rest : (alike : Bool) (rs : List Record) (asked : List Question) → list_all (keeps_answer alike rs) asked ≡ true → list_all (rests rs) asked ≡ true
 all_rest alike rs [] h = refl
 all_rest alike rs (q ∷ asked) h =
     let p = and_parts (keeps_answer alike rs q) (list_all (keeps_answer alike rs) asked) h in
-    let one = (and_parts (rests rs q) (alike || is_none (field_of q)) p.0).0 in
+    let one = (and_parts (rests rs q) (alike || not (asks_way q)) p.0).0 in
     let more = all_rest alike rs asked p.1 in rw (one, more) refl
 
 pub first_rests : (runs : FileRuns RequestReason) → keep_answers runs ≡ true → list_all (rests runs.first.records) runs.first.asked ≡ true
 first_rests runs h = all_rest (are_runs_alike runs) runs.first.records runs.first.asked h
 
 -- without other ways there is nothing that could be unlike
-no_others : (site : Site) (m : SiteModule) (first : Ran) (a b : Bool) (os : List (Result Ran RequestReason)) → a ≡ false → b ≡ false
-    → EvaluateBy site m (more_in a Sh ++ ways_elsewhere a b) os → are_alike first (more_in a Sh ++ ways_elsewhere a b) os ≡ true
-no_others site m first false false [] ea eb h = refl
-no_others site m first false false (o ∷ os) ea eb h = absurd h
-no_others site m first true b os ea eb h = absurd (false≢true (sym ea))
-no_others site m first false true os ea eb h = absurd (false≢true (sym eb))
+no_others : (site : Site) (m : SiteModule) (first : Ran) (a b : Bool) (questions : List (List Text)) (os : List (Result Ran RequestReason)) → a ≡ false → b ≡ false → questions ≡ []
+    → EvaluateBy site m (more_with a b [] ++ flat_map (ways_with a b) (loaded_lists questions)) os
+    → are_alike first (more_with a b [] ++ flat_map (ways_with a b) (loaded_lists questions)) os ≡ true
+no_others site m first false false [] [] ea eb en h = refl
+no_others site m first false false [] (o ∷ os) ea eb en h = absurd h
+no_others site m first false false (n ∷ questions) os ea eb en h = absurd (cc)
+no_others site m first true b questions os ea eb en h = absurd (false≢true (sym ea))
+no_others site m first false true questions os ea eb en h = absurd (false≢true (sym eb))
 
-alike : (site : Site) (m : SiteModule) (runs : FileRuns RequestReason) → EvaluatesTo site m (Ok runs) → keep_answers runs ≡ true → are_runs_alike runs ≡ true
+few_none : (asked : List Question) → AsksNothing asked → are_few asked ≡ true
+few_none asked n = (λ i. nat_le (length (once_after [] (n.loaded i))) (most_questions (n.mode i) (n.shell i)))
+
+tried_none : (asked : List Question) → AsksNothing asked → questions_tried asked ≡ []
+tried_none asked n = ap (λ (b : Bool). cond b (distinct_questions asked) []) (few_none asked n) ∙ ap (once_after []) n.loaded
+
+pub alike : (site : Site) (m : SiteModule) (runs : FileRuns RequestReason) → EvaluatesTo site m (Ok runs) → keep_answers runs ≡ true → are_runs_alike runs ≡ true
 alike site m runs e h = by_test (are_runs_alike runs) _ (λ t. t) (λ f.
-    let n = asks_nothing runs.first.records runs.first.asked
-    (subst (λ (x : Bool). list_all (keeps_answer x runs.first.records) runs.first.asked ≡ true) f h) in
-    no_others site m runs.first (asks_mode runs.first.asked) (asks_shell runs.first.asked) runs.others n.0 n.1 e.1)
+    let asked = runs.first.asked in
+    let n = asks_nothing runs.first.records asked
+    (subst (λ (x : Bool). list_all (keeps_answer x runs.first.records) asked ≡ true) f h) in
+    and_from (are_few asked) (are_alike runs.first (other_ways asked) runs.others) (few_none asked n)
+    (no_others site m runs.first (asks_mode asked) (asks_shell asked) (questions_tried asked) runs.others n.mode n.shell (tried_none asked n) e.1))
+
+pub are_alike_there : (site : Site) (m : SiteModule) (runs : FileRuns RequestReason) → EvaluatesTo site m (Ok runs) → keep_answers runs ≡ true
+    → are_alike runs.first (other_ways runs.first.asked) runs.others ≡ true
+are_alike_there site m runs e h = (and_parts (are_few runs.first.asked) (are_alike runs.first (other_ways runs.first.asked) runs.others) (alike site m runs e h)).1
+
+-- each question of what is loaded is answered by each choice
+pub are_tried : (site : Site) (m : SiteModule) (runs : FileRuns RequestReason) → EvaluatesTo site m (Ok runs) → is_settled runs ≡ true
+    → distinct_questions runs.first.asked ≡ questions_tried runs.first.asked
+are_tried site m runs e h =
+    let asked = runs.first.asked in
+    let p = and_parts (keep_answers runs) (list_all can_return runs.first.records) h in
+    let few = (and_parts (are_few asked) (are_alike runs.first (other_ways asked) runs.others) (alike site m runs e p.0)).0 in
+    sym (ap (λ (b : Bool). cond b (distinct_questions asked) []) few)
 
 -- ---- what an evaluation leaves in a way
 
@@ -172,8 +236,13 @@ not_or false b h t = absurd (false≢true t)
 
 load_alike : (m : Mode) (rs qs : List Record) → loads_alike m rs qs ≡ true → m ≡ load → LoadAlike rs qs
 load_alike load rs qs h e =
-    let p = and_parts (list_all is_reversible qs) (same_by bytes_eq (conflict_names rs) (conflict_names qs)) h in
-    record { reversible = p.0; conflicts = sym (texts_sound (conflict_names rs) (conflict_names qs) p.1) }
+    let p = and_parts (list_all can_return qs) (same_by bytes_eq (absent_in rs) (absent_in qs) && same_by bytes_eq (conflict_names rs) (conflict_names qs)) h in
+    let q = and_parts (same_by bytes_eq (absent_in rs) (absent_in qs)) (same_by bytes_eq (conflict_names rs) (conflict_names qs)) p.1 in
+    record {
+      returns = p.0;
+      absent = sym (texts_sound (absent_in rs) (absent_in qs) q.0);
+      conflicts = sym (texts_sound (conflict_names rs) (conflict_names qs) q.1);
+    }
 load_alike unload rs qs h e = absurd (cc)
 load_alike display rs qs h e = absurd (cc)
 load_alike whatis rs qs h e = absurd (cc)
@@ -185,6 +254,7 @@ pub record IsLike (site : Site) (m : SiteModule) (runs : FileRuns RequestReason)
   pub rested : list_all (rests ran.records) ran.asked ≡ true
   pub of_mode : asks_mode ran.asked ≡ true → asks_mode runs.first.asked ≡ true
   pub of_shell : asks_shell ran.asked ≡ true → asks_shell runs.first.asked ≡ true
+  pub of_loaded : (names : List Text) → IsAmong names (loaded_questions ran.asked) → IsAmong names (distinct_questions runs.first.asked)
   pub undoes : UndoAlike ran.records runs.first.records
   pub loads : way.mode ≡ load → LoadAlike runs.first.records ran.records
   pub reads : (v : Text) → has v (variables_read ran.asked) ≡ true → has v (reads_in runs) ≡ true
@@ -245,15 +315,16 @@ has_outcome site m first (w ∷ ways) (o ∷ os) way h a (inr i) =
 
 first_like : (site : Site) (m : SiteModule) (runs : FileRuns RequestReason) → EvaluatesTo site m (Ok runs) → is_settled runs ≡ true → IsLike site m runs first_way
 first_like site m runs e h =
-    let p = and_parts (keep_answers runs) (list_all is_reversible runs.first.records) h in
+    let p = and_parts (keep_answers runs) (list_all can_return runs.first.records) h in
     record {
       ran = runs.first;
       evaluated = e.0;
       rested = first_rests runs p.0;
       of_mode = λ t. t;
       of_shell = λ t. t;
+      of_loaded = λ names a. once_has names [] (loaded_questions runs.first.asked) (inr a);
       undoes = refl;
-      loads = λ l. record { reversible = p.1; conflicts = refl };
+      loads = λ l. record { returns = p.1; absent = refl; conflicts = refl };
       reads = read_first runs;
     }
 
@@ -263,14 +334,20 @@ other_like tested site m runs way h =
     let ran = h.ran in
     let p = and_parts (list_all (rests ran.records) ran.asked) (asks_no_more first.asked ran.asked && records_alike way.mode first.records ran.records) h.like_first in
     let q = and_parts (asks_no_more first.asked ran.asked) (records_alike way.mode first.records ran.records) p.1 in
-    let n = and_parts (not (asks_mode ran.asked) || asks_mode first.asked) (not (asks_shell ran.asked) || asks_shell first.asked) q.0 in
+    let is_known : List Text → Bool = λ names. is_one_of names (distinct_questions first.asked) in
+    let known = list_all is_known (distinct_questions ran.asked) in
+    let n = and_parts (not (asks_mode ran.asked) || asks_mode first.asked) ((not (asks_shell ran.asked) || asks_shell first.asked) && known) q.0 in
+    let k = and_parts (not (asks_shell ran.asked) || asks_shell first.asked) known n.1 in
     let r = and_parts (do_undo_alike first.records ran.records) (loads_alike way.mode first.records ran.records) q.1 in
     record {
       ran = ran;
       evaluated = h.evaluated;
       rested = p.0;
       of_mode = not_or (asks_mode ran.asked) (asks_mode first.asked) n.0;
-      of_shell = not_or (asks_shell ran.asked) (asks_shell first.asked) n.1;
+      of_shell = not_or (asks_shell ran.asked) (asks_shell first.asked) k.0;
+      of_loaded = λ names a.
+          one_among names (distinct_questions first.asked)
+          (all_each is_known (distinct_questions ran.asked) k.1 names (once_has names [] (loaded_questions ran.asked) (inr a)));
       undoes = sym ((tested first.records ran.records).0 r.0);
       loads = load_alike way.mode first.records ran.records r.1;
       reads = λ v t. read_later runs v (read_other v runs.others (Ok ran) h.among t);
@@ -278,12 +355,12 @@ other_like tested site m runs way h =
 
 -- in each way that matches one, the evaluation is like the first
 pub in_way : UndoIsTested → (site : Site) (m : SiteModule) (runs : FileRuns RequestReason) (way : Way) → EvaluatesTo site m (Ok runs) → is_settled runs ≡ true
-    → IsWay (asks_mode runs.first.asked) (asks_shell runs.first.asked) way → IsLike site m runs way
+    → IsWay (asks_mode runs.first.asked) (asks_shell runs.first.asked) (questions_tried runs.first.asked) way → IsLike site m runs way
 in_way tested site m runs way e h (inl same) = subst (IsLike site m runs) (sym same) (first_like site m runs e h)
 in_way tested site m runs way e h (inr i) =
-    let p = and_parts (keep_answers runs) (list_all is_reversible runs.first.records) h in
+    let p = and_parts (keep_answers runs) (list_all can_return runs.first.records) h in
     other_like tested site m runs way
-    (has_outcome site m runs.first (other_ways runs.first.asked) runs.others way e.1 (alike site m runs e p.0) i)
+    (has_outcome site m runs.first (other_ways runs.first.asked) runs.others way e.1 (are_alike_there site m runs e p.0) i)
 
 -- ---- what is read
 
@@ -318,7 +395,7 @@ at_rest_later v first (way ∷ ways) (o ∷ os) a h =
 pub read_at_rest : (site : Site) (m : SiteModule) (runs : FileRuns RequestReason) (v : Text) → EvaluatesTo site m (Ok runs) → is_settled runs ≡ true → has v (reads_in runs) ≡ true
     → IsReadAtRest v
 read_at_rest site m runs v e h r =
-    let p = and_parts (keep_answers runs) (list_all is_reversible runs.first.records) h in
+    let p = and_parts (keep_answers runs) (list_all can_return runs.first.records) h in
     by_cases (either_has v (variables_read runs.first.asked) (flat_map read_in runs.others) r)
     (λ t. record { ran = runs.first; rested = first_rests runs p.0; read = t })
-    (λ t. at_rest_later v runs.first (other_ways runs.first.asked) runs.others (alike site m runs e p.0) t)
+    (λ t. at_rest_later v runs.first (other_ways runs.first.asked) runs.others (are_alike_there site m runs e p.0) t)

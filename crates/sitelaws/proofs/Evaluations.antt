@@ -10,15 +10,11 @@ use Rattle.modulefile.specs.Files.{Ran, RunsFile}
 use Rattle.modulefile.specs.Laws as files
 use Rattle.requests.specs.Refusals.{refused_as, RefusedAs}
 use Rattle.requests.specs.Reasons.{RequestReason, file_refused}
-use Rattle.requests.specs.Steps.{RequestContext, request_context_in, entries_of, script_at, context_of}
+use Rattle.requests.specs.Steps.{RequestContext, entries_of, script_at}
 use Rattle.requests.proofs.Bound.{went_on}
 use Rattle.settled.specs.Ways.{Way, first_way, other_ways, FileRuns, reads_in}
-use Rattle.sitelaws.specs.Sites.{Site, SiteModule, EvaluatesBy, EvaluateBy, EvaluatesTo, HasSettledRecords, Reads}
+use Rattle.sitelaws.specs.Sites.{Site, SiteModule, over_site, context_in, EvaluatesBy, EvaluateBy, EvaluatesTo, HasSettledRecords, Reads}
 use Rattle.sitelaws.proofs.Parts.{ran_ok, script_held}
-
--- what a request is run over in the shell of a way
-abbrev in_way : Site → Way → RequestContext
-in_way site way = request_context_in site.limits way.shell site.files site.listings
 
 -- the text that was evaluated, and its run in a context of the way in the environment at hand
 pub record IsEvaluated (site : Site) (way : Way) (m : SiteModule) (ran : Ran) : Type 0 where
@@ -31,28 +27,27 @@ pub record IsEvaluated (site : Site) (way : Way) (m : SiteModule) (ran : Ran) : 
   pub mode : context.mode ≡ way.mode
   pub in_switch : context.in_switch ≡ way.in_switch
   pub shell : context.shell ≡ way.shell
+  pub loaded : context.loaded ≡ way.loaded
   pub runs : RunsFile site.limits context text (Ok ran)
 
 pub evaluated : (site : Site) (way : Way) (m : SiteModule) (ran : Ran) → EvaluatesBy site way m (Ok ran) → IsEvaluated site way m ran
 evaluated site way m ran h =
     let xs = went_on (Is (entries_of site.env)) (λ ys. Is (script_at m.path (modulefile (site.files m.path))) >>
-    (λ text. RefusedAs file_refused (RunsFile site.limits
-    (context_of (in_way site way) way.mode way.in_switch m.name m.name m.path ys site.env) text))) ran h in
+    (λ text. RefusedAs file_refused (RunsFile site.limits (context_in site way m) text))) ran h in
     let text = went_on (Is (script_at m.path (modulefile (site.files m.path))))
-    (λ t. RefusedAs file_refused (RunsFile site.limits
-    (context_of (in_way site way) way.mode way.in_switch m.name m.name m.path xs.0 site.env) t)) ran xs.2 in
-    let c = context_of (in_way site way) way.mode way.in_switch m.name m.name m.path xs.0 site.env in
+    (λ t. RefusedAs file_refused (RunsFile site.limits (context_in site way m) t)) ran xs.2 in
     record {
       text = text.0;
       file = script_held m.path text.0 (modulefile (site.files m.path)) text.1;
-      context = c;
+      context = context_in site way m;
       named = refl;
       at_path = refl;
       before = refl;
       mode = refl;
       in_switch = refl;
       shell = refl;
-      runs = ran_ok (in_way site way) c text.0 ran text.2;
+      loaded = refl;
+      runs = ran_ok (over_site site) (context_in site way m) text.0 ran text.2;
     }
 
 -- it has an outcome
@@ -68,7 +63,7 @@ some_by : files.SomeOutcome → (site : Site) (way : Way) (m : SiteModule) → I
 some_by runs site way m =
     some_after (Is (entries_of site.env)) _ (entries_of site.env) refl (λ xs.
     some_after (Is (script_at m.path (modulefile (site.files m.path)))) _ (script_at m.path (modulefile (site.files m.path))) refl (λ text.
-    let o = runs site.limits (context_of (in_way site way) way.mode way.in_switch m.name m.name m.path xs site.env) text in
+    let o = runs site.limits (context_in site way m) text in
     (refused_as file_refused o.0, (o.0, o.1, refl))))
 
 some_others : files.SomeOutcome → (site : Site) (m : SiteModule) (ways : List Way) → (os : List (Result Ran RequestReason)) × EvaluateBy site m ways os
@@ -92,8 +87,7 @@ one_by : files.OneOutcome → (site : Site) (way : Way) (m : SiteModule) → IsO
 one_by one site way m =
     one_then (one_is (entries_of site.env)) (λ xs. one_then (one_is (script_at m.path (modulefile (site.files m.path)))) (λ text.
     one_refused_as {f = file_refused}
-    {First = RunsFile site.limits (context_of (in_way site way) way.mode way.in_switch m.name m.name m.path xs site.env) text}
-    (one site.limits (context_of (in_way site way) way.mode way.in_switch m.name m.name m.path xs site.env) text)))
+    {First = RunsFile site.limits (context_in site way m) text} (one site.limits (context_in site way m) text)))
 
 one_others : files.OneOutcome → (site : Site) (m : SiteModule) (ways : List Way) (os ps : List (Result Ran RequestReason)) → EvaluateBy site m ways os → EvaluateBy site m ways ps → os ≡ ps
 one_others one site m [] [] [] h k = refl

@@ -1,6 +1,7 @@
 mod Parts
 pub mod Evaluations
 mod Admissions
+mod Chosen
 mod Covered
 mod SettledRecords
 mod Standing

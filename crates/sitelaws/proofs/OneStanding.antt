@@ -8,7 +8,7 @@ use Rattle.envvars.specs.Fields.{colon}
 use Rattle.modulefile.specs.Records.{Record}
 use Rattle.modulefile.specs.Moves.{Module}
 use Rattle.modulefile.specs.Laws as files
-use Rattle.reversal.specs.VariableUses.{VariableUse, Pathed, is_reversible}
+use Rattle.reversal.specs.VariableUses.{VariableUse, Pathed, can_return}
 use Rattle.requests.specs.Reasons.{RequestReason}
 use Rattle.settled.specs.Ways.{FileRuns, are_runs_alike, keeps_answer, keep_answers}
 use Rattle.sitecertificate.specs.RecordUses.{used_by, IsAmong, modulepath, same_use, AreInStep}
@@ -27,7 +27,7 @@ abbrev Outcome : Type 0
 Outcome = Result (FileRuns RequestReason) RequestReason
 
 abbrev seen : Outcome → ℕ
-seen (Ok runs) = cond (keep_answers runs) (cond (list_all is_reversible runs.first.records) 1 2) 3
+seen (Ok runs) = cond (keep_answers runs) (cond (list_all can_return runs.first.records) 1 2) 3
 seen (Err reason) = 0
 
 abbrev said : Standing → ℕ
@@ -54,14 +54,14 @@ Says site m s = (o : Outcome) × EvaluatesTo site m o × (seen o ≡ said s)
 
 of_settled : (site : Site) (m : SiteModule) (rs : List Record) → HasSettledRecords site m rs → (o : Outcome) × EvaluatesTo site m o × (seen o ≡ 1)
 of_settled site m rs p =
-    let k = and_parts (keep_answers p.runs) (list_all is_reversible p.runs.first.records) p.settled in
+    let k = and_parts (keep_answers p.runs) (list_all can_return p.runs.first.records) p.settled in
     (Ok p.runs, p.evaluated, rw (k.0, k.1) refl)
 
 says : (site : Site) (ms : List Module) (m : SiteModule) (s : Standing) → HasStanding site ms m s → Says site m s
 says site ms m Certified h = of_settled site m h.0 h.1
 says site ms m (Asks q) (runs, h, first) =
     (Ok runs, h, rw (not_all (keeps_answer (are_runs_alike runs) runs.first.records) runs.first.asked q first) refl)
-says site ms m (OneWay r) (runs, h, kept, first) = (Ok runs, h, rw (kept, not_all is_reversible runs.first.records r first) refl)
+says site ms m (OneWay r) (runs, h, kept, first) = (Ok runs, h, rw (kept, not_all can_return runs.first.records r first) refl)
 says site ms m (ReadsUsed v n) h = of_settled site m h.0 h.1
 says site ms m (OutOfStep v x y) h = of_settled site m h.0 h.1
 says site ms m (Clashes v x y n) h = of_settled site m h.0 h.1

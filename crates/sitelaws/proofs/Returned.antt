@@ -184,10 +184,14 @@ are_certified one exact conflicts preserve law site ms live start old new (Loads
       name = name;
       path = path;
       alike = now.undoes;
-      reversible = (now.loads refl).reversible;
+      returns = (now.loads refl).returns;
+      absent = (now.loads refl).absent;
       conflicts = (now.loads refl).conflicts;
     } in
-    let agreeing : AgreesWith (used_by m.records) start = subst (λ (ps : List UsedVariable). AgreesWith ps start) (sym (used_alike m.records c.records now.undoes)) agrees in
+    let agreeing : AgreesWith (used_by m.records) start = record {
+      loaded = agrees.loaded;
+      uses = λ v x u. agrees.uses v x (used_alike m.records c.records now.undoes (now.loads refl).absent (v, x) u);
+    } in
     let free = none_in_conflict conflicts start old live m first.0 first.1 layered.start_with_live admitted in
     let h = preserve ms start old mid live (Loads m ∷ []) layered (is_certain, agreeing, free, tt) (fits, (mid, move, refl)) in (
       is_certain,

@@ -1,21 +1,25 @@
 -- A settled module leaves records that undo alike wherever the variables that it reads have the values of the environment
 -- at hand. What it reads is a variable of the user's.
-use Rattle.std.proofs.Common.{◌≡◌, inl, inr, List, Ok, Err, ap, sym, ◌∙◌, subst}
+use Rattle.std.proofs.Common.{◌≡◌, inl, inr, List, ◌∷◌, Ok, Err, ap, sym, ◌∙◌, subst}
 use Rattle.envvars.specs.Texts.{Text}
 use Rattle.envvars.specs.Environment.{Environment}
 use Rattle.filetree.specs.Modulefiles.{script, modulefile}
+use Rattle.modulefile.specs.Answers.{any_loaded}
 use Rattle.modulefile.specs.Records.{Record}
+use Rattle.sitecertificate.specs.RecordUses.{IsAmong}
 use Rattle.modulefile.specs.Files.{Ran, refused_by, RunsFile, IsSameOrRefused}
 use Rattle.modulefile.specs.Laws as files
 use Rattle.reversal.specs.Undone.{UndoAlike}
 use Rattle.requests.specs.Steps.{RequestContext}
 use Rattle.settled.specs.Resting.{asks_mode, asks_shell, variables_read, IsSameWay, AreAlike}
+use Rattle.settled.specs.LoadedAnswers.{questions_tried}
 use Rattle.settled.specs.Laws.{SettledFilesAgree, UndoIsTested}
 use Rattle.settled.proofs.Rests.{IsOfUser, resting_parts}
 use Rattle.settled.proofs.ReadVariables.{read_rests}
 use Rattle.sitelaws.specs.Sites.{Site, SiteModule, over_site, HasSettledRecords, Reads}
 use Rattle.sitelaws.specs.Laws.{LoadAlike, SettledRecordsAreAll}
-use Rattle.sitelaws.proofs.Covered.{matched, in_way, read_at_rest}
+use Rattle.sitelaws.proofs.Chosen.{loaded_by, chosen_alike, all_loaded}
+use Rattle.sitelaws.proofs.Covered.{matched, is_way, are_tried, in_way, read_at_rest}
 use Rattle.sitelaws.proofs.Evaluations.{evaluated, read_by_runs}
 
 pub of_user : files.OneOutcome → (site : Site) (m : SiteModule) (rs : List Record) (v : Text) → HasSettledRecords site m rs → Reads site m v → IsOfUser v
@@ -32,14 +36,21 @@ agreed ran other (inr (n, refusal, same)) = absurd (let r : Ok other ≡ Err (re
 
 pub settled_records : SettledFilesAgree → UndoIsTested → SettledRecordsAreAll
 settled_records law tested site m rs ran left p changing alike =
-    let found = matched (asks_mode p.runs.first.asked) (asks_shell p.runs.first.asked) left.context.mode left.context.in_switch left.context.shell changing in
+    let asked = p.runs.first.asked in
+    let questions = questions_tried asked in
+    let loaded = left.context.loaded in
+    let found = matched (asks_mode asked) (asks_shell asked) left.context.mode left.context.in_switch left.context.shell (loaded_by loaded questions) changing in
     let way = found.1 in
-    let there = in_way tested site m p.runs found.0 p.evaluated p.settled way.asked in
+    let there = in_way tested site m p.runs found.0 p.evaluated p.settled
+    (is_way (asks_mode asked) (asks_shell asked) left.context.mode left.context.in_switch left.context.shell questions loaded found.0 way) in
     let a = evaluated site found.0 m there.ran there.evaluated in
     let same_way : IsSameWay there.ran.asked a.context left.context = record {
       mode = λ t. sym (a.mode ∙ way.mode (there.of_mode t));
       in_switch = λ t. sym (a.in_switch ∙ way.in_switch (there.of_mode t));
       shell = λ t. sym (a.shell ∙ way.shell (there.of_shell t));
+      loaded = all_loaded (λ names. any_loaded names loaded ≡ any_loaded names a.context.loaded) there.ran.records there.ran.asked there.rested (λ n ns i.
+          sym (ap (any_loaded (n ∷ ns)) (a.loaded ∙ way.with_loaded)
+          ∙ chosen_alike loaded questions n ns (subst (IsAmong (n ∷ ns)) (are_tried site m p.runs p.evaluated p.settled) (there.of_loaded (n ∷ ns) i))));
     } in
     let values : AreAlike (variables_read there.ran.asked) a.context.before left.context.before =
     subst (λ (e : Environment). AreAlike (variables_read there.ran.asked) e left.context.before) (sym a.before)

@@ -10,7 +10,7 @@ use Rattle.envvars.proofs.TextLemmas.{same_text}
 use Rattle.modulefile.specs.Records.{Record}
 use Rattle.modulefile.specs.Moves.{Module}
 use Rattle.modulefile.specs.Laws as files
-use Rattle.reversal.specs.VariableUses.{VariableUse, Pathed, is_reversible, UsedVariable}
+use Rattle.reversal.specs.VariableUses.{VariableUse, Pathed, can_return, UsedVariable}
 use Rattle.requests.specs.Reasons.{RequestReason}
 use Rattle.settled.specs.Ways.{FileRuns, are_runs_alike, keeps_answer, keep_answers, reads_in}
 use Rattle.sitecertificate.specs.RecordUses.{used_by, used_by_modules, IsAmong, modulepath, same_use, use_alike}
@@ -88,25 +88,25 @@ abbrev Stands : Site → List Module → SiteModule → Type 0
 Stands site ms m = (standing : Standing) × HasStanding site ms m standing
 
 candidate_stands : (site : Site) (ms : List Module) (m : SiteModule) (rs : List Record)
-    → AreCandidates site ms → IsOfSite site m → HasSettledRecords site m rs → HasFreeReads site m → list_all is_reversible rs ≡ true
+    → AreCandidates site ms → IsOfSite site m → HasSettledRecords site m rs → HasFreeReads site m → list_all can_return rs ≡ true
     → Stands site ms m
-candidate_stands site ms m rs all of_site p free reversible =
+candidate_stands site ms m rs all of_site p free returns =
     let n : Module = with_records m rs in
     let listed : IsAmong n ms = (all n).1 (record { settled = record { of_site = of_site; records = p }; free = free }) in
     by_test (are_in_step (used_by rs)) _
-    (λ t. let s : is_in_step n ≡ true = and_from (list_all is_reversible rs) (are_in_step (used_by rs)) reversible t in
+    (λ t. let s : is_in_step n ≡ true = and_from (list_all can_return rs) (are_in_step (used_by rs)) returns t in
     by_test (list_any (λ k. is_other n k && do_clash n k) (certified ms)) _
     (λ c. let k = clash ms n (in_step n s) c in (Clashes k.0 k.1 k.2 k.3, (rs, p, free, k.4)))
     (λ c. (Certified, (rs, p, free, no_clash ms n listed (in_step n s) c))))
     (λ f. let k = out_of_step rs f in (OutOfStep k.0 k.1 k.2, (rs, p, free, k.3)))
 
 settled_stands : files.OneOutcome → (site : Site) (settled ms : List Module) (m : SiteModule) (runs : FileRuns RequestReason) → AreSettledModules site settled → AreCandidates site ms
-    → IsOfSite site m → EvaluatesTo site m (Ok runs) → keep_answers runs ≡ true → list_all is_reversible runs.first.records ≡ true → Stands site ms m
-settled_stands one site settled ms m runs found all of_site h kept reversible =
+    → IsOfSite site m → EvaluatesTo site m (Ok runs) → keep_answers runs ≡ true → list_all can_return runs.first.records ≡ true → Stands site ms m
+settled_stands one site settled ms m runs found all of_site h kept returns =
     let p : HasSettledRecords site m runs.first.records = record {
       runs = runs;
       evaluated = h;
-      settled = and_from (keep_answers runs) (list_all is_reversible runs.first.records) kept reversible;
+      settled = and_from (keep_answers runs) (list_all can_return runs.first.records) kept returns;
       records = refl;
     } in
     by_test (list_any (λ (q : UsedVariable). has q.0 (reads_in runs)) (used_by_modules settled)) _
@@ -122,15 +122,15 @@ settled_stands one site settled ms m runs found all of_site h kept reversible =
     ))
     (λ f. candidate_stands site ms m runs.first.records all of_site p
     (λ v n x r s u. false≢true (sym (fails_each (λ (q : UsedVariable). has q.0 (reads_in runs)) (used_by_modules settled) (v, x) f
-    (used_among v x n settled ((found n).1 s) u)) ∙ read_by_runs one site m runs v h r)) reversible)
+    (used_among v x n settled ((found n).1 s) u)) ∙ read_by_runs one site m runs v h r)) returns)
 
 evaluated_stands : files.OneOutcome → (site : Site) (settled ms : List Module) (m : SiteModule) (o : Result (FileRuns RequestReason) RequestReason)
     → AreSettledModules site settled → AreCandidates site ms → IsOfSite site m → EvaluatesTo site m o → Stands site ms m
 evaluated_stands one site settled ms m (Ok runs) found all of_site h =
     by_test (keep_answers runs) _
-    (λ k. by_test (list_all is_reversible runs.first.records) _
+    (λ k. by_test (list_all can_return runs.first.records) _
     (λ t. settled_stands one site settled ms m runs found all of_site h k t)
-    (λ g. let r = first_that_fails is_reversible runs.first.records g in (OneWay r.0, (runs, h, k, r.1))))
+    (λ g. let r = first_that_fails can_return runs.first.records g in (OneWay r.0, (runs, h, k, r.1))))
     (λ f. let q = first_that_fails (keeps_answer (are_runs_alike runs) runs.first.records) runs.first.asked f in (Asks q.0, (runs, h, q.1)))
 evaluated_stands one site settled ms m (Err reason) found all of_site h = (Refused reason, h)
 

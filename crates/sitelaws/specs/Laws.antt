@@ -10,7 +10,7 @@ use Rattle.modulefile.specs.Records.{Record, conflict_names}
 use Rattle.modulefile.specs.Effects.{load}
 use Rattle.modulefile.specs.Moves.{Module, Move, Loads, Unloads}
 use Rattle.modulefile.specs.Files.{Ran}
-use Rattle.reversal.specs.VariableUses.{VariableUse, Pathed, is_reversible}
+use Rattle.reversal.specs.VariableUses.{VariableUse, Pathed, can_return, absent_in}
 use Rattle.reversal.specs.Undone.{UndoAlike}
 use Rattle.reversal.specs.Runs.{live_after}
 use Rattle.reversal.specs.Laws.{Holds}
@@ -69,9 +69,11 @@ SettledModulesFound =
     (site : Site) (outcomes : List Evaluated) → AreEvaluated site outcomes
     → AreSettledModules site (settled_among outcomes) × AreCandidates site (candidates_among outcomes)
 
--- What is loaded so: the records are of kinds that unloading undoes, and in conflict with the same names as these.
+-- What is loaded so: the records are of kinds after which the start can be back, keep the same variables absent as
+-- these, and are in conflict with the same names.
 pub record LoadAlike (rs loaded : List Record) : Type 0 where
-  pub reversible : list_all is_reversible loaded ≡ true
+  pub returns : list_all can_return loaded ≡ true
+  pub absent : absent_in loaded ≡ absent_in rs
   pub conflicts : conflict_names loaded ≡ conflict_names rs
 
 -- Every accepted evaluation of the file of a settled module, for loading or unloading, in whatever shell and half of a

@@ -13,6 +13,7 @@ use Rattle.filetree.specs.Modulefiles.{modulefile, directories, path_of}
 use Rattle.filetree.specs.Relations.{Is, ◌>>◌}
 use Rattle.modulefile.specs.Records.{Record, added_elements}
 use Rattle.modulefile.specs.Moves.{Module}
+use Rattle.modulefile.specs.Answers.{FileContext}
 use Rattle.modulefile.specs.Files.{Ran, RunsFile}
 use Rattle.reversal.specs.VariableUses.{VariableUse, UsedVariable}
 use Rattle.settled.specs.Ways.{Way, first_way, other_ways, FileRuns, is_settled, reads_in}
@@ -20,7 +21,7 @@ use Rattle.search.specs.Listed.{IsBelow}
 use Rattle.requests.specs.Refusals.{RefusedAs}
 use Rattle.requests.specs.Reasons.{RequestReason, file_refused}
 use Rattle.requests.specs.Steps as requests
-use Rattle.requests.specs.Steps.{RequestContext, request_context_in, entries_of, script_at, context_of}
+use Rattle.requests.specs.Steps.{RequestContext, request_context_in, entries_of, script_at}
 use Rattle.sitecertificate.specs.RecordUses.{IsAmong, Uses, used_by_modules, modulepath}
 
 -- A site: the files and directories of a tree, the limits on the evaluation of each file, and the environment at hand.
@@ -57,15 +58,28 @@ pub record IsIn (site : Site) (dir : Text) (m : SiteModule) : Type 0 where
 
 -- ---- evaluations
 
--- What the evaluation of a module's file leaves in a way, or why it is refused: in the environment at hand, and the typed
--- name is the module's. Conflicts and prereqs aren't judged.
+-- the context in which a module's file is evaluated in a way: in the environment at hand, with the modules loaded that the
+-- way has, and the typed name is the module's
+abbrev pub context_in : Site → Way → SiteModule → FileContext
+context_in site way m =
+    record {
+      mode = way.mode;
+      in_switch = way.in_switch;
+      name = m.name;
+      path = m.path;
+      shell = way.shell;
+      typed = m.name;
+      loaded = way.loaded;
+      before = site.env;
+    }
+
+-- What the evaluation of a module's file leaves in a way, or why it is refused: as every load, where the loaded lists at
+-- hand don't fit together. Conflicts and prereqs aren't judged.
 abbrev pub EvaluatesBy : Site → Way → SiteModule → Result Ran RequestReason → Type 0
 EvaluatesBy site way m =
     Is (entries_of site.env) >> (λ xs.
     Is (script_at m.path (modulefile (site.files m.path))) >> (λ text.
-    RefusedAs file_refused (RunsFile site.limits
-    (context_of (request_context_in site.limits way.shell site.files site.listings) way.mode way.in_switch m.name m.name
-    m.path xs site.env) text)))
+    RefusedAs file_refused (RunsFile site.limits (context_in site way m) text)))
 
 -- the same in each of these ways, in their order
 abbrev pub EvaluateBy : Site → SiteModule → List Way → List (Result Ran RequestReason) → Type 0
@@ -75,15 +89,15 @@ EvaluateBy site m (way ∷ ways) [] = ⊥
 EvaluateBy site m (way ∷ ways) (outcome ∷ outcomes) =
     EvaluatesBy site way m outcome × EvaluateBy site m ways outcomes
 
--- What the evaluations of a module's file leave: for loading, in sh, and in the other ways that this one asks for; or why
--- that one is refused.
+-- What the evaluations of a module's file leave: for loading, in sh, with nothing loaded, and in the other ways that this
+-- one asks for; or why that one is refused.
 abbrev pub EvaluatesTo : Site → SiteModule → Result (FileRuns RequestReason) RequestReason → Type 0
 EvaluatesTo site m (Ok runs) =
     EvaluatesBy site first_way m (Ok runs.first) × EvaluateBy site m (other_ways runs.first.asked) runs.others
 EvaluatesTo site m (Err reason) = EvaluatesBy site first_way m (Err reason)
 
--- The module is settled, and these are its records, those for loading in sh: each question of its evaluation keeps its
--- answer, and unloading undoes each record. So is a plain module, which asks nothing.
+-- The module is settled, and these are its records, those for loading in sh with nothing loaded: each question of its
+-- evaluation keeps its answer, and after each record the start can be back. So is a plain module, which asks nothing.
 pub record HasSettledRecords (site : Site) (m : SiteModule) (rs : List Record) : Type 0 where
   pub runs : FileRuns RequestReason
   pub evaluated : EvaluatesTo site m (Ok runs)

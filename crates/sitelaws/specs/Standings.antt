@@ -5,7 +5,7 @@ use Rattle.envvars.specs.Fields.{colon}
 use Rattle.tclrules.specs.Oracle.{Question}
 use Rattle.modulefile.specs.Records.{Record}
 use Rattle.modulefile.specs.Moves.{Module}
-use Rattle.reversal.specs.VariableUses.{VariableUse, Pathed, is_reversible}
+use Rattle.reversal.specs.VariableUses.{VariableUse, Pathed, can_return}
 use Rattle.requests.specs.Reasons.{RequestReason}
 use Rattle.settled.specs.Ways.{FileRuns, are_runs_alike, keeps_answer, keep_answers}
 use Rattle.sitecertificate.specs.RecordUses.{IsAmong, Uses, used_by, same_use, modulepath, IsInStep}
@@ -19,7 +19,7 @@ pub data Standing : Type 0 where
   Certified : Standing
   -- its evaluation asked this, the first question that doesn't keep its answer, so that its records may differ elsewhere
   Asks : (first : Question) → Standing
-  -- each question keeps its answer, and this is the first of its records that unloading doesn't undo
+  -- each question keeps its answer, and this is the first of its records after which the start can't be back
   OneWay : (first : Record) → Standing
   -- it is settled, and reads the variable, which the other settled module uses
   ReadsUsed : (variable : Text) (other : Module) → Standing
@@ -46,9 +46,9 @@ abbrev pub IsFirstUnkept : FileRuns RequestReason → Question → Type 0
 IsFirstUnkept runs q =
     find (λ x. not (keeps_answer (are_runs_alike runs) runs.first.records x)) runs.first.asked ≡ Some q
 
--- The first record that unloading doesn't undo.
+-- The first record after which the start can't be back.
 abbrev pub IsFirstOneWay : List Record → Record → Type 0
-IsFirstOneWay rs r = find (λ x. not (is_reversible x)) rs ≡ Some r
+IsFirstOneWay rs r = find (λ x. not (can_return x)) rs ≡ Some r
 
 -- The records use the variable in two ways, of which the second may be that of MODULEPATH as a path with colons.
 pub record IsUsedTwice (rs : List Record) (v : Text) (x y : VariableUse) : Type 0 where
@@ -74,9 +74,9 @@ pub record IsUserOf (site : Site) (v : Text) (n : Module) : Type 0 where
   pub uses : Uses n.records v used
 
 -- A module of the site, whose candidates are these, stands so. Each module stands in one of the seven ways: its
--- evaluation is refused, or asks what doesn't keep its answer, or has a record that unloading doesn't undo, or it is
--- settled; and a settled one reads what another uses, or is a candidate that is out of step, or is in step and clashes,
--- or is certified.
+-- evaluation is refused, or asks what doesn't keep its answer, or has a record after which the start can't be back, or
+-- it is settled; and a settled one reads what another uses, or is a candidate that is out of step, or is in step and
+-- clashes, or is certified.
 abbrev pub HasStanding : Site → List Module → SiteModule → Standing → Type 0
 HasStanding site ms m Certified = IsCandidateAnd site m (λ n. IsCertified ms n)
 HasStanding site ms m (Asks first) =

@@ -1,8 +1,5 @@
-use Rattle.reversal.proofs.Lost.{unset_without_value, element_removed, other_records, start_unloaded}
+use Rattle.reversal.proofs.Lost.{element_removed, other_records, start_unloaded}
 use Rattle.reversal.proofs.examples.kinds.Goals as goal
-
-pub returns-clause-unset_without_value : goal.returns-clause-unset_without_value
-returns-clause-unset_without_value c = unset_without_value
 
 pub returns-clause-element_removed : goal.returns-clause-element_removed
 returns-clause-element_removed c = element_removed

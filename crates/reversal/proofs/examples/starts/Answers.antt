@@ -1,5 +1,5 @@
 use Rattle.reversal.proofs.Lost.{empty_path, counter_of_none, bottom_alone, hidden_value, other_escapes}
-use Rattle.reversal.proofs.Lost.{owner_not_loaded, value_before_set, other_value}
+use Rattle.reversal.proofs.Lost.{owner_not_loaded, value_before_set, other_value, value_before_unset}
 use Rattle.reversal.proofs.examples.starts.Goals as goal
 
 pub returns-clause-empty_path : goal.returns-clause-empty_path
@@ -25,3 +25,6 @@ returns-clause-value_before_set c = value_before_set
 
 pub returns-clause-other_value : goal.returns-clause-other_value
 returns-clause-other_value c = other_value
+
+pub returns-clause-value_before_unset : goal.returns-clause-value_before_unset
+returns-clause-value_before_unset c = value_before_unset

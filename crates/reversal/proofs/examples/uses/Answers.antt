@@ -1,4 +1,5 @@
 use Rattle.reversal.proofs.Lost.{set_and_pushed, unset_and_pushed, added_and_pushed, two_delimiters, set_by_two_falls}
+use Rattle.reversal.proofs.Lost.{set_and_absent_falls}
 use Rattle.reversal.proofs.examples.uses.Goals as goal
 
 pub returns-clause-set_and_pushed : goal.returns-clause-set_and_pushed
@@ -15,3 +16,6 @@ returns-clause-two_delimiters c = two_delimiters
 
 pub returns-clause-set_by_two : goal.returns-clause-set_by_two
 returns-clause-set_by_two c = set_by_two_falls
+
+pub returns-clause-set_and_absent : goal.returns-clause-set_and_absent
+returns-clause-set_and_absent c = set_and_absent_falls

@@ -1,5 +1,5 @@
 use Rattle.sitecertificate.proofs.Lost.{by_delimiters, by_path_and_stack, by_set_and_push, by_unset_and_push}
-use Rattle.sitecertificate.proofs.Lost.{by_both_set, starts_agree}
+use Rattle.sitecertificate.proofs.Lost.{by_both_set, by_set_and_absent, starts_agree}
 use Rattle.sitecertificate.proofs.OneModule.{leave_value}
 use Rattle.sitecertificate.proofs.examples.clashes_matter.Goals as goal
 
@@ -17,6 +17,9 @@ returns-clause-unset_and_push c = by_unset_and_push c.uses.ensures.unset_and_pus
 
 pub returns-clause-both_set : goal.returns-clause-both_set
 returns-clause-both_set c = by_both_set c.uses.ensures.set_by_two
+
+pub returns-clause-set_and_absent : goal.returns-clause-set_and_absent
+returns-clause-set_and_absent c = by_set_and_absent c.uses.ensures.set_and_absent
 
 pub returns-clause-starts : goal.returns-clause-starts
 returns-clause-starts c = starts_agree
