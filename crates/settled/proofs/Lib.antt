@@ -3,4 +3,5 @@ mod Noted
 pub mod Rests
 pub mod ReadVariables
 mod Settling
+mod Asked
 pub mod UndoTested

@@ -21,7 +21,7 @@ use Rattle.modulefile.specs.Calls.{CallReason, call_of}
 use Rattle.modulefile.specs.Answers.{FileContext, record_of, records_in, record_outcome, or_before, environment_after}
 use Rattle.modulefile.proofs.Bound.{bound, bind_ok}
 use Rattle.modulefile.proofs.Effected.{parts}
-use Rattle.reversal.specs.VariableUses.{is_reversible}
+use Rattle.reversal.specs.VariableUses.{can_return}
 use Rattle.reversal.proofs.RecordKinds.{Touched, touched_loaded, same_accepted}
 use Rattle.reversal.proofs.Frames.{unloads, touched, effect_edits, is_named, kept_variable, kept_rest}
 use Rattle.settled.specs.Resting.{is_variable, is_resting, shell_variables}
@@ -48,11 +48,10 @@ stays : (o : Option Text) (old new : Environment) (v : Text) → Touched o old n
 stays o old new v t (inl e) n = (kept_variable o old new v t e n).value
 stays o old new v t (inr e) n = kept_rest o old new v t e
 
--- an unload leaves a record alone that unloading doesn't undo
-left_alone : (owner : Text) (r : Record) (old new : Environment) → is_reversible r ≡ false → unloaded_by owner r old ≡ Ok new → new ≡ old
+-- an unload does nothing for a record that removes elements
+left_alone : (owner : Text) (r : Record) (old new : Environment) → can_return r ≡ false → unloaded_by owner r old ≡ Ok new → new ≡ old
 left_alone owner (Set v x) old new f h = absurd (cc)
-left_alone owner (Unset v None) old new f h = same_accepted old new h
-left_alone owner (Unset v (Some x)) old new f h = absurd (cc)
+left_alone owner (Unset v x) old new f h = absurd (cc)
 left_alone owner (Push v x) old new f h = absurd (cc)
 left_alone owner (Path Front d v xs) old new f h = absurd (cc)
 left_alone owner (Path Back d v xs) old new f h = absurd (cc)
@@ -61,7 +60,7 @@ left_alone owner (Conflict names) old new f h = absurd (cc)
 left_alone owner (Prereq names) old new f h = absurd (cc)
 left_alone owner (Whatis text) old new f h = absurd (cc)
 
-one_unload : (owner : Text) (r : Record) (old new : Environment) (v : Text) (b : Bool) → is_reversible r ≡ b → effect unload owner r old ≡ Ok new
+one_unload : (owner : Text) (r : Record) (old new : Environment) (v : Text) (b : Bool) → can_return r ≡ b → effect unload owner r old ≡ Ok new
     → IsOfUser v → is_named v (variable_of r) ≡ false → lookup new v ≡ lookup old v
 one_unload owner r old new v true s h u n = stays (variable_of r) old new v (touched unload unloads owner r old new s h) u n
 one_unload owner r old new v false s h u n = ap (λ (e : Environment). lookup e v) (left_alone owner r old new s (effect_edits unload owner r old new h).1)
@@ -70,7 +69,7 @@ one_stays : (mode : Mode) (owner : Text) (r : Record) (old new : Environment) (v
     → IsOfUser v → is_named v (variable_of r) ≡ false → lookup new v ≡ lookup old v
 one_stays load owner r old new v h u n =
     let p = effect_edits load owner r old new h in stays (variable_of r) old new v (touched_loaded owner r old new p.0 p.1) u n
-one_stays unload owner r old new v h u n = one_unload owner r old new v (is_reversible r) refl h u n
+one_stays unload owner r old new v h u n = one_unload owner r old new v (can_return r) refl h u n
 one_stays display owner r old new v h u n = ap (λ (e : Environment). lookup e v) (same_accepted old new (effect_edits display owner r old new h).1)
 one_stays whatis owner r old new v h u n = ap (λ (e : Environment). lookup e v) (same_accepted old new (effect_edits whatis owner r old new h).1)
 

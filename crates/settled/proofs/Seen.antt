@@ -1,12 +1,12 @@
 -- Tests over lists and over what their elements stand for.
 use Rattle.std.proofs.Common.{◌≡◌, ℕ, ◌+◌, ◌<◌, ◌≤◌, Bool, true, false, not, ◌&&◌, ◌||◌, List, [], ◌∷◌, ◌++◌, map, take, length, get_or}
 use Rattle.std.proofs.Common.{Option, Some, None, refl, ap, sym, ◌∙◌, arith, suc, zero, append-nil}
-use Rattle.std.specs.Prelude.{filter_map, flat_map, position}
+use Rattle.std.specs.Prelude.{filter, filter_map, flat_map, position}
 use Rattle.std.specs.List.{list_any, list_all, cons_option, position_from}
 use Rattle.std.proofs.lemmas.Bool.{and_parts, and_from}
 use Rattle.std.proofs.lemmas.Iterator.Adapters.{position_from-zero}
 use Rattle.std.proofs.lemmas.List.{append_assoc, map-append, take_more, take_all}
-use Rattle.std.proofs.lemmas.List.Elements.{filter_map-append}
+use Rattle.std.proofs.lemmas.List.Elements.{filter-append, filter_map-append}
 use Rattle.std.proofs.lemmas.List.Concat.{flat_map-append}
 use Rattle.std.proofs.lemmas.List.Folds.{list_all-append, list_any-append}
 use Rattle.settled.specs.Ways.{same_by}
@@ -94,6 +94,13 @@ any_more p view xs i x old new l e before now =
     last true b = refl
     last false true = refl
     last false false = refl
+
+-- one element more, where it passes the test
+pub filter_more : {X Y : Type 0} (p : Y → Bool) (view : X → Y) (xs : List X) (i : ℕ) (x : X) (old new : List Y) → i < length xs → x ≡ get_or xs i x
+    → old ≡ filter p (map view (take i xs)) → new ≡ old ++ filter p (view x ∷ []) → new ≡ filter p (map view (take (i + 1) xs))
+filter_more p view xs i x old new l e before now =
+    let split : map view (take (i + 1) xs) ≡ map view (take i xs) ++ view x ∷ [] = ap (map view) (take_more xs i x l ∙ ap (λ (y : _). take i xs ++ y ∷ []) (sym e)) ∙ map-append view (take i xs) (x ∷ []) in
+    now ∙ (ap (λ (ys : List _). ys ++ filter p (view x ∷ [])) before ∙ sym (ap (filter p) split ∙ filter-append p (map view (take i xs)) (view x ∷ [])))
 
 -- one more list is added
 pub flat_more : {X Y Z : Type 0} (f : Y → List Z) (view : X → Y) (xs : List X) (i : ℕ) (x : X) (before old new : List Z) → i < length xs → x ≡ get_or xs i x

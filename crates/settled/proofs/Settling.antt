@@ -2,7 +2,7 @@
 use Rattle.std.proofs.Common.{◌≡◌, inl, inr, ⊎_elim, Bool, true, false, ◌||◌, List, [], ◌∷◌, Option, Some, None}
 use Rattle.std.proofs.Common.{Ok, Err, refl, ap, sym, subst, ◌∙◌}
 use Rattle.std.specs.Prelude.{bytes_eq, unwrap_or}
-use Rattle.std.specs.List.{list_all, list_any, cons_option}
+use Rattle.std.specs.List.{list_all, list_any, cons_option, AllByRecursion}
 use Rattle.std.proofs.lemmas.Bool.{and_parts}
 use Rattle.envvars.specs.Texts.{Text, has}
 use Rattle.envvars.proofs.TextLemmas.{bytes_eq-same}
@@ -16,13 +16,14 @@ use Rattle.modulefile.specs.Effects.{Mode, load, unload, display, whatis, effect
 use Rattle.modulefile.specs.Calls.{InfoField, mode, shell, shell_type, CallForm, adds_record, adds_message, getenv, is_loaded}
 use Rattle.modulefile.specs.Calls.{own_name, typed_name, info, info_test, call_of}
 use Rattle.modulefile.specs.Answers.{FileContext, command_answer, environment_after, field_text, field_test, oracle_of, question_answer}
-use Rattle.modulefile.specs.Answers.{records_in, record_outcome, truth, value_shown, variable_answer}
+use Rattle.modulefile.specs.Answers.{any_loaded, records_in, record_outcome, truth, value_shown, variable_answer}
 use Rattle.modulefile.specs.Files.{Ran, ran_of, RunsFile}
 use Rattle.modulefile.specs.Laws.{AnswersAgain, AnsweredFilesAgree}
 use Rattle.modulefile.specs.Results.{◌>>=◌}
 use Rattle.modulefile.proofs.Bound.{bound, same_value}
 use Rattle.settled.specs.Resting.{is_changing, is_resting, call_rests, rests, read_by, read_by_call, variables_read, field_of}
-use Rattle.settled.specs.Resting.{field_of_call, is_mode, is_shell, IsSameWay, AreAlike}
+use Rattle.settled.specs.Resting.{field_of_call, is_mode, is_shell, names_of_call, names_of, loaded_questions}
+use Rattle.settled.specs.Resting.{IsSameWay, AreAlike}
 use Rattle.settled.specs.Laws.{SettledFilesAgree}
 use Rattle.settled.proofs.Noted.{Among, among_split, WasAnswered, was_answered}
 use Rattle.settled.proofs.Rests.{Beginning, beginning, finds_before}
@@ -55,6 +56,20 @@ read_among [] q v a e = absurd a
 read_among (x ∷ xs) q v (inl s) e = has_first v (read_by x) (variables_read xs) (sym (ap read_by s) ∙ e)
 read_among (x ∷ xs) q v (inr a) e = has_later v (read_by x) (variables_read xs) (read_among xs q v a e)
 
+answered_first : (P : List Text → Type 0) (o : Option (List Text)) (more : List (List Text)) (names : List Text) → AllByRecursion P (cons_option o more) → o ≡ Some names → P names
+answered_first P None more names h e = absurd (cc)
+answered_first P (Some ns) more names h e = let same : ns ≡ names = cc in subst P same h.0
+
+answered_later : (P : List Text → Type 0) (o : Option (List Text)) (more : List (List Text)) → AllByRecursion P (cons_option o more) → AllByRecursion P more
+answered_later P None more h = h
+answered_later P (Some ns) more h = h.1
+
+-- what holds of the questions of what is loaded
+loaded_among : (P : List Text → Type 0) (asked : List Question) (q : Question) (names : List Text) → AllByRecursion P (loaded_questions asked) → Among q asked → names_of q ≡ Some names → P names
+loaded_among P [] q names h a e = absurd a
+loaded_among P (x ∷ xs) q names h (inl s) e = answered_first P (names_of x) (loaded_questions xs) names h (sym (ap names_of s) ∙ e)
+loaded_among P (x ∷ xs) q names h (inr a) e = loaded_among P xs q names (answered_later P (names_of x) (loaded_questions xs) h) a e
+
 -- ---- one question
 
 shown : (m : Mode) (e : Environment) (var default : Text) → is_changing m ≡ true → value_shown m e var default ≡ unwrap_or (lookup e var) default
@@ -83,18 +98,20 @@ by_call : (c d : FileContext) (records : List Record) (names : List Text) (e f :
     → ((v : Text) → read_by_call form ≡ Some v → has v names ≡ true)
     → (is_mode (field_of_call form) ≡ true → d.mode ≡ c.mode) → (is_mode (field_of_call form) ≡ true → d.in_switch ≡ c.in_switch)
     → (is_shell (field_of_call form) ≡ true → d.shell ≡ c.shell)
+    → ((ns : List Text) → names_of_call form ≡ Some ns → any_loaded ns d.loaded ≡ any_loaded ns c.loaded)
     → command_answer d f words form ≡ command_answer c e words form
-by_call c d records names e f words (Err reason) h a b alike read m w s = absurd (cc)
-by_call c d records names e f words (Ok (adds_record r)) h a b alike read m w s = absurd (cc)
-by_call c d records names e f words (Ok (adds_message text)) h a b alike read m w s = absurd (cc)
-by_call c d records names e f words (Ok (getenv var default)) h a b alike read m w s =
+by_call c d records names e f words (Err reason) h a b alike read m w s l = absurd (cc)
+by_call c d records names e f words (Ok (adds_record r)) h a b alike read m w s l = absurd (cc)
+by_call c d records names e f words (Ok (adds_message text)) h a b alike read m w s l = absurd (cc)
+by_call c d records names e f words (Ok (getenv var default)) h a b alike read m w s l =
     ap (variable_answer var)
     (shown d.mode f var default b ∙ (ap (λ (o : Option Text). unwrap_or o default) (alike var h (read var refl)) ∙ sym (shown c.mode e var default a)))
-by_call c d records names e f words (Ok (is_loaded loaded)) h a b alike read m w s = absurd (cc)
-by_call c d records names e f words (Ok own_name) h a b alike read m w s = absurd (cc)
-by_call c d records names e f words (Ok typed_name) h a b alike read m w s = absurd (cc)
-by_call c d records names e f words (Ok (info field)) h a b alike read m w s = ap question_answer (same_text_of c d field m s)
-by_call c d records names e f words (Ok (info_test field word)) h a b alike read m w s = ap (λ (x : Bool). question_answer (truth x)) (same_test_of c d field word m w s)
+by_call c d records names e f words (Ok (is_loaded [])) h a b alike read m w s l = absurd (cc)
+by_call c d records names e f words (Ok (is_loaded (n ∷ ns))) h a b alike read m w s l = ap (λ (x : Bool). question_answer (truth x)) (l (n ∷ ns) refl)
+by_call c d records names e f words (Ok own_name) h a b alike read m w s l = absurd (cc)
+by_call c d records names e f words (Ok typed_name) h a b alike read m w s l = absurd (cc)
+by_call c d records names e f words (Ok (info field)) h a b alike read m w s l = ap question_answer (same_text_of c d field m s)
+by_call c d records names e f words (Ok (info_test field word)) h a b alike read m w s l = ap (λ (x : Bool). question_answer (truth x)) (same_test_of c d field word m w s)
 
 -- ---- all of them
 
@@ -110,7 +127,8 @@ again_one c d asked all q records commands (Command words) (rs, rest, read, spli
     (λ v r. read_among asked q v a (ap read_by e ∙ r))
     (λ t. way.mode (any_of (λ x. is_mode (field_of x)) asked q a (ap (λ (x : Question). is_mode (field_of x)) e ∙ t)))
     (λ t. way.in_switch (any_of (λ x. is_mode (field_of x)) asked q a (ap (λ (x : Question). is_mode (field_of x)) e ∙ t)))
-    (λ t. way.shell (any_of (λ x. is_shell (field_of x)) asked q a (ap (λ (x : Question). is_shell (field_of x)) e ∙ t))))
+    (λ t. way.shell (any_of (λ x. is_shell (field_of x)) asked q a (ap (λ (x : Question). is_shell (field_of x)) e ∙ t)))
+    (λ ns t. loaded_among (λ names. any_loaded names d.loaded ≡ any_loaded names c.loaded) asked q ns way.loaded a (ap names_of e ∙ t)))
 again_one c d asked all q records commands (Variable v) (rs, rest, read, split) (ss, more, read2, split2) e a h m n way alike =
     let rested : is_resting all v ≡ true = ap (rests all) (sym e) ∙ h in
     finds_before d commands ss more all v read2 split2 rested

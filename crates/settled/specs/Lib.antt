@@ -1,4 +1,5 @@
 pub mod Resting
+pub mod LoadedAnswers
 pub mod Ways
 pub mod WayViews
 pub mod Laws

@@ -1,15 +1,16 @@
 -- What the answers to a modulefile's questions rest on (own; getenv, module-info and is-loaded of modulefile(5)).
 use Rattle.std.specs.Prelude.{◌≡◌, Bool, true, false, not, ◌&&◌, List, [], ◌∷◌, codes, bytes_eq, filter_map, Option}
 use Rattle.std.specs.Prelude.{Some, None, Ok}
-use Rattle.std.specs.List.{list_any}
+use Rattle.std.specs.List.{list_any, AllByRecursion}
 use Rattle.envvars.specs.Texts.{Text, has}
 use Rattle.envvars.specs.Names.{is_protected}
 use Rattle.envvars.specs.Environment.{Environment, lookup}
 use Rattle.tclrules.specs.Oracle.{Question, OfCommand, OfVariable}
 use Rattle.modulefile.specs.Records.{Record, variable_of}
 use Rattle.modulefile.specs.Effects.{Mode, load, unload, display, whatis}
-use Rattle.modulefile.specs.Calls.{InfoField, mode, shell, shell_type, CallForm, getenv, info, info_test, call_of}
-use Rattle.modulefile.specs.Answers.{FileContext}
+use Rattle.modulefile.specs.Calls.{InfoField, mode, shell, shell_type, CallForm, getenv, is_loaded, info, info_test}
+use Rattle.modulefile.specs.Calls.{call_of}
+use Rattle.modulefile.specs.Answers.{FileContext, any_loaded}
 
 -- the variables that shells change by themselves
 unfoldable pub shell_variables : List Text
@@ -30,9 +31,12 @@ is_resting records v =
     && not (list_any (λ r. is_variable v (variable_of r)) records))
 
 -- A question of these words rests on the variable that it reads, or on the way of the evaluation: the mode, the half of
--- a switch, the shell. What is loaded, and the name as it was typed, rest on nothing.
+-- a switch, the shell, whether one of some names means a loaded module. Whether any module is loaded, and the name as it
+-- was typed, rest on nothing.
 abbrev pub call_rests : List Record → CallForm → Bool
 call_rests records (Ok (getenv var default)) = is_resting records var
+call_rests records (Ok (is_loaded [])) = false
+call_rests records (Ok (is_loaded (name ∷ names))) = true
 call_rests records (Ok (info field)) = true
 call_rests records (Ok (info_test field word)) = true
 call_rests records call = false
@@ -84,12 +88,38 @@ asks_mode asked = list_any (λ q. is_mode (field_of q)) asked
 abbrev pub asks_shell : List Question → Bool
 asks_shell asked = list_any (λ q. is_shell (field_of q)) asked
 
+-- the names of which a question asks whether one means a loaded module
+abbrev pub names_of_call : CallForm → Option (List Text)
+names_of_call (Ok (is_loaded names)) = Some names
+names_of_call call = None
+
+abbrev pub names_of : Question → Option (List Text)
+names_of (OfCommand words answer) = names_of_call (call_of words)
+names_of (OfVariable name value) = None
+
+-- the questions of what is loaded, by their names
+abbrev pub loaded_questions : List Question → List (List Text)
+loaded_questions asked = filter_map names_of asked
+
+-- a question asks for the way of the evaluation
+abbrev pub call_asks_way : CallForm → Bool
+call_asks_way (Ok (is_loaded names)) = true
+call_asks_way (Ok (info field)) = true
+call_asks_way (Ok (info_test field word)) = true
+call_asks_way call = false
+
+abbrev pub asks_way : Question → Bool
+asks_way (OfCommand words answer) = call_asks_way (call_of words)
+asks_way (OfVariable name value) = false
+
 -- The second context is of the same way as the first, as far as the questions ask: where they ask for the mode, of the
--- same mode and the same half of a switch, and where they ask for the shell, of the same shell.
+-- same mode and the same half of a switch, where they ask for the shell, of the same shell, and what
+-- they ask of what is loaded has the same answers.
 pub record IsSameWay (asked : List Question) (c d : FileContext) : Type 0 where
   pub mode : asks_mode asked ≡ true → d.mode ≡ c.mode
   pub in_switch : asks_mode asked ≡ true → d.in_switch ≡ c.in_switch
   pub shell : asks_shell asked ≡ true → d.shell ≡ c.shell
+  pub loaded : AllByRecursion (λ names. any_loaded names d.loaded ≡ any_loaded names c.loaded) (loaded_questions asked)
 
 -- the variables have the same values in both environments
 abbrev pub AreAlike : List Text → Environment → Environment → Type 0

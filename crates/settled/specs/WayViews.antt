@@ -1,5 +1,8 @@
 -- What the ways and the undone records of the code stand for in the definitions (own).
-use Rattle.std.specs.Prelude.{[], Some, map, string_bytes}
+use Rattle.std.specs.Prelude.{List, [], Some, map, string_bytes, String}
+use Rattle.std.specs.Borrow.{Bor}
+use Rattle.std.specs.declared.alloc.Global.{Global}
+use Rattle.envvars.specs.Texts.{Text, texts_in}
 use Rattle.modulefile.specs.Records as records
 use Rattle.modulefile.specs.RecordViews.{mode_view}
 use Rattle.modulefile.specs.declared.records.PathEdit.TheVariants.{Front}
@@ -10,7 +13,17 @@ use Rattle.settled.specs.declared.undone.Undone.TheVariants as code
 
 -- a way
 abbrev pub way_view : Way → ways.Way
-way_view way = record { mode = mode_view way.mode; in_switch = way.in_switch; shell = way.shell }
+way_view way =
+    record {
+      mode = mode_view way.mode;
+      in_switch = way.in_switch;
+      shell = way.shell;
+      loaded = texts_in way.loaded;
+    }
+
+-- lists of texts
+abbrev pub text_lists : List (Bor (List (String Global))) → List (List Text)
+text_lists lists = map (λ texts. map string_bytes texts.now) lists
 
 -- a record as an unload sees it
 abbrev pub undone_view : Undone → records.Record

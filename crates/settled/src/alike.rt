@@ -1,23 +1,24 @@
 //! Whether what an evaluation in another way leaves is like what the first leaves.
-ghost use Rattle.std.specs.Prelude.{◌≡◌, ◌&&◌, ◌++◌, bytes_eq, map, IfOk, OnOk};
+ghost use Rattle.std.specs.Prelude.{◌≡◌, ◌||◌, not, ◌++◌, ◌∷◌, [], bytes_eq, map, IfOk, OnOk};
 ghost use Rattle.envvars.specs.Environment.{Environment};
 ghost use Rattle.envvars.specs.Texts.{slice_texts};
+ghost use Rattle.modulefile.specs.Effects.{load};
 ghost use Rattle.modulefile.specs.Records as modulefiles;
 ghost use Rattle.modulefile.specs.Records.{conflicts_of};
 ghost use Rattle.modulefile.specs.RecordViews.{mode_view, record_view};
 ghost use Rattle.modulerun.specs.Questions.{questions_in};
 ghost use Rattle.modulerun.specs.Running.{ran_view};
-ghost use Rattle.std.specs.List.{list_all};
-ghost use Rattle.reversal.specs.VariableUses.{is_reversible};
+ghost use Rattle.reversal.specs.VariableUses.{absent_in};
 ghost use Rattle.settled.specs.Ways as spec;
 ghost use Rattle.settled.specs.Ways.{same_by};
 
 use crate::asking::asked_of_way;
+use crate::loaded_answers::{are_all_among, distinct_questions};
 use crate::resting::all_rest;
+use crate::returning::all_can_return;
 use crate::undone::do_undo_alike;
 use modulefile::{Mode, Record};
 use modulerun::{FileRun, Question};
-use modules::are_reversible;
 use std::alloc::{AllocError, Global};
 
 /// Adds the names of a `conflict`.
@@ -58,19 +59,62 @@ fn same_names(one: &[&str], other: &[&str]) -> bool
     true
 }
 
-/// Whether records are of kinds that unloading undoes, and in conflict with the same names as those of the first
-/// evaluation.
-fn do_load_alike(alloc: Global, first: &[Record], records: &[Record]) -> Result<bool, AllocError>
-    ensures { IfOk result (λ alike. alike ≡ (list_all is_reversible (map record_view records.now) && same_by bytes_eq
-        (modulefiles.conflict_names (map record_view first.now))
-        (modulefiles.conflict_names (map record_view records.now)))) }
+/// Adds the name of a variable that a record keeps absent.
+fn push_absent<'r>(names: &mut Vec<&'r str>, recorded: &'r Record) -> Result<(), AllocError>
+    ensures { OnOk result (slice_texts names.new.items
+        ≡ slice_texts names.old.items ++ absent_in (record_view recorded.entry.now ∷ [])) }
 {
-    if !are_reversible(records) {
-        return Ok(false);
+    if let Record::Unset { var, value: None } = recorded {
+        names.push(var.as_str())?;
     }
+    Ok(())
+}
+
+/// The variables that records keep absent, in the order of their mention.
+fn absent_names(alloc: Global, records: &[Record]) -> Result<Vec<&str>, AllocError>
+    ensures { IfOk result (λ names. slice_texts names.items ≡ absent_in (map record_view records.entry.now)) }
+{
+    let mut names = Vec::new(alloc);
+    for recorded in records {
+        push_absent(&mut names, recorded)?;
+    }
+    Ok(names)
+}
+
+/// Whether records keep the same variables absent as those of the first evaluation.
+fn absent_alike(alloc: Global, first: &[Record], records: &[Record]) -> Result<bool, AllocError>
+    ensures { IfOk result (λ alike. alike
+        ≡ same_by bytes_eq (absent_in (map record_view first.now)) (absent_in (map record_view records.now))) }
+{
+    let one = absent_names(alloc, first)?;
+    let other = absent_names(alloc, records)?;
+    Ok(same_names(one.as_slice(), other.as_slice()))
+}
+
+/// Whether records are in conflict with the same names as those of the first evaluation.
+fn conflicts_alike(alloc: Global, first: &[Record], records: &[Record]) -> Result<bool, AllocError>
+    ensures { IfOk result (λ alike. alike ≡ same_by bytes_eq
+        (modulefiles.conflict_names (map record_view first.now))
+        (modulefiles.conflict_names (map record_view records.now))) }
+{
     let one = conflict_names(alloc, first)?;
     let other = conflict_names(alloc, records)?;
     Ok(same_names(one.as_slice(), other.as_slice()))
+}
+
+/// Whether records are of kinds after which the start can be back, keep the same variables absent as those of the first
+/// evaluation, and are in conflict with the same names.
+fn do_load_alike(alloc: Global, first: &[Record], records: &[Record]) -> Result<bool, AllocError>
+    ensures { IfOk result (λ alike. alike
+        ≡ spec.loads_alike load (map record_view first.now) (map record_view records.now)) }
+{
+    if !all_can_return(records) {
+        return Ok(false);
+    }
+    if !absent_alike(alloc, first, records)? {
+        return Ok(false);
+    }
+    conflicts_alike(alloc, first, records)
 }
 
 /// The same where the evaluation is for loading; nothing is asked of one for unloading.
@@ -89,6 +133,13 @@ fn load_alike(
     }
 }
 
+/// Whether what is asked now, if it is, was asked before.
+fn was_asked(now: bool, before: bool) -> bool
+    ensures { result ≡ (not now || before) }
+{
+    !now || before
+}
+
 /// Whether questions ask nothing of the way that the first ones don't ask.
 fn ask_no_more(
     alloc: Global,
@@ -100,7 +151,10 @@ fn ask_no_more(
 {
     let before = asked_of_way(alloc, first)?;
     let now = asked_of_way(alloc, questions)?;
-    Ok((!now.mode || before.mode) && (!now.shell || before.shell))
+    let one = distinct_questions(alloc, first)?;
+    let other = distinct_questions(alloc, questions)?;
+    let known = are_all_among(other.as_slice(), one.as_slice());
+    Ok(was_asked(now.mode, before.mode) & (was_asked(now.shell, before.shell) & known))
 }
 
 /// Whether the records of an evaluation for this mode undo what those of the first undo, and load alike.
@@ -120,8 +174,8 @@ fn records_alike(
 }
 
 /// Whether what an evaluation for this mode left is like what the first left: each of its questions rests, it asks no
-/// more of the way, and its records undo the same; where it is for loading, they are of kinds that unloading undoes, and
-/// in conflict with the same names.
+/// more of the way, and its records undo the same; where it is for loading, they are of kinds after which the start can
+/// be back, keep the same variables absent, and are in conflict with the same names.
 ///
 /// The only error is want of memory.
 pub fn is_ran_alike(

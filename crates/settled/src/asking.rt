@@ -73,6 +73,28 @@ pub(crate) fn asked_of_way(alloc: Global, questions: &[Question]) -> Result<Aske
     Ok(AskedOfWay { mode, shell })
 }
 
+/// Whether a question of these words asks for the way.
+fn words_ask_way(alloc: Global, words: &[String]) -> Result<bool, AllocError>
+    ensures { IfOk result (λ asks. (answer : OracleAnswer) → asks
+        ≡ resting.asks_way (OfCommand (map string_bytes words.now) answer)) }
+{
+    match call_of(alloc, words) {
+        Ok(Call::Info(_)) | Ok(Call::InfoTest(_, _)) | Ok(Call::IsLoaded(_)) => Ok(true),
+        Err(CallFault::OutOfMemory) => Err(AllocError),
+        _ => Ok(false),
+    }
+}
+
+/// Whether a question asks for the way.
+fn asks_way(alloc: Global, question: &Question) -> Result<bool, AllocError>
+    ensures { IfOk result (λ asks. asks ≡ resting.asks_way (question_view question.now)) }
+{
+    match question {
+        Question::Variable(_, _) => Ok(false),
+        Question::Command(words, _) => words_ask_way(alloc, words.as_slice()),
+    }
+}
+
 /// Whether a question keeps its answer beside these records: it asks for a variable that rests, or for the way, where
 /// the evaluations in the ways that are asked for are alike.
 ///
@@ -89,5 +111,5 @@ pub fn keeps_answer(
     if !rests(alloc, records, question)? {
         return Ok(false);
     }
-    Ok(alike || field_of(alloc, question)?.is_none())
+    Ok(alike || !asks_way(alloc, question)?)
 }

@@ -89,13 +89,15 @@ fn call_rests(alloc: Global, records: &[Record], words: &[String]) -> Result<boo
 {
     match call_of(alloc, words) {
         Ok(Call::Getenv { var, .. }) => Ok(is_resting(records, var)),
+        Ok(Call::IsLoaded(names)) => Ok(!names.is_empty()),
         Ok(Call::Info(_)) | Ok(Call::InfoTest(_, _)) => Ok(true),
         Err(CallFault::OutOfMemory) => Err(AllocError),
         _ => Ok(false),
     }
 }
 
-/// Whether a question rests beside these records: it asks for a variable that does, or for the way of the evaluation.
+/// Whether a question rests beside these records: it asks for a variable that does, or for the way of the evaluation,
+/// by names where it asks what is loaded.
 pub(crate) fn rests(
     alloc: Global,
     records: &[Record],

@@ -1,17 +1,21 @@
 //! The ways in which a modulefile is evaluated, and those that its questions ask for.
-ghost use Rattle.std.specs.Prelude.{◌≡◌, [], ◌∷◌, ◌++◌, map, flat_map, IfOk, OnOk};
+ghost use Rattle.std.specs.Prelude.{◌≡◌, [], ◌∷◌, ◌++◌, map, flat_map, string_bytes, IfOk, OnOk};
+ghost use Rattle.envvars.specs.Texts.{texts_in};
+ghost use Rattle.modulefile.specs.RecordViews.{mode_view};
 ghost use Rattle.modulerun.specs.Questions.{questions_in};
 ghost use Rattle.settled.specs.Ways as spec;
 ghost use Rattle.settled.specs.WayViews.{way_view};
 
 use crate::asking::{AskedOfWay, asked_of_way};
+use crate::loaded_answers::{loaded_lists, questions_tried};
+use message::texts::copies;
 use modulefile::Mode;
 use modulerun::Question;
 use shelltext::Shell;
 use std::alloc::{AllocError, Global};
 
-/// How a file is evaluated: for what, as a half of a switch or not, and for which shell.
-#[derive(Clone, Copy, Debug, PartialEq, Eq)]
+/// How a file is evaluated: for what, as a half of a switch or not, for which shell, and with which modules loaded.
+#[derive(Drop)]
 pub struct Way {
     /// What it is evaluated for.
     pub mode: Mode,
@@ -19,6 +23,8 @@ pub struct Way {
     pub in_switch: bool,
     /// The shell that gets the text.
     pub shell: Shell,
+    /// The names of the modules that are loaded.
+    pub loaded: Vec<String>,
 }
 
 /// The shells but sh.
@@ -31,68 +37,153 @@ const OTHER_SHELLS: [Shell; 6] = [
     Shell::Fish,
 ];
 
+/// The first way in which a file is evaluated: for loading, in no switch, in sh, with nothing loaded.
+pub fn first_way(alloc: Global) -> Way
+    ensures { way_view result ≡ spec.first_way }
+{
+    Way {
+        mode: Mode::Load,
+        in_switch: false,
+        shell: Shell::Sh,
+        loaded: Vec::new(alloc),
+    }
+}
+
 /// Adds a way.
 fn push_way(
+    alloc: Global,
     ways: &mut Vec<Way>,
     mode: Mode,
     in_switch: bool,
     shell: Shell,
+    loaded: &[String],
 ) -> Result<(), AllocError>
-    ensures { OnOk result (ways.new.items ≡ ways.old.items
-        ++ record { mode = mode; in_switch = in_switch; shell = shell } ∷ []) }
+    ensures { OnOk result (map way_view ways.new.items ≡ map way_view ways.old.items ++ record {
+      mode = mode_view mode;
+      in_switch = in_switch;
+      shell = shell;
+      loaded = map string_bytes loaded.now;
+    } ∷ []) }
 {
     ways.push(Way {
         mode,
         in_switch,
         shell,
+        loaded: copies(alloc, loaded)?,
     })?;
     Ok(())
 }
 
 /// Adds the ways of one shell beside its first, where the mode is asked for.
-fn push_more(ways: &mut Vec<Way>, of_mode: bool, shell: Shell) -> Result<(), AllocError>
+fn push_more(
+    alloc: Global,
+    ways: &mut Vec<Way>,
+    of_mode: bool,
+    shell: Shell,
+    loaded: &[String],
+) -> Result<(), AllocError>
     ensures { OnOk result (map way_view ways.new.items
-        ≡ map way_view ways.old.items ++ spec.more_in of_mode shell) }
+        ≡ map way_view ways.old.items ++ spec.more_in of_mode shell (map string_bytes loaded.now)) }
 {
     if of_mode {
-        push_way(ways, Mode::Load, true, shell)?;
-        push_way(ways, Mode::Unload, false, shell)?;
-        push_way(ways, Mode::Unload, true, shell)?;
+        push_way(alloc, ways, Mode::Load, true, shell, loaded)?;
+        push_way(alloc, ways, Mode::Unload, false, shell, loaded)?;
+        push_way(alloc, ways, Mode::Unload, true, shell, loaded)?;
     }
     Ok(())
 }
 
 /// Adds the ways of one shell.
-fn push_ways(ways: &mut Vec<Way>, of_mode: bool, shell: Shell) -> Result<(), AllocError>
+fn push_ways(
+    alloc: Global,
+    ways: &mut Vec<Way>,
+    of_mode: bool,
+    loaded: &[String],
+    shell: Shell,
+) -> Result<(), AllocError>
     ensures { OnOk result (map way_view ways.new.items
-        ≡ map way_view ways.old.items ++ spec.ways_in of_mode shell) }
+        ≡ map way_view ways.old.items ++ spec.ways_in of_mode (map string_bytes loaded.now) shell) }
 {
-    push_way(ways, Mode::Load, false, shell)?;
-    push_more(ways, of_mode, shell)
+    push_way(alloc, ways, Mode::Load, false, shell, loaded)?;
+    push_more(alloc, ways, of_mode, shell, loaded)
 }
 
 /// Adds the ways of each of these shells.
-fn push_shells(ways: &mut Vec<Way>, of_mode: bool, shells: &[Shell]) -> Result<(), AllocError>
+fn push_shells(
+    alloc: Global,
+    ways: &mut Vec<Way>,
+    of_mode: bool,
+    loaded: &[String],
+    shells: &[Shell],
+) -> Result<(), AllocError>
     ensures { OnOk result (map way_view ways.new.items
-        ≡ map way_view ways.old.items ++ flat_map (spec.ways_in of_mode) shells.now) }
+        ≡ map way_view ways.old.items ++ flat_map (spec.ways_in of_mode (map string_bytes loaded.now)) shells.now) }
 {
     for shell in shells {
-        push_ways(ways, of_mode, *shell)?;
+        push_ways(alloc, ways, of_mode, loaded, *shell)?;
     }
     Ok(())
 }
 
-/// The ways that questions ask for, beside the first one, which is for loading, in no switch, in sh.
+/// Adds the ways with these modules loaded, beside that for loading in sh.
+fn push_more_with(
+    alloc: Global,
+    ways: &mut Vec<Way>,
+    asked: AskedOfWay,
+    loaded: &[String],
+) -> Result<(), AllocError>
+    ensures { OnOk result (map way_view ways.new.items ≡ map way_view ways.old.items
+        ++ spec.more_with asked.mode asked.shell (map string_bytes loaded.now)) }
+{
+    push_more(alloc, ways, asked.mode, Shell::Sh, loaded)?;
+    if asked.shell {
+        push_shells(alloc, ways, asked.mode, loaded, &OTHER_SHELLS)?;
+    }
+    Ok(())
+}
+
+/// Adds all ways with these modules loaded.
+fn push_ways_with(
+    alloc: Global,
+    ways: &mut Vec<Way>,
+    asked: AskedOfWay,
+    loaded: &[String],
+) -> Result<(), AllocError>
+    ensures { OnOk result (map way_view ways.new.items ≡ map way_view ways.old.items
+        ++ spec.ways_with asked.mode asked.shell (map string_bytes loaded.now)) }
+{
+    push_way(alloc, ways, Mode::Load, false, Shell::Sh, loaded)?;
+    push_more_with(alloc, ways, asked, loaded)
+}
+
+/// Adds all ways with each of these lists of loaded modules.
+fn push_lists(
+    alloc: Global,
+    ways: &mut Vec<Way>,
+    asked: AskedOfWay,
+    lists: &[Vec<String>],
+) -> Result<(), AllocError>
+    ensures { OnOk result (map way_view ways.new.items ≡ map way_view ways.old.items
+        ++ flat_map (spec.ways_with asked.mode asked.shell) (map texts_in lists.now)) }
+{
+    for loaded in lists {
+        push_ways_with(alloc, ways, asked, loaded.as_slice())?;
+    }
+    Ok(())
+}
+
+/// The ways that questions ask for, beside the first one, which is for loading, in no switch, in sh, with nothing loaded:
+/// those with nothing loaded, and those with what is loaded by each other choice of answers.
 ///
 /// The only error is want of memory.
 pub fn other_ways(alloc: Global, questions: &[Question]) -> Result<Vec<Way>, AllocError>
     ensures { IfOk result (λ ways. map way_view ways.items ≡ spec.other_ways (questions_in questions.now)) }
 {
-    let AskedOfWay { mode, shell } = asked_of_way(alloc, questions)?;
+    let asked = asked_of_way(alloc, questions)?;
+    let tried = questions_tried(alloc, asked, questions)?;
+    let lists = loaded_lists(alloc, tried.as_slice())?;
     let mut ways = Vec::new(alloc);
-    push_more(&mut ways, mode, Shell::Sh)?;
-    if shell {
-        push_shells(&mut ways, mode, &OTHER_SHELLS)?;
-    }
+    push_more_with(alloc, &mut ways, asked, &[])?;
+    push_lists(alloc, &mut ways, asked, lists.as_slice())?;
     Ok(ways)
 }

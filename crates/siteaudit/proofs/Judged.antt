@@ -13,7 +13,7 @@ use Rattle.modulerun.specs.declared.question.Question.{Question}
 use Rattle.modulerun.specs.Questions.{question_view}
 use Rattle.modulefile.specs.Records.{Record}
 use Rattle.modulefile.specs.Moves.{Module}
-use Rattle.reversal.specs.VariableUses.{VariableUse, Pathed, is_reversible, UsedVariable}
+use Rattle.reversal.specs.VariableUses.{VariableUse, Pathed, can_return, UsedVariable}
 use Rattle.requests.specs.Reasons.{RequestReason}
 use Rattle.modules.specs.declared.refusal.Refusal.{Refusal}
 use Rattle.settled.specs.Ways.{FileRuns, keep_answers, is_settled, reads_in}
@@ -79,7 +79,7 @@ twice_not rs v x y twice h =
 
 no_step : (m : SiteModule) (rs : List Record) (v : Text) (x y : VariableUse) → IsUsedTwice rs v x y → is_in_step (with_records m rs) ≡ false
 no_step m rs v x y twice = by_test (is_in_step (with_records m rs)) _
-    (λ t. absurd (twice_not rs v x y twice (and_parts (list_all is_reversible rs) (are_in_step (used_by rs)) t).1))
+    (λ t. absurd (twice_not rs v x y twice (and_parts (list_all can_return rs) (are_in_step (used_by rs)) t).1))
     (λ f. f)
 
 -- ---- which modules are candidates in step
@@ -106,7 +106,7 @@ unsettled true o outs e = rw e refl
 unsettled false o outs e = refl
 
 -- what a settled one with these records shows decides whether it is a candidate in step
-in_step_of_use : (m : SiteModule) (rs : List Record) (finding : ModuleFinding) (rest : List Module) → list_all is_reversible rs ≡ true → IsUseFinding rs finding
+in_step_of_use : (m : SiteModule) (rs : List Record) (finding : ModuleFinding) (rest : List Module) → list_all can_return rs ≡ true → IsUseFinding rs finding
     → steps_of m finding ++ filter is_in_step rest ≡ filter is_in_step (with_records m rs ∷ rest)
 in_step_of_use m rs (Stands Certified) rest t f = absurd f
 in_step_of_use m rs (Stands (Asks first)) rest t f = absurd f
@@ -117,7 +117,7 @@ in_step_of_use m rs (Stands (Clashes clash)) rest t f = absurd f
 in_step_of_use m rs (Stands (Refused refusal)) rest t f = absurd f
 in_step_of_use m rs (InStep records) rest t f =
     ap (λ (l : List Record). with_records m l ∷ filter is_in_step rest) f.1
-    ∙ kept_step (with_records m rs) rest (and_from (list_all is_reversible rs) (are_in_step (used_by rs)) t f.0)
+    ∙ kept_step (with_records m rs) rest (and_from (list_all can_return rs) (are_in_step (used_by rs)) t f.0)
 
 -- one that stands so is no step
 no_steps : (m : SiteModule) (finding : ModuleFinding) (standing : Standing) (rest : List Module) → finding ≡ Stands standing → steps_of m finding ++ filter is_in_step rest ≡ filter is_in_step rest
@@ -149,7 +149,7 @@ decided ms used reads m runs (Some u) same a e =
     ap not (one_used used reads (reads_in runs) e ∙ (ap (λ (l : List UsedVariable). list_any (λ p. has p.0 reads) l) (sym same) ∙ some_used ms reads (string_bytes u.variable) a.variable))
 
 -- a settled module
-settled_step : (m : SiteModule) (runs : Runs) (used : List UsedVariable) (u : Option UsedRead) (finding : ModuleFinding) (outs : List Evaluated) → list_all is_reversible runs.first.records ≡ true
+settled_step : (m : SiteModule) (runs : Runs) (used : List UsedVariable) (u : Option UsedRead) (finding : ModuleFinding) (outs : List Evaluated) → list_all can_return runs.first.records ≡ true
     → is_settled runs ≡ true → ReadsDecided used (m, Ok runs) u → IsSettledFinding runs.first.records u finding
     → steps_of m finding ++ filter is_in_step (filter_map settled_of outs) ≡ filter is_in_step (candidates_by (reads_none used (m, Ok runs)) (m, Ok runs) outs)
 settled_step m runs used None finding outs t settled free f =
@@ -190,7 +190,7 @@ file_step m file reads runs ms used u finding outs None e o same a (inl (t, f)) 
     settled_step m runs used u finding outs t settled
     (decided ms used (reads_where_settled (Ok file) reads) m runs u same a (settled_reading file reads runs o settled)) f
 file_step m file reads runs ms used u finding outs None e o same a (inr (first, one, is)) =
-    let n : list_all is_reversible runs.first.records ≡ false = not_all is_reversible runs.first.records (record_view first) one in
+    let n : list_all can_return runs.first.records ≡ false = not_all can_return runs.first.records (record_view first) one in
     let no : is_settled runs ≡ false = second_false _ _ n in
     no_steps m finding (OneWay first) (filter_map settled_of outs) is
     ∙ ap (filter is_in_step) (unsettled (reads_none used (m, Ok runs)) (m, Ok runs) outs (not_settled m runs no))
@@ -305,7 +305,7 @@ answered site ms m runs (Some clash ∷ answers) more p t h =
 
 -- a candidate by what it uses
 stands_by_use : (site : Site) (ms : List Module) (m : SiteModule) (runs : Runs) (finding : ModuleFinding) (answers : List (Option Clash)) (more : List Module) → IsOneOfThem site ms m runs
-    → list_all is_reversible runs.first.records ≡ true → IsUseFinding runs.first.records finding → AreAnswers (in_step_of ms) (steps_of m finding ++ more) answers
+    → list_all can_return runs.first.records ≡ true → IsUseFinding runs.first.records finding → AreAnswers (in_step_of ms) (steps_of m finding ++ more) answers
     → StandsAs site ms m (standing_with (standing_of finding) answers)
 stands_by_use site ms m runs (Stands Certified) answers more p t f h = absurd f
 stands_by_use site ms m runs (Stands (Asks first)) answers more p t f h = absurd f
@@ -315,7 +315,7 @@ stands_by_use site ms m runs (Stands (OutOfStep v x y)) answers more p t f h = (
 stands_by_use site ms m runs (Stands (Clashes clash)) answers more p t f h = absurd f
 stands_by_use site ms m runs (Stands (Refused refusal)) answers more p t f h = absurd f
 stands_by_use site ms m runs (InStep records) answers more p t f h =
-    answered site ms m runs answers more p (and_from (list_all is_reversible runs.first.records) (are_in_step (used_by runs.first.records)) t f.0)
+    answered site ms m runs answers more p (and_from (list_all can_return runs.first.records) (are_in_step (used_by runs.first.records)) t f.0)
     (subst (λ (l : List Record). AreAnswers (in_step_of ms) (with_records m l ∷ more) answers) f.1 h)
 
 -- one that reads what a settled module uses
@@ -338,7 +338,7 @@ stands_by_read site outs ms readers m runs reads u j e settled same a =
     )
 
 stands_settled : (site : Site) (outs : List Evaluated) (ms readers : List Module) (m : SiteModule) (runs : Runs) (reads : List Text) (u : Option UsedRead) (finding : ModuleFinding) (answers : List (Option Clash)) (more : List Module)
-    → IsJudging site outs ms readers → EvaluatesTo site m (Ok runs) → IsAmong (m, Ok runs) outs → is_settled runs ≡ true → list_all is_reversible runs.first.records ≡ true
+    → IsJudging site outs ms readers → EvaluatesTo site m (Ok runs) → IsAmong (m, Ok runs) outs → is_settled runs ≡ true → list_all can_return runs.first.records ≡ true
     → SameTexts reads (reads_in runs) → IsAnswer readers reads u → IsSettledFinding runs.first.records u finding → AreAnswers (in_step_of ms) (steps_of m finding ++ more) answers
     → StandsAs site ms m (standing_with (standing_of finding) answers)
 stands_settled site outs ms readers m runs reads None finding answers more j e among settled t same a f h =

@@ -1,11 +1,10 @@
 -- Outcomes of evaluations over a tree, by what their parts answered.
-use Rattle.std.proofs.Common.{◌≡◌, true, false, List, [], ◌∷◌, Option, Some, None, Result, Ok, Err, IfErr, String, Global, refl, sym, subst}
+use Rattle.std.proofs.Common.{◌≡◌, true, false, List, [], ◌∷◌, Option, Some, None, Result, Ok, Err, IfErr, String, Global, refl, ap, sym, subst}
 use Rattle.std.specs.Option.{option_map}
 use Rattle.std.specs.declared.vec.Vec.{Vec}
 use Rattle.envvars.specs.Texts.{Text, texts_in}
 use Rattle.envvars.specs.Fields.{without_repeats}
 use Rattle.envvars.specs.Environment.{Environment}
-use Rattle.envloaded.specs.Loaded.{Entry, names_of, loaded_in}
 use Rattle.filetree.specs.Agreement.{Files, Listings, InEachPair}
 use Rattle.filetree.specs.Causes.{Cause, Applies, memory, device, because}
 use Rattle.filetree.specs.Modulefiles.{modulefile}
@@ -27,33 +26,19 @@ use Rattle.siteaudit.specs.declared.scripts.FileEvaluation.{FileEvaluation}
 use Rattle.siteaudit.specs.declared.walk.EvaluatedFile.{EvaluatedFile}
 use Rattle.siteaudit.specs.declared.walk.Evaluation.{Evaluation}
 
--- the list that the names are those of
-loaded_list : (o : Option (List Entry)) (names : List Text) → option_map names_of o ≡ Some names → (xs : List Entry) × (Ok xs ≡ consistent o) × (names_of xs ≡ names)
-loaded_list None names h = absurd (cc)
-loaded_list (Some xs) names h = (xs, refl, cc)
-
-module _ (limits : Limits) (env : Environment) (names : List Text) (loaded : HasLoaded env names) (m : SiteModule) where
+module _ (limits : Limits) (env : Environment) (loaded : HasLoaded env) (m : SiteModule) where
   -- the script in the module's file
   abbrev pub ReadsScript : Files → Listings → Result Text RequestReason → Type 0
   ReadsScript files listings o = o ≡ script_at m.path (modulefile (files m.path))
 
   -- the context of a way
   abbrev pub context : Way → FileContext
-  context way = site_context way m.name m.path names env
+  context way = site_context way m.name m.path env
 
   -- an outcome of the script is one of the module
   pub evaluated : (way : Way) (files : Files) (listings : Listings) (text : Text) (o : Result runs.Ran RequestReason) → ReadsScript files listings (Ok text)
       → ScriptRuns limits (context way) text o → EvaluatesBy (site_of limits env files listings) way m o
-  evaluated way files listings text o read ran =
-      let l = loaded_list (loaded_in env) names loaded in (
-        Ok l.0,
-        l.1,
-        (
-          Ok text,
-          read,
-          subst (λ (ns : List Text). ScriptRuns limits (site_context way m.name m.path ns env) text o) (sym l.2) ran,
-        ),
-      )
+  evaluated way files listings text o read ran = (Ok loaded.0, ap consistent (sym loaded.1), (Ok text, read, ran))
 
   others : (files : Files) (listings : Listings) (text : Text) (ways : List Way) (os : List (Result runs.Ran RequestReason)) → ReadsScript files listings (Ok text)
       → ScriptRunsIn limits context text ways os → EvaluateBy (site_of limits env files listings) m ways os
@@ -64,7 +49,7 @@ module _ (limits : Limits) (env : Environment) (names : List Text) (loaded : Has
 
   -- a reason against the file is one of the module
   pub unread : (files : Files) (listings : Listings) (r : RequestReason) → ReadsScript files listings (Err r) → EvaluatesTo (site_of limits env files listings) m (Err r)
-  unread files listings r read = let l = loaded_list (loaded_in env) names loaded in (Ok l.0, l.1, (Err r, read, refl))
+  unread files listings r read = (Ok loaded.0, ap consistent (sym loaded.1), (Err r, read, refl))
 
   -- what a script shows, over the tree
   pub script_comes : (agrees : Files → Listings → Type 0) (failed : Type 0) (text : Text) (o : Result FileEvaluation Refusal) → InEachPair agrees (λ files listings. ReadsScript files listings (Ok text))

@@ -23,6 +23,7 @@ use Rattle.modulerun.specs.declared.run.FileRun.{FileRun}
 use Rattle.modules.specs.declared.refusal.Refusal.{Refusal}
 use Rattle.requests.specs.Reasons.{RequestReason}
 use Rattle.settled.specs.Resting.{variables_read}
+use Rattle.settled.specs.LoadedAnswers.{are_few}
 use Rattle.settled.specs.Ways.{Way, first_way, other_ways, is_ran_alike, is_alike, are_alike, keeps_answer, read_in}
 use Rattle.settled.specs.WayViews.{way_view}
 use Rattle.settled.specs.declared.ways.Way as code
@@ -75,7 +76,7 @@ shows_one_more limits context text first ways way before mid after a b all one =
       ∙ sym (flat_map-append read_in all.outcomes (one.outcome ∷ [])))));
 }
 
-shows_more : (limits : Limits) (context : Way → FileContext) (text : Text) (first : FileRun) (ways : List code.Way) (i : ℕ) (way : code.Way) (before mid after : List Text) (a b c : Bool)
+pub shows_more : (limits : Limits) (context : Way → FileContext) (text : Text) (first : FileRun) (ways : List code.Way) (i : ℕ) (way : code.Way) (before mid after : List Text) (a b c : Bool)
     → i < length ways → way ≡ get_or ways i way → ShowsAll limits context text first (map way_view (take i ways)) before mid a → ShowsOne limits context text first (way_view way) mid after b
     → c ≡ (a && b) → ShowsAll limits context text first (map way_view (take (i + 1) ways)) before after c
 shows_more limits context text first ways i way before mid after a b c l e all one same =
@@ -84,18 +85,6 @@ shows_more limits context text first ways i way before mid after a b c l e all o
     subst (λ (ws : List Way). ShowsAll limits context text first ws before after c) (sym split)
     (subst (ShowsAll limits context text first (map way_view (take i ways) ++ way_view way ∷ []) before after) (sym same)
     (shows_one_more limits context text first (map way_view (take i ways)) (way_view way) before mid after a b all one))
-
-get_any : {X : Type 0} (xs : List X) (i : ℕ) (d : X) → i < length xs → get_or xs i d ≡ get_or xs i (get_or xs i d)
-get_any [] i d l = absurd (omega arith)
-get_any (x ∷ xs) zero d l = refl
-get_any (x ∷ xs) (suc i) d l = get_any xs i d (omega arith)
-
--- the same of an element that is there, whatever stands for one that is not
-pub shows_next : (limits : Limits) (context : Way → FileContext) (text : Text) (first : FileRun) (ways : List code.Way) (i : ℕ) (d : code.Way) (before mid after : List Text) (a b c : Bool)
-    → i < length ways → ShowsAll limits context text first (map way_view (take i ways)) before mid a → ShowsOne limits context text first (way_view (get_or ways i d)) mid after b
-    → c ≡ (a && b) → ShowsAll limits context text first (map way_view (take (i + 1) ways)) before after c
-shows_next limits context text first ways i d before mid after a b c l all one same =
-    shows_more limits context text first ways i (get_or ways i d) before mid after a b c l (get_any ways i d l) all one same
 
 pub shows_none : (limits : Limits) (context : Way → FileContext) (text : Text) (first : FileRun) (before : List Text) → ShowsAll limits context text first [] before before true
 shows_none limits context text first before = record { outcomes = []; runs = tt; alike = λ e. refl; reads = sym (append-nil before) }
@@ -123,18 +112,18 @@ shows_err limits context text first way before o refusal comes is kept =
 
 -- the whole script
 
-pub shows_script : (limits : Limits) (context : Way → FileContext) (text : Text) (first : FileRun) (e : Environment) (ways : List Way) (all : List Text) (alike : Bool) (shown : FileEvaluation)
+pub shows_script : (limits : Limits) (context : Way → FileContext) (text : Text) (first : FileRun) (e : Environment) (ways : List Way) (all : List Text) (alike few : Bool) (shown : FileEvaluation)
     → ScriptRuns limits (context first_way) text (Ok (ran_view first e)) → ways ≡ other_ways (questions_in first.asked.items)
-    → ShowsAll limits context text first ways (variables_read (questions_in first.asked.items)) all alike
+    → ShowsAll limits context text first ways (variables_read (questions_in first.asked.items)) all alike → few ≡ are_few (questions_in first.asked.items)
     → shown.file.records ≡ first.records
-    → option_map question_view shown.file.unkept ≡ find (λ q. not (keeps_answer alike (map record_view first.records.items) q)) (questions_in first.asked.items)
+    → option_map question_view shown.file.unkept ≡ find (λ q. not (keeps_answer (few && alike) (map record_view first.records.items) q)) (questions_in first.asked.items)
     → texts_in shown.reads ≡ without_repeats all → ShowsScript limits context text (Ok shown)
-shows_script limits context text first e ways all alike shown ran same shows records unkept reads = (
+shows_script limits context text first e ways all alike few shown ran same shows known records unkept reads = (
   record { first = ran_view first e; others = shows.outcomes },
   record {
     records = ap (λ (v : Vec _ Global). map record_view v.items) records;
     unkept = unkept ∙ ap (λ (b : Bool). find (λ q. not (keeps_answer b (map record_view first.records.items) q)) (questions_in first.asked.items))
-        (shows.alike e ∙ ap (λ (ws : List Way). are_alike (ran_view first e) ws shows.outcomes) same);
+        (both few alike _ _ known (shows.alike e ∙ ap (λ (ws : List Way). are_alike (ran_view first e) ws shows.outcomes) same));
   },
   reads ∙ ap without_repeats shows.reads,
   ran,

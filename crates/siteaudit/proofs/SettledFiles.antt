@@ -8,7 +8,7 @@ use Rattle.envvars.specs.Texts.{Text, has}
 use Rattle.envvars.specs.Fields.{without, without_repeats}
 use Rattle.envvars.proofs.TextLemmas.{same_text}
 use Rattle.modulerun.specs.Questions.{question_view}
-use Rattle.reversal.specs.VariableUses.{is_reversible}
+use Rattle.reversal.specs.VariableUses.{can_return}
 use Rattle.requests.specs.Reasons.{RequestReason}
 use Rattle.settled.specs.Ways.{FileRuns, are_runs_alike, keeps_answer, keep_answers, is_settled}
 use Rattle.sitecertificate.proofs.UsedLemmas.{by_test}
@@ -30,7 +30,7 @@ kept_same file runs of =
     ∙ (ap (λ (o : Option _). is_none o) of.unkept ∙ none_fails (keeps_answer (are_runs_alike runs) runs.first.records) runs.first.asked)
 
 pub settled_same : (file : EvaluatedFile) (runs : FileRuns RequestReason) → IsOfRuns file runs → is_settled_file file ≡ is_settled runs
-settled_same file runs of = let kept = kept_same file runs of in λ i. kept i && list_all is_reversible (of.records i)
+settled_same file runs of = let kept = kept_same file runs of in λ i. kept i && list_all can_return (of.records i)
 
 pub records_same : (file : EvaluatedFile) (runs : FileRuns RequestReason) → IsOfRuns file runs → settled_records (Ok file) ≡ cond (is_settled runs) runs.first.records []
 records_same file runs of = let same = settled_same file runs of in λ i. cond (same i) (of.records i) []

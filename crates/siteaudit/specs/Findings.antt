@@ -9,7 +9,7 @@ use Rattle.modulerun.specs.declared.question.Question.{Question}
 use Rattle.modulefile.specs.Records.{Record}
 use Rattle.modulefile.specs.declared.records.Record as code
 use Rattle.modulefile.specs.Moves.{Module}
-use Rattle.reversal.specs.VariableUses.{Pathed, is_reversible, UsedVariable}
+use Rattle.reversal.specs.VariableUses.{Pathed, can_return, UsedVariable}
 use Rattle.modules.specs.MoveViews.{module_view}
 use Rattle.modules.specs.declared.refusal.Refusal.{Refusal}
 use Rattle.sitecertificate.specs.RecordUses.{used_by, used_by_modules, IsAmong, modulepath, same_use}
@@ -62,7 +62,7 @@ IsSettledFinding rs None finding = IsUseFinding rs finding
 -- The same of a module whose questions keep their answers.
 abbrev pub IsKeptFinding : List Record → Option UsedRead → ModuleFinding → Type 0
 IsKeptFinding rs used finding =
-    ((list_all is_reversible rs ≡ true) × IsSettledFinding rs used finding)
+    ((list_all can_return rs ≡ true) × IsSettledFinding rs used finding)
     ⊎ ((first : code.Record) × IsFirstOneWay rs (record_view first) × (finding ≡ Stands (OneWay first)))
 
 -- What a module with these records shows by itself, of whose questions this is the first that doesn't keep its answer.

@@ -8,7 +8,7 @@ use Rattle.modulefile.specs.Records.{Record}
 use Rattle.modulefile.specs.RecordViews.{record_view}
 use Rattle.modulefile.specs.Moves.{Module}
 use Rattle.modules.specs.declared.refusal.Refusal.{Refusal}
-use Rattle.reversal.specs.VariableUses.{is_reversible}
+use Rattle.reversal.specs.VariableUses.{can_return}
 use Rattle.sitereads.specs.Answers.{IsAnswer}
 use Rattle.sitereads.specs.declared.readers.UsedRead.{UsedRead}
 use Rattle.sitelaws.specs.Sites.{SiteModule, with_records, added_directories}
@@ -17,7 +17,7 @@ use Rattle.siteaudit.specs.declared.walk.Evaluation.{Evaluation}
 
 -- the file is that of a settled module
 abbrev pub is_settled_file : EvaluatedFile → Bool
-is_settled_file file = is_none file.unkept && list_all is_reversible (map record_view file.records.items)
+is_settled_file file = is_none file.unkept && list_all can_return (map record_view file.records.items)
 
 -- what its evaluations show, where it is one
 abbrev pub is_settled_outcome : Result EvaluatedFile Refusal → Option (Bor EvaluatedFile) → Type 0

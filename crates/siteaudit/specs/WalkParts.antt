@@ -1,11 +1,10 @@
 -- The parts of a walk over a site, for the contracts of this crate's private functions (own).
 use Rattle.std.specs.Prelude.{◌≡◌, Bool, List, [], ◌∷◌, ◌++◌, map, flat_map, Some, None, Result, Ok, Err, string_bytes}
-use Rattle.std.specs.Option.{option_map}
 use Rattle.envvars.specs.Texts.{Text, texts_in}
 use Rattle.envvars.specs.Fields.{without_repeats}
 use Rattle.envvars.specs.Environment.{Environment}
 use Rattle.envvars.specs.Reasons as edits
-use Rattle.envloaded.specs.Loaded.{names_of, loaded_in}
+use Rattle.envloaded.specs.Loaded.{Entry, loaded_in}
 use Rattle.tclrules.specs.declared.limits.Limits.{Limits}
 use Rattle.filetree.specs.Agreement.{Files, Listings, InEachPair}
 use Rattle.filetree.specs.Causes.{Applies}
@@ -30,13 +29,13 @@ use Rattle.siteaudit.specs.declared.walk.Evaluation.{Evaluation}
 
 -- ---- the file of a module
 
--- these are the names of the modules that are loaded in the environment
-abbrev pub HasLoaded : Environment → List Text → Type 0
-HasLoaded e names = option_map names_of (loaded_in e) ≡ Some names
+-- the loaded lists of the environment fit together: these modules are loaded
+abbrev pub HasLoaded : Environment → Type 0
+HasLoaded e = (entries : List Entry) × (loaded_in e ≡ Some entries)
 
--- the context in which the file of this name and path is evaluated in a way, where these modules are loaded
-abbrev pub site_context : Way → Text → Text → List Text → Environment → FileContext
-site_context way name path loaded e =
+-- the context in which the file of this name and path is evaluated in a way
+abbrev pub site_context : Way → Text → Text → Environment → FileContext
+site_context way name path e =
     record {
       mode = way.mode;
       in_switch = way.in_switch;
@@ -44,7 +43,7 @@ site_context way name path loaded e =
       path = path;
       shell = way.shell;
       typed = name;
-      loaded = loaded;
+      loaded = way.loaded;
       before = e;
     }
 

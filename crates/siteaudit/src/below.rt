@@ -55,7 +55,7 @@ pub(crate) fn evaluate_below<T: Tree, P: WalkProgress>(
     before: usize,
     progress: &mut P,
 ) -> Result<Vec<Evaluation>, Refusal>
-    requires { HasLoaded settings.env.now (map string_bytes settings.loaded.now) }
+    requires { HasLoaded settings.env.now }
     ensures reads { ReadsOn T.agrees T.failures tree.old tree.new }
     ensures evaluated { directories dir.now ≡ dir.now ∷ [] → IfOk result (λ evaluations.
         InEachPair (T.agrees tree.new) (λ files listings.

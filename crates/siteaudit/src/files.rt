@@ -1,6 +1,5 @@
 //! The evaluation of the file of a module of a site.
-ghost use Rattle.std.specs.Prelude.{◌≡◌, ◌<◌, IfOk, IfErr, string_bytes, map};
-ghost use Rattle.envvars.specs.Texts.{texts_in};
+ghost use Rattle.std.specs.Prelude.{◌≡◌, ◌<◌, IfOk, IfErr, OnOk, string_bytes};
 ghost use Rattle.filetree.specs.Agreement.{FailsAt, InEachPair, ReadsOn};
 ghost use Rattle.modules.specs.Answers.{is_failure};
 ghost use Rattle.sitelaws.specs.Sites.{EvaluatesTo, site_of, module_below};
@@ -24,23 +23,17 @@ pub(crate) struct SiteSettings<'a> {
     pub(crate) alloc: Global,
     pub(crate) env: &'a Env,
     pub(crate) limits: Limits,
-    /// The names of the modules that are loaded in the environment.
-    pub(crate) loaded: &'a [String],
 }
 
-/// The names of the modules that are loaded in an environment.
+/// Sees that the loaded lists of an environment fit together.
 ///
-/// Errors: loaded lists that don't fit together (35); want of memory.
-pub(crate) fn loaded_names(alloc: Global, env: &Env) -> Result<Vec<String>, Refusal>
-    ensures names { IfOk result (λ names. HasLoaded env.now (texts_in names)) }
+/// Errors: loaded lists that don't (35); want of memory.
+pub(crate) fn check_loaded(alloc: Global, env: &Env) -> Result<(), Refusal>
+    ensures fit { OnOk result (HasLoaded env.now) }
     ensures cause { IfErr result (HasListCause env.now) }
 {
-    let entries = loaded(alloc, env)?;
-    let mut names = Vec::new(alloc);
-    for entry in &entries {
-        names.push(String::from_str(alloc, entry.name.as_str())?)?;
-    }
-    Ok(names)
+    loaded(alloc, env)?;
+    Ok(())
 }
 
 /// What the evaluations of a module's file show, or why the first is refused.
@@ -50,7 +43,7 @@ fn evaluate_file<T: Tree>(
     name: &str,
     path: &str,
 ) -> Result<FileEvaluation, Refusal>
-    requires { HasLoaded settings.env.now (map string_bytes settings.loaded.now) }
+    requires { HasLoaded settings.env.now }
     ensures reads { ReadsOn T.agrees T.failures tree.old tree.new }
     ensures over_tree { ComesToOverTree (T.agrees tree.new) (T.failures tree.old < T.failures tree.new) result
         (λ files listings. EvaluatesTo (site_of settings.entry.limits settings.entry.env.now files listings)
@@ -96,7 +89,7 @@ pub(crate) fn evaluate_module<T: Tree>(
     dir: &str,
     name: &str,
 ) -> Result<Evaluation, Refusal>
-    requires { HasLoaded settings.env.now (map string_bytes settings.loaded.now) }
+    requires { HasLoaded settings.env.now }
     ensures reads { ReadsOn T.agrees T.failures tree.old tree.new }
     ensures evaluated { IfOk result (λ evaluation. InEachPair (T.agrees tree.new) (λ files listings.
         IsEvaluationOf (site_of settings.entry.limits settings.entry.env.now files listings)

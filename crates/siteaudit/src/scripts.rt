@@ -1,4 +1,5 @@
-//! The evaluations of a script: the first, for loading in sh, and those in the other ways that it asks for.
+//! The evaluations of a script: the first, for loading in sh with nothing loaded, and those in the other ways that it asks
+//! for.
 ghost use Rattle.std.specs.Prelude.{◌≡◌, ◌++◌, find, not, map, string_bytes, IfOk, IfErr, OnOk};
 ghost use Rattle.std.specs.Option.{option_map};
 ghost use Rattle.envvars.specs.Texts.{texts_in};
@@ -6,6 +7,7 @@ ghost use Rattle.envvars.specs.Fields.{without_repeats};
 ghost use Rattle.modulefile.specs.RecordViews.{record_view};
 ghost use Rattle.modulerun.specs.Questions.{question_view, questions_in};
 ghost use Rattle.settled.specs.Resting as resting;
+ghost use Rattle.settled.specs.Ways as spec;
 ghost use Rattle.settled.specs.Ways.{keeps_answer};
 ghost use Rattle.settled.specs.WayViews.{way_view};
 ghost use Rattle.siteaudit.specs.WalkParts.{site_context, ComesTo, GivesUp, ScriptRuns, ShowsOne, ShowsAll, ShowsScript};
@@ -15,19 +17,10 @@ use crate::walk::EvaluatedFile;
 use envvars::WorkingCopy;
 use envvars::fields::{deduplicated, owned, slices};
 use givenup::unless_given_up;
-use modulefile::Mode;
 use modulerun::{FileContext, FileRun, run_file};
 use modules::Refusal;
-use settled::{Way, first_unkept, is_ran_alike, other_ways, variables_read};
-use shelltext::Shell;
+use settled::{Way, are_few, first_unkept, first_way, is_ran_alike, other_ways, variables_read};
 use std::alloc::{AllocError, Global};
-
-/// The first way in which a file is evaluated: for loading, in no switch, in sh.
-const FIRST_WAY: Way = Way {
-    mode: Mode::Load,
-    in_switch: false,
-    shell: Shell::Sh,
-};
 
 /// A script in the file of a module.
 #[derive(Clone, Copy)]
@@ -48,9 +41,9 @@ pub(crate) struct FileEvaluation {
 }
 
 /// What the evaluation of a script leaves in a way, over the environment at hand, which doesn't change.
-fn run_script(settings: SiteSettings<'_>, way: Way, script: Script<'_>) -> Result<FileRun, Refusal>
+fn run_script(settings: SiteSettings<'_>, way: &Way, script: Script<'_>) -> Result<FileRun, Refusal>
     ensures { ComesTo result (ScriptRuns settings.entry.limits
-        (site_context (way_view way) script.entry.name.now script.entry.path.now (map string_bytes settings.entry.loaded.now)
+        (site_context (way_view way.entry.now) script.entry.name.now script.entry.path.now
         settings.entry.env.now) script.entry.text.now) }
 {
     let Script { name, path, text } = script;
@@ -61,7 +54,7 @@ fn run_script(settings: SiteSettings<'_>, way: Way, script: Script<'_>) -> Resul
         path,
         shell: way.shell,
         typed: name,
-        loaded: settings.loaded,
+        loaded: way.loaded.as_slice(),
     };
     let mut working = WorkingCopy::over(settings.env);
     Ok(run_file(
@@ -71,6 +64,16 @@ fn run_script(settings: SiteSettings<'_>, way: Way, script: Script<'_>) -> Resul
         &mut working,
         settings.limits,
     )?)
+}
+
+/// What the first evaluation of a script leaves: for loading, in sh, with nothing loaded.
+fn run_first(settings: SiteSettings<'_>, script: Script<'_>) -> Result<FileRun, Refusal>
+    ensures { ComesTo result (ScriptRuns settings.entry.limits
+        (site_context spec.first_way script.entry.name.now script.entry.path.now
+        settings.entry.env.now) script.entry.text.now) }
+{
+    let way = first_way(settings.alloc);
+    run_script(settings, &way, script)
 }
 
 /// Adds the variables that an evaluation reads.
@@ -96,12 +99,12 @@ fn run_other(
     reads: &mut Vec<String>,
 ) -> Result<bool, Refusal>
     ensures shows { IfOk result (ShowsOne settings.entry.limits (λ w. site_context w script.entry.name.now
-        script.entry.path.now (map string_bytes settings.entry.loaded.now) settings.entry.env.now) script.entry.text.now
+        script.entry.path.now settings.entry.env.now) script.entry.text.now
         first.now (way_view way.now) (texts_in reads.old) (texts_in reads.new)) }
     ensures cause { IfErr result (GivesUp ⊥) }
 {
     let alloc = settings.alloc;
-    match unless_given_up(run_script(settings, *way, script))? {
+    match unless_given_up(run_script(settings, way, script))? {
         Ok(ran) => {
             push_reads(alloc, reads, &ran)?;
             Ok(is_ran_alike(alloc, first, way.mode, &ran)?)
@@ -121,7 +124,7 @@ fn run_others(
     reads: &mut Vec<String>,
 ) -> Result<bool, Refusal>
     ensures shows { IfOk result (ShowsAll settings.entry.limits (λ w. site_context w script.entry.name.now
-        script.entry.path.now (map string_bytes settings.entry.loaded.now) settings.entry.env.now) script.entry.text.now
+        script.entry.path.now settings.entry.env.now) script.entry.text.now
         first.now (map way_view ways.now) (texts_in reads.old) (texts_in reads.new)) }
     ensures cause { IfErr result (GivesUp ⊥) }
 {
@@ -163,22 +166,24 @@ fn once_each(alloc: Global, texts: &[String]) -> Result<Vec<String>, AllocError>
     owned(alloc, once.as_slice())
 }
 
-/// What the evaluations of a script show: the first, for loading, in sh, and those in the other ways that it asks for.
+/// What the evaluations of a script show: the first, for loading, in sh, with nothing loaded, and those in the other ways
+/// that it asks for.
 pub(crate) fn evaluate_script(
     settings: SiteSettings<'_>,
     script: Script<'_>,
 ) -> Result<FileEvaluation, Refusal>
     ensures { ShowsScript settings.entry.limits (λ w. site_context w script.entry.name.now script.entry.path.now
-        (map string_bytes settings.entry.loaded.now) settings.entry.env.now) script.entry.text.now result }
+        settings.entry.env.now) script.entry.text.now result }
 {
     let alloc = settings.alloc;
-    let first = run_script(settings, FIRST_WAY, script)?;
+    let first = run_first(settings, script)?;
     let mut reads = Vec::new(alloc);
     push_reads(alloc, &mut reads, &first)?;
     let ways = other_ways(alloc, first.asked.as_slice())?;
     let alike = run_others(settings, script, &first, ways.as_slice(), &mut reads)?;
+    let few = are_few(alloc, first.asked.as_slice())?;
     Ok(FileEvaluation {
-        file: file_of(alloc, alike, first)?,
+        file: file_of(alloc, few & alike, first)?,
         reads: once_each(alloc, reads.as_slice())?,
     })
 }

@@ -13,7 +13,8 @@ ghost use Rattle.siteaudit.specs.Findings.{IsFinding};
 use crate::walk::EvaluatedFile;
 use modulefile::{Delimiter, Record};
 use modulerun::Question;
-use modules::{Refusal, is_reversible};
+use modules::Refusal;
+use settled::can_return;
 use sitecertificate::{Clash, UsedVariable, VariableUse, first_unlike, used_by};
 use sitereads::UsedRead;
 use std::alloc::{AllocError, Global};
@@ -26,7 +27,7 @@ pub enum Standing {
     /// Its evaluation asked this, the first question that doesn't keep its answer, so that its records may differ
     /// elsewhere, or do.
     Asks(Question),
-    /// Each question keeps its answer, and this is the first of its records that unloading doesn't undo.
+    /// Each question keeps its answer, and this is the first of its records after which the start can't be back.
     OneWay(Record),
     /// It is settled, and reads a variable that a settled module uses.
     ReadsUsed(UsedRead),
@@ -60,11 +61,11 @@ pub(crate) enum ModuleFinding {
     InStep(Vec<Record>),
 }
 
-/// The place of the first record that unloading doesn't undo.
+/// The place of the first record after which the start can't be back.
 fn first_one_way(records: &[Record]) -> Option<usize>
-    ensures { result ≡ position (λ r. not (variable_uses.is_reversible (record_view r))) records.now }
+    ensures { result ≡ position (λ r. not (variable_uses.can_return (record_view r))) records.now }
 {
-    records.iter().position(|recorded| !is_reversible(recorded))
+    records.iter().position(|recorded| !can_return(recorded))
 }
 
 /// MODULEPATH, as a path with colons.

@@ -13,7 +13,7 @@ ghost use Rattle.siteaudit.specs.WalkParts.{HasLoaded, GivesUp, GoesThrough};
 use crate::below::evaluate_below;
 use crate::directories::push_found;
 use crate::fault::WalkFault;
-use crate::files::{SiteSettings, loaded_names};
+use crate::files::{SiteSettings, check_loaded};
 use crate::progress::WalkProgress;
 use envvars::{Env, Vars};
 use filetree::Tree;
@@ -29,8 +29,8 @@ use tclrules::Limits;
 /// that a site can have more than any number of them.
 pub const MAX_DIRECTORIES: usize = 65_536;
 
-/// What the evaluations of a module's file show: the first, for loading in sh, and those in the other ways that it asks
-/// for.
+/// What the evaluations of a module's file show: the first, for loading in sh with nothing loaded, and those in the other
+/// ways that it asks for.
 #[derive(Drop)]
 pub struct EvaluatedFile {
     /// The records of the first.
@@ -83,7 +83,7 @@ fn walk_directory<T: Tree, P: WalkProgress>(
     evaluations: &mut Vec<Evaluation>,
     progress: &mut P,
 ) -> Result<(), Refusal>
-    requires { HasLoaded settings.env.now (map string_bytes settings.loaded.now) }
+    requires { HasLoaded settings.env.now }
     ensures reads { ReadsOn T.agrees T.failures tree.old tree.new }
     ensures walked { directories dir.now ≡ dir.now ∷ [] → OnOk result (InEachPair (T.agrees tree.new) (λ files listings.
         GoesThrough (site_of settings.entry.limits settings.entry.env.now files listings) dir.now
@@ -106,7 +106,7 @@ fn walk_from<T: Tree, P: WalkProgress>(
     modulepath: &str,
     progress: &mut P,
 ) -> Result<SiteWalk, WalkFault>
-    requires loaded { HasLoaded settings.env.now (map string_bytes settings.loaded.now) }
+    requires loaded { HasLoaded settings.env.now }
     requires begins { modulepath.now ≡ modulepath_of settings.env.now }
     ensures reads { ReadsOn T.agrees T.failures tree.old tree.new }
     ensures walked { IfOk result (λ found. InEachPair (T.agrees tree.new) (λ files listings.
@@ -143,7 +143,8 @@ fn walk_from<T: Tree, P: WalkProgress>(
 }
 
 /// Walks over a site, that of the MODULEPATH of an environment over a tree and within limits: each file is read once, and
-/// evaluated in that environment, which doesn't change, for loading, in sh, and in each other way that it asks for.
+/// evaluated in that environment, which doesn't change, for loading, in sh, with nothing loaded, and in each other way that
+/// it asks for.
 ///
 /// Errors: loaded lists that don't fit together (35); a device that failed in this call, at a path that the walk looks at
 /// (43); want of memory (11, 31, 41); more than `MAX_DIRECTORIES` directories.
@@ -161,12 +162,7 @@ pub fn walk_site<T: Tree, P: WalkProgress>(
     ensures failed { FailsWhere is_failure T.agrees T.failed tree.old tree.new result (λ files listings.
         WalkLooksAt (site_of limits env.now files listings)) }
 {
-    let loaded = loaded_names(alloc, env)?;
-    let settings = SiteSettings {
-        alloc,
-        env,
-        limits,
-        loaded: loaded.as_slice(),
-    };
+    check_loaded(alloc, env)?;
+    let settings = SiteSettings { alloc, env, limits };
     walk_from(settings, tree, modulepath(env), progress)
 }

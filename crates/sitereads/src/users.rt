@@ -20,25 +20,21 @@ pub(crate) struct Users<'a> {
     readers: IndexMap<&'a str, &'a Reader<'a>>,
 }
 
-/// The variable that a record uses; `None` where it names none, or where unloading doesn't undo it.
+/// The variable that a record uses; `None` where it names none, or removes elements.
 fn variable_used(recorded: &Record) -> Option<&str>
     ensures { option_map (λ name. name.now) result
         ≡ option_map (λ p. p.0) (variable_uses.use_by (record_view recorded.now)) }
 {
     match recorded {
         Record::Set { var, .. }
-        | Record::Unset {
-            var,
-            value: Some(_),
-        }
+        | Record::Unset { var, .. }
         | Record::Push { var, .. }
         | Record::Path {
             edit: PathEdit::Front | PathEdit::Back,
             var,
             ..
         } => Some(var.as_str()),
-        Record::Unset { value: None, .. }
-        | Record::Path {
+        Record::Path {
             edit: PathEdit::Remove,
             ..
         }

@@ -9,12 +9,13 @@ use Rattle.json.specs.Tree.{json_tokens}
 use Rattle.json.specs.Value.{items_of}
 use Rattle.sitecertificate.specs.declared.uses.UsedVariable.{UsedVariable}
 use Rattle.sitecertificate.specs.declared.uses.VariableUse.{VariableUse}
-use Rattle.sitecertificate.specs.declared.uses.VariableUse.TheVariants.{Fixed, Pathed, Stacked}
+use Rattle.sitecertificate.specs.declared.uses.VariableUse.TheVariants.{Fixed, Absent, Pathed, Stacked}
 use Rattle.modulefile.specs.declared.delimiter.Delimiter.{Delimiter}
 use Rattle.modules.specs.Messages.{message_of}
 use Rattle.sitecertificate.specs.declared.disagreement.Disagreement.{Disagreement}
 use Rattle.sitecertificate.specs.declared.disagreement.Disagreement.TheVariants.{LoadedTexts, IsSet, HasNotValue}
-use Rattle.sitecertificate.specs.declared.disagreement.Disagreement.TheVariants.{PathNotInOrder, StackNotInOrder}
+use Rattle.sitecertificate.specs.declared.disagreement.Disagreement.TheVariants.{IsNotAbsent, PathNotInOrder}
+use Rattle.sitecertificate.specs.declared.disagreement.Disagreement.TheVariants.{StackNotInOrder}
 use Rattle.siteaudit.specs.declared.auditing.AuditedModule.{AuditedModule}
 use Rattle.siteaudit.specs.declared.auditing.SiteAudit.{SiteAudit}
 use Rattle.siteaudit.specs.declared.auditing.UnknownNames.{UnknownNames}
@@ -62,6 +63,7 @@ path_fields delim = (codes "use", string (codes "path")) ∷ (codes "delimiter",
 abbrev pub use_fields : VariableUse → List Field
 use_fields (Fixed None) = (codes "use", string (codes "set")) ∷ []
 use_fields (Fixed (Some value)) = (codes "use", string (codes "unset")) ∷ (codes "value", text_value value) ∷ []
+use_fields Absent = (codes "use", string (codes "unset")) ∷ []
 use_fields (Pathed delim) = path_fields delim
 use_fields Stacked = (codes "use", string (codes "stack")) ∷ []
 
@@ -136,6 +138,8 @@ disagreement_fields (IsSet variable) =
 disagreement_fields (HasNotValue variable value) =
     (codes "variable", text_value variable) ∷ (codes "use", string (codes "unset")) ∷ (codes "value", text_value value)
     ∷ []
+disagreement_fields (IsNotAbsent variable) =
+    (codes "variable", text_value variable) ∷ (codes "use", string (codes "unset")) ∷ []
 disagreement_fields (PathNotInOrder variable delim) =
     (codes "variable", text_value variable) ∷ path_fields delim
 disagreement_fields (StackNotInOrder variable) =

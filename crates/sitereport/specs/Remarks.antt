@@ -9,7 +9,8 @@ use Rattle.envvars.specs.Texts.{Text, texts_in}
 use Rattle.modulefile.specs.declared.delimiter.Delimiter.{Delimiter}
 use Rattle.sitecertificate.specs.declared.disagreement.Disagreement.{Disagreement}
 use Rattle.sitecertificate.specs.declared.disagreement.Disagreement.TheVariants.{LoadedTexts, IsSet, HasNotValue}
-use Rattle.sitecertificate.specs.declared.disagreement.Disagreement.TheVariants.{PathNotInOrder, StackNotInOrder}
+use Rattle.sitecertificate.specs.declared.disagreement.Disagreement.TheVariants.{IsNotAbsent, PathNotInOrder}
+use Rattle.sitecertificate.specs.declared.disagreement.Disagreement.TheVariants.{StackNotInOrder}
 use Rattle.siteaudit.specs.declared.auditing.UnknownNames.{UnknownNames}
 use Rattle.sitereport.specs.Words.{spelled}
 
@@ -91,6 +92,7 @@ disagreement_words LoadedTexts = codes "the loaded modules aren't in order"
 disagreement_words (IsSet variable) = string_bytes variable ++ codes " is set"
 disagreement_words (HasNotValue variable value) = string_bytes variable
     ++ (codes " isn't '" ++ (string_bytes value ++ codes "'"))
+disagreement_words (IsNotAbsent variable) = string_bytes variable ++ codes " is set"
 disagreement_words (PathNotInOrder variable delim) =
     string_bytes variable ++ (codes " isn't in order as a path with " ++ delimiter delim)
 disagreement_words (StackNotInOrder variable) = string_bytes variable ++ codes " isn't in order as a stack"

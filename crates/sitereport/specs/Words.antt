@@ -16,7 +16,7 @@ use Rattle.modulefile.specs.RecordViews.{record_view}
 use Rattle.modulefile.specs.Reports.{shown_words}
 use Rattle.modulerun.specs.Questions.{question_view}
 use Rattle.sitecertificate.specs.declared.uses.VariableUse.{VariableUse}
-use Rattle.sitecertificate.specs.declared.uses.VariableUse.TheVariants.{Fixed, Pathed, Stacked}
+use Rattle.sitecertificate.specs.declared.uses.VariableUse.TheVariants.{Fixed, Absent, Pathed, Stacked}
 use Rattle.sitecertificate.specs.declared.answers.Clash.{Clash}
 use Rattle.modules.specs.Messages.{message_of}
 use Rattle.sitereads.specs.declared.readers.UsedRead.{UsedRead}
@@ -93,6 +93,7 @@ standing_count word modules = count_by (λ m. bytes_eq (standing_word m.standing
 abbrev pub use_words : VariableUse → Text
 use_words (Fixed None) = codes "set"
 use_words (Fixed (Some value)) = codes "unset of '" ++ (string_bytes value ++ codes "'")
+use_words Absent = codes "unset"
 use_words (Pathed delim) = codes "path with '" ++ delim.character ∷ codes "'"
 use_words Stacked = codes "stack"
 

@@ -194,6 +194,10 @@ fn write_disagreement_fields(
             write_text(writer, "use", "unset")?;
             write_text(writer, "value", value.as_str())
         }
+        Disagreement::IsNotAbsent(variable) => {
+            write_text(writer, "variable", variable.as_str())?;
+            write_text(writer, "use", "unset")
+        }
         Disagreement::PathNotInOrder { variable, delim } => {
             write_text(writer, "variable", variable.as_str())?;
             write_path_fields(alloc, writer, *delim)

@@ -169,6 +169,7 @@ fn disagreement_words(alloc: Global, reason: &Disagreement) -> Result<String, Al
             String::from_str(alloc, "the loaded modules aren't in order")
         }
         Disagreement::IsSet(variable) => said_of(alloc, variable.as_str(), " is set"),
+        Disagreement::IsNotAbsent(variable) => said_of(alloc, variable.as_str(), " is set"),
         Disagreement::HasNotValue { variable, value } => {
             format!(in alloc; "{variable} isn't '{value}'")
         }

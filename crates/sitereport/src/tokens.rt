@@ -79,6 +79,7 @@ fn write_use_fields(
             write_text(writer, "use", "unset")?;
             write_text(writer, "value", value.as_str())
         }
+        VariableUse::Absent => write_text(writer, "use", "unset"),
         VariableUse::Pathed(delim) => write_path_fields(alloc, writer, *delim),
         VariableUse::Stacked => write_text(writer, "use", "stack"),
     }

@@ -35,6 +35,7 @@ pub(crate) fn use_words(alloc: Global, used: &VariableUse) -> Result<String, All
     match used {
         VariableUse::Fixed(None) => String::from_str(alloc, "set"),
         VariableUse::Fixed(Some(value)) => format!(in alloc; "unset of '{value}'"),
+        VariableUse::Absent => String::from_str(alloc, "unset"),
         VariableUse::Pathed(delim) => {
             let character = delim.character;
             format!(in alloc; "path with '{character}'")

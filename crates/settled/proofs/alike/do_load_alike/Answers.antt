@@ -1,23 +1,26 @@
-use Rattle.std.proofs.Common.{◌&&◌, Bool, map, ap, sym, ◌∙◌}
+use Rattle.std.proofs.Common.{◌≡◌, ◌&&◌, Bool, true, map, ap, sym, ◌∙◌}
 use Rattle.std.specs.Prelude.{bytes_eq}
-use Rattle.envvars.specs.Texts.{slice_texts}
+use Rattle.std.specs.List.{list_all}
+use Rattle.std.proofs.lemmas.Result.{IfOk-weaker}
 use Rattle.modulefile.specs.Records.{conflict_names}
 use Rattle.modulefile.specs.RecordViews.{record_view}
-use Rattle.reversal.specs.VariableUses.{is_reversible}
+use Rattle.reversal.specs.VariableUses.{can_return, absent_in}
 use Rattle.settled.specs.Ways.{same_by}
 use Rattle.settled.proofs.Seen.{all_seen}
 use Rattle.settled.proofs.alike.do_load_alike.Goals as goal
 
-pub returns-then-not-are_reversible : goal.returns-then-not-are_reversible
-returns-then-not-are_reversible c =
-    let names = same_by bytes_eq (conflict_names (map record_view c.args.first.now)) (conflict_names (map record_view c.args.records.now)) in
-    ap (λ (b : Bool). b && names) (sym c.if-not-are_reversible.true ∙ (c.are_reversible.ensures ∙ all_seen is_reversible record_view c.args.records.now))
+pub returns-then-not-all_can_return : goal.returns-then-not-all_can_return
+returns-then-not-all_can_return c =
+    let rs = map record_view c.args.first.now in
+    let qs = map record_view c.args.records.now in
+    ap (λ (b : Bool). b && (same_by bytes_eq (absent_in rs) (absent_in qs) && same_by bytes_eq (conflict_names rs) (conflict_names qs)))
+    (sym c.if-not-all_can_return.true ∙ (c.all_can_return.ensures ∙ all_seen can_return record_view c.args.records.now))
 
 pub returns : goal.returns
 returns c =
-    let names = same_by bytes_eq (conflict_names (map record_view c.args.first.now)) (conflict_names (map record_view c.args.records.now)) in
-    let one = ap slice_texts c.as_slice.ensures.value ∙ c.in_ok-one.ensures in
-    let other = ap slice_texts c.as_slice-2.ensures.value ∙ c.in_ok-other.ensures in
-    c.same_names.ensures
-    ∙ ((λ i. same_by bytes_eq (one i) (other i))
-    ∙ ap (λ (b : Bool). b && names) (sym c.if-not-are_reversible.false ∙ (c.are_reversible.ensures ∙ all_seen is_reversible record_view c.args.records.now)))
+    let rs = map record_view c.args.first.now in
+    let qs = map record_view c.args.records.now in
+    let back : true ≡ list_all can_return qs = sym c.if-not-all_can_return.false ∙ (c.all_can_return.ensures ∙ all_seen can_return record_view c.args.records.now) in
+    let absent : true ≡ same_by bytes_eq (absent_in rs) (absent_in qs) = sym c.if-not-branch.false ∙ c.in_ok-absent_alike.ensures in
+    IfOk-weaker c.conflicts_alike.result _ _
+    (λ alike e. e ∙ (λ i. back i && (absent i && same_by bytes_eq (conflict_names rs) (conflict_names qs)))) c.conflicts_alike.ensures

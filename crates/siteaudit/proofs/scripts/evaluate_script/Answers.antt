@@ -1,4 +1,4 @@
-use Rattle.std.proofs.Common.{map, string_bytes, List, ◌++◌, ap, ◌∙◌, subst, String, Global}
+use Rattle.std.proofs.Common.{map, string_bytes, List, ◌++◌, ap, ◌∙◌, subst, String, Global, Ok}
 use Rattle.envvars.specs.Texts.{Text, texts_in}
 use Rattle.envvars.specs.Fields.{without_repeats}
 use Rattle.modulerun.specs.Questions.{questions_in}
@@ -6,8 +6,10 @@ use Rattle.settled.specs.Resting.{variables_read}
 use Rattle.settled.specs.WayViews.{way_view}
 use Rattle.modulefile.specs.Answers.{FileContext}
 use Rattle.modulerun.specs.declared.question.Question.{Question}
+use Rattle.settled.specs.LoadedAnswers.{are_few}
 use Rattle.settled.specs.Ways.{Way, other_ways}
-use Rattle.siteaudit.specs.WalkParts.{site_context, ShowsAll}
+use Rattle.siteaudit.specs.WalkParts.{site_context, ScriptRuns, ShowsAll}
+use Rattle.modulerun.specs.Running.{ran_view}
 use Rattle.siteaudit.proofs.ScriptLemmas.{shows_script}
 use Rattle.siteaudit.proofs.scripts.evaluate_script.Goals as goal
 
@@ -16,11 +18,12 @@ returns c =
     let a = c.args.settings in
     let s = c.args.script in
     let first = c.in_ok-first.first in
-    let context : Way → FileContext = λ w. site_context w s.name.now s.path.now (map string_bytes a.loaded.now) a.env.now in
+    let context : Way → FileContext = λ w. site_context w s.name.now s.path.now a.env.now in
     let reads = c.in_ok-push_reads.ensures ∙ ap (λ (xs : List (String Global)). map string_bytes xs ++ variables_read (questions_in first.asked.items)) c.new-reads.ensures.items in
     let shows = subst (λ (l : List Text). ShowsAll a.limits context s.text.now first (map way_view c.as_slice-2.result.now) l (texts_in c.run_others.new.reads) c.in_ok-alike.alike) reads c.in_ok-alike.ensures.shows in
-    shows_script a.limits context s.text.now first c.in_ok-first.ensures.0 (map way_view c.as_slice-2.result.now) (texts_in c.run_others.new.reads) c.in_ok-alike.alike
+    shows_script a.limits context s.text.now first c.in_ok-first.ensures.0 (map way_view c.as_slice-2.result.now) (texts_in c.run_others.new.reads) c.in_ok-alike.alike c.in_ok-few.few
     (record { file = c.in_ok-file_of.field-0; reads = c.in_ok-once_each.field-0 })
     c.in_ok-first.ensures.1 (ap (map way_view) c.as_slice-2.ensures.value ∙ (c.in_ok-ways.ensures ∙ ap (λ (qs : List Question). other_ways (questions_in qs)) c.as_slice.ensures.value))
-    shows c.in_ok-file_of.ensures.records c.in_ok-file_of.ensures.unkept
-    (c.in_ok-once_each.ensures ∙ ap (λ (xs : List (String Global)). without_repeats (map string_bytes xs)) c.as_slice-3.ensures.value)
+    shows (c.in_ok-few.ensures ∙ ap (λ (qs : List Question). are_few (questions_in qs)) c.as_slice-3.ensures.value)
+    c.in_ok-file_of.ensures.records c.in_ok-file_of.ensures.unkept
+    (c.in_ok-once_each.ensures ∙ ap (λ (xs : List (String Global)). without_repeats (map string_bytes xs)) c.as_slice-4.ensures.value)

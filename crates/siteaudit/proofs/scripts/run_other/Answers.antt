@@ -9,7 +9,7 @@ pub returns-in-Ok-clause-shows : goal.returns-in-Ok-clause-shows
 returns-in-Ok-clause-shows c =
     let a = c.args.settings in
     let s = c.args.script in
-    shows_ok a.limits (λ w. site_context w s.name.now s.path.now (map string_bytes a.loaded.now) a.env.now) s.text.now c.args.first.now (way_view c.args.way.now)
+    shows_ok a.limits (λ w. site_context w s.name.now s.path.now a.env.now) s.text.now c.args.first.now (way_view c.args.way.now)
     (texts_in c.args.reads.now) (texts_in c.push_reads.new.reads) c.in_ok-is_ran_alike-in-Ok.field-0 c.run_script.result c.in-Ok.ran
     c.run_script.ensures (sym c.in_ok-ran.ensures.same ∙ c.in-Ok.is) c.in_ok-push_reads-in-Ok.ensures c.in_ok-is_ran_alike-in-Ok.ensures
 
@@ -17,5 +17,5 @@ pub returns-clause-shows : goal.returns-clause-shows
 returns-clause-shows c =
     let a = c.args.settings in
     let s = c.args.script in
-    shows_err a.limits (λ w. site_context w s.name.now s.path.now (map string_bytes a.loaded.now) a.env.now) s.text.now c.args.first.now (way_view c.args.way.now)
+    shows_err a.limits (λ w. site_context w s.name.now s.path.now a.env.now) s.text.now c.args.first.now (way_view c.args.way.now)
     (texts_in c.args.reads.now) c.run_script.result c.in-Err.field-0 c.run_script.ensures (sym c.in_ok-ran.ensures.same ∙ c.in-Err.is) (rw c.in-Err.is at c.in_ok-ran.ensures.kept)

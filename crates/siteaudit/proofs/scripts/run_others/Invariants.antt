@@ -6,5 +6,5 @@ use Rattle.siteaudit.proofs.scripts.run_others.Given as goal
 
 abbrev pub invariant-loop-way : goal.invariant-loop-way
 invariant-loop-way l =
-    ShowsAll l.settings.limits (λ w. site_context w l.script.name.now l.script.path.now (map string_bytes l.settings.loaded.now) l.settings.env.now)
+    ShowsAll l.settings.limits (λ w. site_context w l.script.name.now l.script.path.now l.settings.env.now)
     l.script.text.now l.first (map way_view (take l.way-index l.ways)) (texts_in l.initial.reads) (texts_in l.reads) l.alike

@@ -1,8 +1,0 @@
-use Rattle.std.proofs.Common.{◌≡◌, map, take}
-use Rattle.envvars.specs.Texts.{texts_in}
-use Rattle.envloaded.specs.Loaded.{names_of}
-use Rattle.envloaded.specs.LoadedEntries.{entry_view}
-use Rattle.siteaudit.proofs.files.loaded_names.Given as goal
-
-abbrev pub invariant-loop-entry : goal.invariant-loop-entry
-invariant-loop-entry l = texts_in l.names ≡ names_of (map entry_view (take l.entry-index l.entry-items))
