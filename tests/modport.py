@@ -34,6 +34,11 @@ TOOLS = (
     os.path.join(os.path.dirname(HERE), "build/bench/environment-modules/usr/lib/*/modulecmd.tcl"),
 )
 
+LMOD = (
+    "/usr/share/lmod/[0-9]*/libexec/lmod",
+    os.path.join(os.path.dirname(HERE), "build/bench/lmod/usr/share/lmod/[0-9]*/libexec/lmod"),
+)
+
 # What a tool keeps of its own.
 OWN = re.compile(rb"LOADEDMODULES|_LMFILES_|__MODULES_.*|MODULEPATH|SHLVL")
 
@@ -85,7 +90,7 @@ def test_refused(folder):
     """Nothing is written where the modulefile isn't there, isn't a script or isn't named."""
     usage = (
         "Usage: modport [--json] [--host NAME=VALUE]... [--flatten SHOWN [--kept NAME=VALUE]...] FILE | --stdin | "
-        "[--one-version] --check FROM | [--one-version] FROM TO"
+        "[--one-version] [--like em|lmod] --check FROM | [--one-version] [--like em|lmod] FROM TO"
     )
     os.mkfifo(folder.at("fifo"))
     for words, given, said in (
@@ -100,6 +105,11 @@ def test_refused(folder):
         (["--check"], b"", usage),
         (["--one-version", "--stdin"], b"", usage),
         (["--one-version", "a"], b"", usage),
+        (["--like", "em", "a"], b"", usage),
+        (["--like", "lmod", "--stdin"], b"", usage),
+        (["--like", "modules", "a", "b"], b"", usage),
+        (["--like", "em", "--like", "em", "a", "b"], b"", usage),
+        (["a", "b", "--like"], b"", usage),
         (["--host", "machine", "a"], b"", usage),
         (["--host", "machine=", "a"], b"", usage),
         (["--host", "processor=x", "a"], b"", usage),
@@ -828,6 +838,180 @@ def test_symbols_beside_environment_modules(folder, tool, name):
     words = [tool, "sh", "load", name]
     done = subprocess.run(words, env=env, capture_output=True, timeout=SECONDS, check=True)
     same(NEED.findall(contents(new)["app/1"]), [evaluated(done.stdout, env)[b"LOADEDMODULES"]], f"what {name} means")
+
+
+# Defaults of folders.
+
+
+@pytest.fixture(scope="session")
+def lmod():
+    """Lmod."""
+    for pattern in LMOD:
+        for path in sorted(glob.glob(pattern)):
+            return path
+    return pytest.skip("Lmod isn't there")
+
+
+def versions(name, *those, **files):
+    """The files of a folder of these versions, with default files."""
+    made = {f"{name}/{version}": COOKIE + f"setenv V {version}\n" for version in those}
+    return {**made, **{f"{name}/.{file}": COOKIE + lines for file, lines in files.items()}}
+
+
+FOLDERS = {
+    # by the orders of versions
+    "numbers": versions("n", "9.3.0", "13.2.0", "4.0.0beta", "2.10", "2.9"),
+    "years": versions("n", "2021b", "2021a", "1.10-rc1"),
+    "candidates": versions("n", "1.10-rc1", "1.10", "1.9"),
+    "words": versions("n", "10", "10-rc", "10-beta2", "10dev"),
+    "patches": versions("n", "4.0.0", "4.0.0-1", "4.0.0p2", "4.0.0beta"),
+    "zeros": versions("n", "1.9", "1.009"),
+    "letters": versions("n", "Release", "debug"),
+    "toolchains": versions("n", "1.9-foss-2018b", "1.9-GCC-8.2.0"),
+    "names": versions("n", "6.4.2", "6.4.2-cuda", "6.4.2-VTST"),
+    "backups": versions("n", "1", "2", "3~", "4,v", "#5#", "__7", ".8"),
+    "parts": {**versions("a/b", "1.9", "1.009"), **versions("a/c", "B", "a")},
+    # by default files
+    "modulerc": versions("n", "1", "2", "3", modulerc="module-version n/1 default\n"),
+    "version": versions("n", "1", "2", "3", version="set ModulesVersion 2\n"),
+    "both": versions("n", "1", "2", "3", modulerc="module-version /1 default\n", version="set ModulesVersion 2\n"),
+    "two": versions("n", "1", "2", "3", modulerc="module-version n/1 default\nmodule-version n/2 default\n"),
+    "command in version": versions("n", "1", "2", "3", version="module-version ./2 default\n"),
+    "both in version": versions("n", "1", "2", "3", version="set ModulesVersion 1\nmodule-version n/2 default\n"),
+    "variable in modulerc": versions("n", "1", "2", "3", modulerc="set ModulesVersion 1\n"),
+    "nothing in modulerc": versions("n", "1", "2", "3", modulerc="", version="set ModulesVersion 2\n"),
+    "point": versions("n", "1", "2", "3", modulerc="module-version ./1 default\n"),
+    "bare": versions("n", "1", "2", "3", modulerc="module-version 1 default\n"),
+    "other symbols": versions("n", "1", "2", "3", modulerc="module-version n/1 old\nmodule-version n/2 new default\n"),
+    "words in quotes": versions("n", "1", "2", modulerc='module-version "n/1" {default} # x\n'),
+    "top": {**versions("n", "1", "2"), ".modulerc": COOKIE + "module-version n/1 default\n"},
+    "top and folder": {
+        **versions("n", "1", "2", "3", modulerc="module-version n/2 default\n"),
+        ".modulerc": COOKIE + "module-version n/1 default\n",
+    },
+    "top version": {**versions("n", "1", "2"), ".version": COOKIE + "module-version n/1 default\n"},
+    "above": {
+        **versions("a/b", "1", "2", "3", modulerc="module-version b/1 default\n"),
+        **versions("a", modulerc="module-version a/c/1 default\n", version="module-version a/c/2 default\n"),
+        **versions("a/c", "1", "2", "3"),
+    },
+    "no newline": versions("n", "1", "2", modulerc="module-version n/2 default", version="set ModulesVersion 1"),
+    "hidden": versions("n", "1", "2", ".3"),
+    # with links
+    "link": {**versions("n", "1", "2"), "n/default": "-> 1"},
+    "link and modulerc": {**versions("n", "1", "2", "3", modulerc="module-version n/2 default\n"), "n/default": "-> 1"},
+    "file default": versions("n", "1", "2", "default"),
+    # with folders
+    "folders": {**versions("n", "1", "4"), **versions("n/3", "1", "2")},
+    "folders and modulerc": {
+        **versions("n", "1", "4", modulerc="module-version n/1 default\n"),
+        **versions("n/sub", "1", "B", "a"),
+    },
+}
+
+# Where a folder isn't judged: for Environment Modules the greatest of one is a folder; for Lmod two versions are one, or a
+# default file names what is no version to it.
+UNCLEAR = {"em": ("parts", "above"), "lmod": ("zeros", "parts", "command in version", "point", "above")}
+
+# What isn't judged for either of the two.
+UNJUDGED = {
+    "a body": versions("n", "1", "2", modulerc="if {1} { module-version n/1 default }\n"),
+    "a word that isn't constant": versions("n", "1", "2", modulerc="module-version n/$v default\n"),
+    "what isn't there": versions("n", "1", "2", modulerc="module-version n/7 default\n"),
+    "a symbol": versions("n", "1", "2", modulerc="module-version n/1 old\nmodule-version n/old default\n"),
+    "no script": versions("n", "1", "2", modulerc="module-version {n/1 default\n"),
+    "a name with a blank": versions("n", "1 x", "2", version="set ModulesVersion {1 x}\n"),
+}
+
+
+def default_tree(folder, files):
+    """Writes files and links, and gives their folder, the path of another one, and the names of the folders."""
+    old, new = tree(folder, {name: it for name, it in files.items() if not it.startswith("-> ")})
+    for name, it in files.items():
+        if it.startswith("-> "):
+            os.symlink(it[3:], os.path.join(old, name.encode()))
+    return old, new, sorted({os.path.dirname(name) for name in files} - {"", "a"})
+
+
+def loaded(words, place, name):
+    """The module that a program loads by a name, or nothing."""
+    env = {b"MODULEPATH": place, b"PATH": b"/usr/bin:/bin", b"HOME": b"/nonexistent"}
+    done = subprocess.run([*words, "load", name], env=env, capture_output=True, timeout=SECONDS, check=False)
+    found = re.search(rb"(?m)\bLOADEDMODULES=['\"]?([^;'\"\n]*)", done.stdout)
+    return found.group(1).decode() if found else None
+
+
+@pytest.mark.parametrize("other", ["em", "lmod"])
+@pytest.mark.parametrize("title", FOLDERS)
+def test_defaults_beside_their_programs(folder, built, request, other, title):
+    """The same version is loaded from what is written; and nothing is written where it already was."""
+    program = [request.getfixturevalue({"em": "tool", "lmod": "lmod"}[other]), {"em": "sh", "lmod": "bash"}[other]]
+    own = [built("modulecmd"), "sh"]
+    old, new, names = default_tree(folder, FOLDERS[title])
+    plain = folder.at("plain")
+    folder.run(old, plain)
+    done = folder.run("--like", other, old, new)
+    same(done.stderr, b"", "standard error")
+    said = done.stdout.decode()
+    for name in names:
+        path = f"{old.decode()}/{name}"
+        if f"{path}: left out: default\n" in said:
+            continue
+        wanted, before = loaded(program, old, name), loaded(own, plain, name)
+        if wanted is None or os.path.dirname(wanted) != name:
+            true(f"{path}: default: " not in said, f"{name} isn't named, as {wanted} isn't of it")
+            continue
+        same(loaded(own, new, name), wanted, f"what {name} means")
+        same(f"{path}: default: {wanted}\n" in said, wanted != before, f"whether a line names {wanted}, not {before}")
+        both = [contents(it).get(f"{name}/.modulerc") for it in (new, plain)]
+        same(both[0] != both[1], wanted != before, f"whether .modulerc of {name} is another")
+    same(": left out: default\n" in said, title in UNCLEAR[other], "whether a folder isn't judged")
+    checked = folder.run("--check", "--like", other, old)
+    same(checked.stdout, done.stdout, "what is said where nothing is written")
+
+
+@pytest.mark.parametrize("other", ["em", "lmod"])
+@pytest.mark.parametrize("title", UNJUDGED)
+def test_defaults_that_are_not_judged(folder, other, title):
+    """A folder of which it isn't known what is loaded is said, and nothing is added."""
+    old, new, names = default_tree(folder, UNJUDGED[title])
+    done = folder.run("--like", other, old, new)
+    lines = [line for line in done.stdout.decode().splitlines() if line.endswith(": left out: default")]
+    same(lines, [f"{old.decode()}/{name}: left out: default" for name in names], "what is said")
+    true(b": default: " not in done.stdout, "no version is named")
+    true(done.returncode in (1, 2), "status")
+
+
+def test_defaults_that_neither_can_say(folder):
+    """Names outside of ASCII have no order of Tcl's here, and a file of Lua none of Lmod's."""
+    rows = (("em", "2é", True), ("lmod", "2é", False), ("em", "3.lua", False), ("lmod", "3.lua", True))
+    for other, name, told in rows:
+        old, new = folder.at(f"{other}{name}/from"), folder.at(f"{other}{name}/to")
+        for version in ("1", "2", name):
+            folder.file(f"{other}{name}/from/n/{version}", COOKIE)
+        done = folder.run("--like", other, old, new)
+        same(b": left out: default\n" in done.stdout, told, f"whether {name} isn't judged for {other}")
+
+
+def test_defaults_in_json_with_permissions(folder):
+    """The new file is as the modulefile that it names may be read, and another keeps its permissions."""
+    files = {**versions("a", "1.9", "1.009"), **versions("b", "1", "2", version="module-version b/1 default\n")}
+    old, new = tree(folder, {**files, "b/.modulerc": COOKIE})
+    os.chmod(os.path.join(old, b"a/1.009"), 0o640)
+    os.chmod(os.path.join(old, b"b/.modulerc"), 0o600)
+    done = folder.run("--json", "--like", "em", old, new)
+    at = old.decode()
+    same(
+        sorted((json.loads(line) for line in done.stdout.decode().splitlines()), key=lambda it: it["file"]),
+        [{"file": f"{at}/{name}", "what": what, "why": "default"} for name, what in (("a", "a/1.009"), ("b", "b/1"))],
+        "the report",
+    )
+    same(done.returncode, 0, "status")
+    found = contents(new)
+    same(found["a/.modulerc"], b"#%Module\nmodule-version a/1.009 default\n", "a new file")
+    same(found["b/.modulerc"], b"#%Module\nmodule-version b/1 default\n", "one that was there")
+    modes = [os.stat(os.path.join(new, it)).st_mode & 0o777 for it in (b"a/.modulerc", b"b/.modulerc")]
+    same(modes, [0o640, 0o600], "permissions")
 
 
 # Files as sites write them, of which something is left out, and whether it stays so.

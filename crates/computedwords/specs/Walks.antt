@@ -2,7 +2,7 @@
 -- of a word where Tcl reads exactly this text there: bare, of bytes that stand for themselves, behind no name of a
 -- variable; or in braces, where the part is the whole word.
 use Rattle.std.specs.Prelude.{ℕ, List, [], ◌∷◌, ◌++◌, Bool, true, false, not, ◌&&◌, ◌||◌, ◌==◌, codes}
-use Rattle.std.specs.Prelude.{length, if◌then◌else◌, Option, Some, None, option_and_then}
+use Rattle.std.specs.Prelude.{length, nat_le, if◌then◌else◌, Option, Some, None, option_and_then}
 use Rattle.std.specs.List.{list_all, list_any}
 use Rattle.std.specs.Option.{option_map}
 use Rattle.tclchars.specs.Bytes.{is_literal, newline, backslash, quote, dollar, left_brace, right_brace}
@@ -122,16 +122,18 @@ abbrev pub past_word : Facts → Walk → Word → Option Walk
 past_word facts w (word_of false ps) = past_content facts ps w
 past_word facts w (word_of true ps) = None
 
-abbrev pub edits_in : Option Walk → List Edit
-edits_in None = []
-edits_in (Some w) = w.edits
+-- the edits of a walk that ends where so many bytes are left, or before
+abbrev pub edits_in : ℕ → Option Walk → List Edit
+edits_in left None = []
+edits_in left (Some w) = if nat_le left (length w.rest) then w.edits else []
 
 abbrev pub has_constant_name : List Word → Bool
 has_constant_name [] = false
 has_constant_name (w ∷ ws) = is_constant w
 
--- what is put in the words of a command that a text begins with, where its name is constant and all are walked
-abbrev pub edits_of : Facts → List Word → Text → List Edit
-edits_of facts ws text =
+-- what is put in the words of a command that a text begins with, where its name is constant and all are walked before
+-- fewer bytes are left than these
+abbrev pub edits_of : Facts → List Word → Text → ℕ → List Edit
+edits_of facts ws text left =
     if has_constant_name ws
-    then edits_in (run (past_word facts) (record { edits = []; rest = text; may_put = true }) ws) else []
+    then edits_in left (run (past_word facts) (record { edits = []; rest = text; may_put = true }) ws) else []

@@ -5,6 +5,7 @@
 mod answers;
 mod computing;
 mod knowledge;
+mod laws;
 mod paths;
 mod places;
 mod quiet;
@@ -15,4 +16,5 @@ mod walking;
 
 pub use answers::Binding;
 pub use computing::{Computed, compute};
+pub use laws::{edits_in_order, same_commands};
 pub use walking::Edit;

@@ -434,15 +434,32 @@ fn begins_quote(text: &[u8]) -> bool
     }
 }
 
-/// What is put in words that a text begins with, where all are walked.
+/// The edits of a walk that ends where so many bytes are left, or before.
+fn edits_in(alloc: Global, walk: Option<Walk>, left: usize) -> Vec<Edit>
+    ensures { edits_view result.items ≡ spec.edits_in left (option_map walk_view walk.entry) }
+{
+    match walk {
+        Some(walk) => {
+            if left <= walk.rest.len() {
+                walk.edits
+            } else {
+                Vec::new(alloc)
+            }
+        }
+        None => Vec::new(alloc),
+    }
+}
+
+/// What is put in words that a text begins with, where all are walked before fewer bytes are left than these.
 fn edits_of_words(
     alloc: Global,
     facts: &Facts,
     words: &[Word<&str>],
     text: &[u8],
+    left: usize,
 ) -> Result<Vec<Edit>, AllocError>
     ensures { IfOk result (λ edits. edits_view edits.items
-        ≡ spec.edits_in (answers.run (spec.past_word (facts_view facts.now))
+        ≡ spec.edits_in left (answers.run (spec.past_word (facts_view facts.now))
         (record { edits = []; rest = text.now; may_put = true }) (words_view words.now))) }
 {
     let walk = Walk {
@@ -450,10 +467,7 @@ fn edits_of_words(
         rest: text,
         may_put: true,
     };
-    match walk.past_words(alloc, facts, words)? {
-        Some(walk) => Ok(walk.edits),
-        None => Ok(Vec::new(alloc)),
-    }
+    Ok(edits_in(alloc, walk.past_words(alloc, facts, words)?, left))
 }
 
 /// Whether the name of a command of these words is constant.
@@ -466,18 +480,20 @@ fn has_constant_name(words: &[Word<&str>]) -> bool
     }
 }
 
-/// What is put in the words of a command that a text begins with, where its name is constant and all are walked.
+/// What is put in the words of a command that a text begins with, where its name is constant and all are walked before
+/// fewer bytes are left than these.
 pub(crate) fn edits_of(
     alloc: Global,
     facts: &Facts,
     words: &[Word<&str>],
     text: &[u8],
+    left: usize,
 ) -> Result<Vec<Edit>, AllocError>
     ensures { IfOk result (λ edits. edits_view edits.items
-        ≡ spec.edits_of (facts_view facts.now) (words_view words.now) text.now) }
+        ≡ spec.edits_of (facts_view facts.now) (words_view words.now) text.now left) }
 {
     if has_constant_name(words) {
-        edits_of_words(alloc, facts, words, text)
+        edits_of_words(alloc, facts, words, text, left)
     } else {
         Ok(Vec::new(alloc))
     }

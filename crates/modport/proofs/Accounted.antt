@@ -1,29 +1,29 @@
 -- Each step accounts for what it changes.
-use Rattle.std.proofs.Common.{◌≡◌, ℕ, ◌+◌, ◌-◌, ◌≤◌, Bool, true, false, ◌&&◌, ◌||◌, not, List, [], ◌∷◌, ◌++◌, refl, sym, ap, subst, ◌∙◌, arith}
+use Rattle.std.proofs.Common.{◌≡◌, ℕ, ◌+◌, ◌-◌, ◌≤◌, Bool, true, false, ◌||◌, not, List, [], ◌∷◌, ◌++◌, refl, sym, ap, subst, ◌∙◌, arith}
 use Rattle.std.proofs.Common.{Option, Some, None, length, take, drop, map, append-nil}
-use Rattle.std.proofs.lemmas.Bool.{leb-true}
 use Rattle.std.proofs.lemmas.List.{drop-drop, length-drop, map-append, take-append-drop}
 use Rattle.std.proofs.lemmas.List.Folds.{flat_map-map}
-use Rattle.std.specs.Prelude.{flat_map, if◌then◌else◌, nat_le, option_and_then}
+use Rattle.std.specs.Prelude.{flat_map, if◌then◌else◌, option_and_then}
 use Rattle.tclchars.specs.Runs.{Text}
 use Rattle.tclscript.specs.Tree.{Command}
 use Rattle.scripttext.specs.ScriptTexts.{is_script, script_in}
-use Rattle.computedwords.specs.Edits.{edited}
+use Rattle.computedwords.specs.Edits.{AreInOrder, edited, HasComputed}
+use Rattle.computedwords.proofs.Commands.{in_order}
 use Rattle.computedwords.specs.Answers.{Binding}
 use Rattle.computedwords.specs.Walks.{Edit}
 use Rattle.families.specs.Families.{Home}
 use Rattle.translation.specs.Notes.{Note}
-use Rattle.translation.specs.Pieces.{Piece, pieces_of}
+use Rattle.scripttext.specs.Pieces.{Piece, pieces_of}
 use Rattle.translation.specs.Translations.{change_of, line_at, note_of, notes_on, notes_on_all, or_kept, outcome_of}
 use Rattle.translation.specs.Translations.{written_for, written_for_all}
 use Rattle.translation.specs.TranslationViews.{HasTranslation}
 use Rattle.translation.specs.declared.notes.Outcome.{Outcome}
-use Rattle.translation.proofs.Kept.{joined}
+use Rattle.scripttext.proofs.Joined.{joined}
 use Rattle.portforms.specs.Words.{commands_in}
 use Rattle.oneversion.specs.OneVersion.{has_conflict, inserted, is_plain, line_of, with_conflict}
 use Rattle.modport.specs.Accounts.{Accounts, AccountsForCommands, AreStretches, of_piece, Stretch, StayUnsaid}
 use Rattle.modport.specs.Lines.{Line}
-use Rattle.modport.specs.Ported.{added_lines, are_in_order, AreTaken, conflict_with, edit_line, IsAdded, IsComputed}
+use Rattle.modport.specs.Ported.{added_lines, conflict_with, edit_line, IsAdded}
 use Rattle.modport.specs.Ported.{IsOneVersion, note_line, part_of}
 
 -- ---- what stays
@@ -56,10 +56,6 @@ cut given rest [] = stays rest ∷ []
 cut given rest (e ∷ es) =
     stays (take (length rest - e.from) rest) ∷ (put_for given rest e ∷ cut given (behind rest e) es)
 
-both : (a b : Bool) → (a && b) ≡ true → (a ≡ true) × (b ≡ true)
-both true b h = (refl, h)
-both false b h = let never : false ≡ true = h in cc
-
 -- the part of an edit, and what is behind it
 part_joined : (rest : Text) (e : Edit) → e.from ≤ length rest → e.to ≤ e.from → part_of rest e ++ behind rest e ≡ drop (length rest - e.from) rest
 part_joined rest e l m =
@@ -73,14 +69,10 @@ length_behind rest e l m =
     let shorter : length rest - (length rest - e.to) ≡ e.to = omega arith in
     length-drop (length rest - e.to) rest ∙ shorter
 
-cut_was : (given rest : Text) (es : List Edit) → are_in_order (length rest) es ≡ true → flat_map (λ (s : Stretch). s.was) (cut given rest es) ≡ rest
+cut_was : (given rest : Text) (es : List Edit) → AreInOrder (length rest) 0 es → flat_map (λ (s : Stretch). s.was) (cut given rest es) ≡ rest
 cut_was given rest [] h = append-nil rest
-cut_was given rest (e ∷ es) h =
-    let first = both (nat_le e.from (length rest)) (nat_le e.to e.from && are_in_order e.to es) h in
-    let second = both (nat_le e.to e.from) (are_in_order e.to es) first.1 in
-    let l : e.from ≤ length rest = leb-true e.from (length rest) first.0 in
-    let m : e.to ≤ e.from = leb-true e.to e.from second.0 in
-    let later : are_in_order (length (behind rest e)) es ≡ true = ap (λ (n : ℕ). are_in_order n es) (length_behind rest e l m) ∙ second.1 in
+cut_was given rest (e ∷ es) (l, m, h) =
+    let later : AreInOrder (length (behind rest e)) 0 es = subst (λ (n : ℕ). AreInOrder n 0 es) (sym (length_behind rest e l m)) h in
     ap (λ (t : Text). take (length rest - e.from) rest ++ (part_of rest e ++ t)) (cut_was given (behind rest e) es later)
     ∙ (ap (λ (t : Text). take (length rest - e.from) rest ++ t) (part_joined rest e l m)
     ∙ take-append-drop (length rest - e.from) rest)
@@ -102,7 +94,7 @@ cut_stay given rest [] = ((λ _. refl), tt)
 cut_stay given rest (e ∷ es) =
     ((λ _. refl), (said_more (edit_line given e) (part_of rest e) e.text, cut_stay given (behind rest e) es))
 
-of_edits : (given : Text) (es : List Edit) → are_in_order (length given) es ≡ true → Accounts given (edited given es) (map (edit_line given) es)
+of_edits : (given : Text) (es : List Edit) → AreInOrder (length given) 0 es → Accounts given (edited given es) (map (edit_line given) es)
 of_edits given es h = (
   cut given given es,
   record {
@@ -113,22 +105,14 @@ of_edits given es h = (
   },
 )
 
-taken : (given computed written : Text) (found es : List Edit) (b : Bool) → computed ≡ edited given found → are_in_order (length given) found ≡ b
-    → AreTaken given found computed b es written → Accounts given written (map (edit_line given) es)
-taken given computed written found es true c h (e, w) =
-    subst (λ (t : Text). Accounts given t (map (edit_line given) es)) (sym (w ∙ c))
-    (subst (λ (xs : List Edit). Accounts given (edited given found) (map (edit_line given) xs)) (sym e) (of_edits given found h))
-taken given computed written found es false c h (e, w) =
-    subst (λ (t : Text). Accounts given t (map (edit_line given) es)) (sym w)
-    (subst (λ (xs : List Edit). Accounts given given (map (edit_line given) xs)) (sym e) (same given))
-
-pub computed : (host : List Binding) (given written : Text) (es : List Edit) → IsComputed host given es written → Accounts given written (map (edit_line given) es)
-computed host given written es (found, text, (s, within, h), t) =
-    taken given text written found es (are_in_order (length given) found) h.text_is refl t
+pub computed : (host : List Binding) (given written : Text) (es : List Edit) → HasComputed host given es written → Accounts given written (map (edit_line given) es)
+computed host given written es (s, within, h) =
+    subst (λ (t : Text). Accounts given t (map (edit_line given) es)) (sym h.text_is)
+    (of_edits given es (in_order host given es written (s, within, h)))
 
 -- ---- what is translated
 
-unsaid_piece : (names : List Text) (line : ℕ) (text : Text) (outcome : Outcome) (change : Option Text) → map note_line (note_of names line text outcome change) ≡ []
+pub unsaid_piece : (names : List Text) (line : ℕ) (text : Text) (outcome : Outcome) (change : Option Text) → map note_line (note_of names line text outcome change) ≡ []
     → or_kept text change ≡ text
 unsaid_piece names line text outcome None h = refl
 unsaid_piece names line text outcome (Some change) h = cc

@@ -1,7 +1,7 @@
 pub mod Accounted
+pub mod FileAccounted
 pub mod Flat
 pub mod Flattened
 pub mod Reported
-pub mod Taken
 pub mod Tokens
 pub mod Unsaid

@@ -3,23 +3,24 @@ use Rattle.std.proofs.Common.{◌≡◌, Bool, List, [], ◌++◌, Option, refl,
 use Rattle.std.proofs.lemmas.Grind.{flat_map-append}
 use Rattle.tclchars.specs.Runs.{Text}
 use Rattle.filetext.specs.FileTexts.{Writing}
+use Rattle.computedwords.specs.Edits.{HasComputed}
 use Rattle.computedwords.specs.Walks.{Edit}
 use Rattle.aliases.specs.Aliases.{ShellScript}
 use Rattle.translation.specs.AliasingViews.{HasScripts}
 use Rattle.translation.specs.Notes.{Note}
 use Rattle.translation.specs.TranslationViews.{HasTranslation}
 use Rattle.modport.specs.Lines.{Line, report, shown}
-use Rattle.modport.specs.Ported.{HasScriptsOf, IsComputed, IsOneVersion, IsReported, lines_of, Porting, status_of}
+use Rattle.modport.specs.Ported.{HasScriptsOf, IsOneVersion, IsReported, lines_of, Porting, status_of}
 use Rattle.modport.specs.declared.status.Status.{Status}
 
 pub reported : (port : Porting) (json : Bool) (path : Text) (how : Writing) (given computed translated written said : Text) (es : List Edit) (notes : List Note)
-    (added : Option Text) (status : Status) → IsComputed port.host given es computed → HasTranslation port.home port.left_out computed translated notes
+    (added : Option Text) (status : Status) → HasComputed port.host given es computed → HasTranslation port.home port.left_out computed translated notes
     → IsOneVersion port.name translated written added → said ≡ report json path (lines_of how given es notes added)
     → status ≡ status_of notes → IsReported port json path how given written said status
 reported port json path how given computed translated written said es notes added status c t o r s =
     (lines_of how given es notes added, (computed, translated, es, notes, added, record { computes = c; translates = t; adds = o; says = refl; ends = s }), r)
 
-pub scripted : (port : Porting) (given computed : Text) (es : List Edit) (scripts : List ShellScript) → IsComputed port.host given es computed
+pub scripted : (port : Porting) (given computed : Text) (es : List Edit) (scripts : List ShellScript) → HasComputed port.host given es computed
     → HasScripts port.home computed scripts → HasScriptsOf port given scripts
 scripted port given computed es scripts c h = (computed, es, c, h)
 

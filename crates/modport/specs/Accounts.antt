@@ -6,7 +6,7 @@ use Rattle.families.specs.Families.{Home}
 use Rattle.tclscript.specs.Text.{IsWithin}
 use Rattle.tclscript.specs.Tree.{Commands}
 use Rattle.portforms.specs.Words.{commands_in}
-use Rattle.translation.specs.Pieces.{Piece, pieces_of}
+use Rattle.scripttext.specs.Pieces.{Piece, pieces_of}
 use Rattle.translation.specs.Translations.{notes_on, written_for}
 use Rattle.modport.specs.Lines.{Line}
 use Rattle.modport.specs.Ported.{note_line}

@@ -1,4 +1,5 @@
 pub mod Accounts
+pub mod FileAccounts
 pub mod Flattening
 pub mod Lines
 pub mod LineViews

@@ -6,7 +6,7 @@ use Rattle.json.specs.Token.{Token, begin_object, end_object, key, string, numbe
 use Rattle.tclchars.specs.Bytes.{newline}
 use Rattle.tclchars.specs.Runs.{Text}
 use Rattle.modport.specs.declared.report_lines.Fate.{Fate}
-use Rattle.modport.specs.declared.report_lines.Fate.TheVariants.{Translated, Dropped, Computed, Flattened, Added, LeftOut}
+use Rattle.modport.specs.declared.report_lines.Fate.TheVariants.{Translated, Dropped, Computed, Flattened, Added, Default, LeftOut}
 
 -- what is said of a part of a file, or, without a place, of the whole: what became of it, which it is, and what is
 -- written for it, where that is said; a place is a line of the file, from 1
@@ -22,6 +22,7 @@ word_of Dropped = codes "dropped"
 word_of Computed = codes "computed"
 word_of Flattened = codes "flattened"
 word_of Added = codes "added"
+word_of Default = codes "default"
 word_of LeftOut = codes "left out"
 
 -- For people

@@ -1,8 +1,8 @@
 -- What is written for a modulefile, and what is said of it (own): one step after the other, each as its crate has it.
 -- What Tcl computes from constants is written for it; then each command of a form, guard or family in another way; then
 -- a conflict with the module's name.
-use Rattle.std.specs.Prelude.{◌≡◌, ◌-◌, List, [], ◌∷◌, ◌++◌, ℕ, Bool, true, false, ◌&&◌, ◌==◌, codes, length, map}
-use Rattle.std.specs.Prelude.{nat_le, take, drop}
+use Rattle.std.specs.Prelude.{◌≡◌, ◌-◌, List, [], ◌∷◌, ◌++◌, Bool, true, false, ◌==◌, codes, length, map}
+use Rattle.std.specs.Prelude.{take, drop}
 use Rattle.std.specs.Prelude.{if◌then◌else◌, Option, Some, None, option_and_then}
 use Rattle.std.specs.List.{list_any, position_or_len}
 use Rattle.tclchars.specs.Bytes.{newline}
@@ -37,24 +37,6 @@ pub record Porting : Type 0 where
   pub left_out : List Text
   pub home : Option Home
   pub name : Option Text
-
--- What is computed
-
--- each edit is of bytes behind those of the one before it, in a text of which this many bytes are left
-abbrev pub are_in_order : ℕ → List Edit → Bool
-are_in_order left [] = true
-are_in_order left (e ∷ es) = nat_le e.from left && (nat_le e.to e.from && are_in_order e.to es)
-
--- edits that were found, and the text with them; or none, and the text as it was
-abbrev pub AreTaken : Text → List Edit → Text → Bool → List Edit → Text → Type 0
-AreTaken given found computed true es written = (es ≡ found) × (written ≡ computed)
-AreTaken given found computed false es written = (es ≡ []) × (written ≡ given)
-
--- what is computed in a text, where it is in order
-abbrev pub IsComputed : List Binding → Text → List Edit → Text → Type 0
-IsComputed host given es written =
-    (found : List Edit) × (computed : Text) × HasComputed host given found computed
-    × AreTaken given found computed (are_in_order (length given) found) es written
 
 -- Lines
 
@@ -131,7 +113,7 @@ status_of notes = if list_any (λ n. is_left n.outcome) notes then Left else Wit
 -- the steps to what is written for the text of a file, what is said of it, and the status
 pub record Steps (port : Porting) (how : Writing) (given computed translated written : Text) (es : List Edit)
     (notes : List Note) (added : Option Text) (lines : List Line) (status : Status) : Type 0 where
-  pub computes : IsComputed port.host given es computed
+  pub computes : HasComputed port.host given es computed
   pub translates : HasTranslation port.home port.left_out computed translated notes
   pub adds : IsOneVersion port.name translated written added
   pub says : lines ≡ lines_of how given es notes added
@@ -151,4 +133,4 @@ IsReported port json path how given written said status =
 -- the scripts of the aliases that the text of a file sets, once what Tcl computes is written
 abbrev pub HasScriptsOf : Porting → Text → List ShellScript → Type 0
 HasScriptsOf port given scripts =
-    (computed : Text) × (es : List Edit) × IsComputed port.host given es computed × HasScripts port.home computed scripts
+    (computed : Text) × (es : List Edit) × HasComputed port.host given es computed × HasScripts port.home computed scripts

@@ -3,6 +3,7 @@
 use crate::fault::PortFault;
 use crate::host::Host;
 use crate::kept::Kept;
+use otherdefaults::Program;
 use std::alloc::Global;
 
 /// What is translated, and where it is written.
@@ -27,6 +28,8 @@ pub(crate) struct Walked {
     pub to: Option<String>,
     /// Whether each modulefile is to be in conflict with its own name.
     pub one_version: bool,
+    /// The program whose default of each folder is to be named, where there is one.
+    pub like: Option<Program>,
 }
 
 /// What is asked for.
@@ -49,6 +52,8 @@ pub(crate) struct Said {
     pub kept: Kept,
     /// The path of what was shown.
     pub shown: Option<String>,
+    /// The program whose default of each folder is to be named.
+    pub like: Option<Program>,
 }
 
 impl Said {
@@ -63,8 +68,21 @@ impl Said {
                 self.shown = Some(String::from_str(alloc, word)?);
                 Ok(())
             }
-            Telling::Shown => Err(PortFault::Usage),
+            Telling::Like if self.like.is_none() => {
+                self.like = Some(program_of(word)?);
+                Ok(())
+            }
+            Telling::Shown | Telling::Like => Err(PortFault::Usage),
         }
+    }
+}
+
+/// The program that a word names.
+fn program_of(word: &str) -> Result<Program, PortFault> {
+    match word {
+        "em" => Ok(Program::EnvironmentModules),
+        "lmod" => Ok(Program::Lmod),
+        _ => Err(PortFault::Usage),
     }
 }
 
@@ -77,6 +95,8 @@ enum Telling {
     Kept,
     /// `--flatten`
     Shown,
+    /// `--like`
+    Like,
 }
 
 /// Which options stand before the paths.
@@ -110,6 +130,7 @@ impl Options {
             "--host" => self.telling = Some(Telling::Host),
             "--kept" => self.telling = Some(Telling::Kept),
             "--flatten" => self.telling = Some(Telling::Shown),
+            "--like" => self.telling = Some(Telling::Like),
             "--" => self.ended = true,
             _ => return Err(PortFault::Usage),
         }
@@ -128,8 +149,8 @@ impl Options {
         Ok(true)
     }
 
-    /// What is asked for, with these paths.
-    fn job(self, mut paths: Vec<String>) -> Result<Job, PortFault> {
+    /// What is asked for, with these paths and this program.
+    fn job(self, like: Option<Program>, mut paths: Vec<String>) -> Result<Job, PortFault> {
         if self.telling.is_some() {
             return Err(PortFault::Usage);
         }
@@ -141,22 +162,24 @@ impl Options {
         if !paths.is_empty() {
             return Err(PortFault::Usage);
         }
+        let is_of_trees = self.one_version || like.is_some();
         match (self.stdin, self.check, first, last) {
-            (true, false, None, None) if !self.one_version => Ok(Job::Stdin),
-            (false, false, None, Some(file)) if !self.one_version => Ok(Job::File(file)),
-            (false, true, None, Some(from)) => Ok(self.tree(from, None)),
-            (false, true, Some(from), Some(_to)) => Ok(self.tree(from, None)),
-            (false, false, Some(from), Some(to)) => Ok(self.tree(from, Some(to))),
+            (true, false, None, None) if !is_of_trees => Ok(Job::Stdin),
+            (false, false, None, Some(file)) if !is_of_trees => Ok(Job::File(file)),
+            (false, true, None, Some(from)) => Ok(self.tree(like, from, None)),
+            (false, true, Some(from), Some(_to)) => Ok(self.tree(like, from, None)),
+            (false, false, Some(from), Some(to)) => Ok(self.tree(like, from, Some(to))),
             _ => Err(PortFault::Usage),
         }
     }
 
     /// The files below a path.
-    fn tree(self, from: String, to: Option<String>) -> Job {
+    fn tree(self, like: Option<Program>, from: String, to: Option<String>) -> Job {
         Job::Tree(Walked {
             from,
             to,
             one_version: self.one_version,
+            like,
         })
     }
 }
@@ -178,6 +201,7 @@ pub(crate) fn asked_for(alloc: Global, words: Vec<String>) -> Result<Wanted, Por
         host: Host::new(alloc),
         kept: Kept::new(),
         shown: None,
+        like: None,
     };
     let mut paths = Vec::new(alloc);
     for word in words {
@@ -188,7 +212,7 @@ pub(crate) fn asked_for(alloc: Global, words: Vec<String>) -> Result<Wanted, Por
     if said.shown.is_none() && !said.kept.is_empty() {
         return Err(PortFault::Usage);
     }
-    let job = options.job(paths)?;
+    let job = options.job(said.like, paths)?;
     Ok(Wanted {
         job,
         json: options.json,

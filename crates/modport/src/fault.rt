@@ -9,7 +9,8 @@ use translation::TranslationFault;
 
 /// How the program is called.
 pub(crate) const USAGE: &str = "Usage: modport [--json] [--host NAME=VALUE]... \
-     [--flatten SHOWN [--kept NAME=VALUE]...] FILE | --stdin | [--one-version] --check FROM | [--one-version] FROM TO";
+     [--flatten SHOWN [--kept NAME=VALUE]...] FILE | --stdin | \
+     [--one-version] [--like em|lmod] --check FROM | [--one-version] [--like em|lmod] FROM TO";
 
 /// Why nothing was translated, or not all.
 #[derive(Debug, Drop)]

@@ -8,6 +8,7 @@ ghost use Rattle.translation.specs.Notes.{Note};
 ghost use Rattle.modport.specs.Accounts.{Accounts, AccountsForCommands};
 ghost use Rattle.shownrecords.specs.Flattened.{flattened};
 ghost use Rattle.shownrecords.specs.Owners.{Owner};
+ghost use Rattle.modport.specs.FileAccounts.{AccountsForFile};
 ghost use Rattle.modport.specs.Flattening.{command_line, IsFlattened};
 ghost use Rattle.modport.specs.Lines.{Line};
 ghost use Rattle.modport.specs.Ported.{added_lines, edit_line, IsPorted, note_line, Porting, Steps};
@@ -29,6 +30,16 @@ pub fn accounted_for()
         (notes : List Note) (added : Option Text) (lines : List Line) (status : Status)
         → Steps port how given computed translated written es notes added lines status
         → Accounts translated written (added_lines added) }
+{}
+
+/// The file accounts for each command, from its text to what is translated: what the command is written as, with what
+/// stands between it and the next, is it, byte for byte, or a line of the report is said of it. Only a conflict with the
+/// module's name is added to that (`accounted_for`, `added`).
+pub fn file_accounted_for()
+    ensures { (port : Porting) (how : Writing) (given computed translated written : Text) (es : List Edit)
+        (notes : List Note) (added : Option Text) (lines : List Line) (status : Status)
+        → Steps port how given computed translated written es notes added lines status
+        → AccountsForFile given translated (map (edit_line given) es) (map note_line notes) }
 {}
 
 /// A file of which the report says nothing is written byte for byte.

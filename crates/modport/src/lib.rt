@@ -6,10 +6,12 @@
 mod arguments;
 mod fault;
 mod flattening;
+mod folders;
 mod host;
 mod kept;
 mod laws;
 mod left_out;
+mod naming;
 mod porting;
 mod report_lines;
 mod reporting;
@@ -25,7 +27,7 @@ use computedwords::Binding;
 use fault::{PortFault, USAGE};
 use filetext::file_text;
 use kept::Kept;
-pub use laws::{accounted_for, flattened_accounted_for, unsaid_is_same};
+pub use laws::{accounted_for, file_accounted_for, flattened_accounted_for, unsaid_is_same};
 use left_out::LEFT_OUT;
 use porting::{Manner, Ported, port_file};
 use processinput::arguments as words_of;
@@ -85,7 +87,12 @@ fn manner_of<'h>(json: bool, host: &'h [Binding<'h>], kept: &'h Kept) -> Manner<
 /// Does what the arguments ask for, and gives the status.
 fn port(rt: &HostRuntime) -> Result<Status, PortFault> {
     let Wanted { job, json, said } = asked_for(rt.alloc(), words_of(rt)?)?;
-    let Said { host, kept, shown } = said;
+    let Said {
+        host,
+        kept,
+        shown,
+        ..
+    } = said;
     let bindings = host.bindings(rt.alloc())?;
     let manner = manner_of(json, bindings.as_slice(), &kept);
     let shown = shown.as_deref();

@@ -3,6 +3,7 @@ ghost use Rattle.std.specs.Prelude.{◌≡◌, length, IfOk, string_bytes};
 ghost use Rattle.std.specs.Option.{option_map};
 ghost use Rattle.aliases.specs.Views.{shell_scripts_view};
 ghost use Rattle.scripttext.specs.ScriptTexts.{Parses};
+ghost use Rattle.computedwords.specs.Edits.{HasComputed};
 ghost use Rattle.computedwords.specs.Views.{bindings_view, edits_view};
 ghost use Rattle.translation.specs.TranslationViews.{notes_view};
 ghost use Rattle.modport.specs.Lines as lines;
@@ -73,45 +74,12 @@ fn text_of(bytes: Vec<u8>) -> Result<String, PortFault>
     }
 }
 
-/// Whether each edit is of bytes behind those of the one before it, in a text of which this many bytes are left.
-fn are_in_order(left: usize, edits: &[Edit]) -> bool
-    ensures { result ≡ spec.are_in_order left (edits_view edits.now) }
-{
-    let mut left = left;
-    let mut rest = edits;
-    while let [edit, others @ ..] = rest {
-        if left < edit.from || edit.from < edit.to {
-            return false;
-        }
-        left = edit.to;
-        rest = others;
-    }
-    true
-}
-
-/// What was computed in a text, where it is in order; else nothing is.
-#[tactic(auto, using(crate::proofs::Taken::all_taken, crate::proofs::Taken::none_taken))]
-fn taken(alloc: Global, given: &str, computed: Computed) -> Result<Computed, AllocError>
-    ensures { IfOk result (λ c. spec.AreTaken given.now (edits_view computed.edits.items) (string_bytes computed.text)
-        (spec.are_in_order (length given.now) (edits_view computed.edits.items)) (edits_view c.edits.items)
-        (string_bytes c.text)) }
-{
-    if are_in_order(given.len(), computed.edits.as_slice()) {
-        return Ok(computed);
-    }
-    Ok(Computed {
-        text: String::from_str(alloc, given)?,
-        edits: Vec::new(alloc),
-    })
-}
-
 /// What is computed in a text.
 fn computed_of(alloc: Global, given: &str, host: &[Binding]) -> Result<Computed, PortFault>
-    ensures { IfOk result (λ c. spec.IsComputed (bindings_view host.now) given.now (edits_view c.edits.items)
+    ensures { IfOk result (λ c. HasComputed (bindings_view host.now) given.now (edits_view c.edits.items)
         (string_bytes c.text)) }
 {
-    let computed = compute(alloc, given, host)?;
-    Ok(taken(alloc, given, computed)?)
+    Ok(compute(alloc, given, host)?)
 }
 
 /// A conflict with the name.

@@ -13,6 +13,8 @@ pub enum Fate {
     Flattened,
     /// It wasn't there.
     Added,
+    /// The default of a folder is named, which it wasn't.
+    Default,
     /// It is kept as it is, and the profile leaves it out; or it isn't written.
     LeftOut,
 }

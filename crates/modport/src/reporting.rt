@@ -21,6 +21,7 @@ impl Fate {
             Fate::Computed => "computed",
             Fate::Flattened => "flattened",
             Fate::Added => "added",
+            Fate::Default => "default",
             Fate::LeftOut => "left out",
         }
     }
@@ -183,6 +184,35 @@ pub(crate) fn push_report(
     Ok(())
 }
 
+/// A line on the whole of what is at this path.
+fn line_on(
+    alloc: Global,
+    json: bool,
+    path: &str,
+    fate: Fate,
+    what: &str,
+) -> Result<Vec<u8>, AllocError> {
+    let line = Line {
+        place: None,
+        fate,
+        what: what.as_bytes(),
+        put: None,
+    };
+    let mut report = Vec::new(alloc);
+    push_line(alloc, &mut report, json, path, &line)?;
+    Ok(report)
+}
+
+/// The line that says of the folder of this path that its default is named.
+pub(crate) fn default_line(
+    alloc: Global,
+    json: bool,
+    path: &str,
+    name: &str,
+) -> Result<Vec<u8>, AllocError> {
+    line_on(alloc, json, path, Fate::Default, name)
+}
+
 /// The line that says of the file of this path that something is left out.
 pub(crate) fn left_out_line(
     alloc: Global,
@@ -190,15 +220,7 @@ pub(crate) fn left_out_line(
     path: &str,
     what: &str,
 ) -> Result<Vec<u8>, AllocError> {
-    let line = Line {
-        place: None,
-        fate: Fate::LeftOut,
-        what: what.as_bytes(),
-        put: None,
-    };
-    let mut report = Vec::new(alloc);
-    push_line(alloc, &mut report, json, path, &line)?;
-    Ok(report)
+    line_on(alloc, json, path, Fate::LeftOut, what)
 }
 
 /// The line that says of the file of this path why it isn't translated.

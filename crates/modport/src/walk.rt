@@ -2,14 +2,17 @@
 
 use crate::arguments::Walked;
 use crate::fault::PortFault;
+use crate::folders::{Place, places};
+use crate::naming::{Naming, name_default};
 use crate::porting::{Manner, bytes_of, port_file};
-use crate::reporting::{fault_line, left_out_line};
+use crate::reporting::{default_line, fault_line, left_out_line};
 use crate::script_files::{ScriptFile, ScriptPlaces};
 use crate::site_walk::{module_of, site_of};
 use crate::status::Status;
 use crate::texts::{joined, kind_of, modulefile, read, shown_text, write_new};
 use families::{Home, Site};
 use filetree::{DiskTree, Tree};
+use otherdefaults::Program;
 use std::alloc::{AllocError, Global};
 use std::fs::{Metadata, Permissions};
 use std::io::Write;
@@ -70,6 +73,22 @@ pub(crate) fn names_in(rt: &HostRuntime, path: &str) -> Result<Vec<String>, Port
 /// to nothing above its directory.
 fn stays(target: &str) -> bool {
     !target.starts_with('/') && target.split('/').all(|part| part != "..")
+}
+
+/// The path, where there is one.
+fn text_of(path: &Option<String>) -> Option<&str> {
+    match path {
+        Some(path) => Some(path.as_str()),
+        None => None,
+    }
+}
+
+/// The same path once more, where there is one.
+fn copy_of(path: &Option<String>) -> Result<Option<String>, AllocError> {
+    match path {
+        Some(path) => Ok(Some(path.clone()?)),
+        None => Ok(None),
+    }
 }
 
 /// The name of the modules of a directory of this name, in one with modules of that name.
@@ -230,10 +249,7 @@ impl<'r> Walk<'r> {
         name: &str,
     ) -> Result<(), PortFault> {
         let found = kind_of(self.rt, from.as_str())?;
-        let target = match &to {
-            Some(to) => Some(to.as_str()),
-            None => None,
-        };
+        let target = text_of(&to);
         let below = name_below(self.rt.alloc(), folder.name.as_str(), name)?;
         if found.is_dir() {
             self.folder(from, to, &found, below)
@@ -290,6 +306,33 @@ impl<'r> Walk<'r> {
         Ok(())
     }
 
+    /// Names the default of a folder where the program takes another one; the folders are below that path.
+    fn default_of(&mut self, program: Program, top: &str, place: &Place) -> Result<(), PortFault> {
+        let (alloc, json) = (self.rt.alloc(), self.manner.json);
+        match name_default(self.rt, program, top, place)? {
+            Naming::Same => Ok(()),
+            Naming::Named(name) => {
+                let line = default_line(alloc, json, place.from.as_str(), name.as_str())?;
+                self.say(line.as_slice())
+            }
+            Naming::Unjudged => self.leave(place.from.as_str(), "default"),
+        }
+    }
+
+    /// Names the defaults of the folders below a path, which are written below another, where there is one.
+    fn defaults(
+        &mut self,
+        program: Program,
+        from: &str,
+        to: Option<&str>,
+    ) -> Result<(), PortFault> {
+        for place in &places(self.rt, from, to)? {
+            let done = self.default_of(program, from, place);
+            self.go_on(place.from.as_str(), done)?;
+        }
+        Ok(())
+    }
+
     /// Writes the scripts of the aliases, behind the directories of the tree.
     fn write_scripts(&mut self) -> Result<(), PortFault> {
         let scripts = mem::replace(&mut self.scripts, Vec::new(self.rt.alloc()));
@@ -328,6 +371,7 @@ pub(crate) fn walk_tree<'r>(
         from,
         to,
         one_version,
+        like,
     } = walked;
     names_in(rt, from.as_str())?;
     if let Some(to) = &to {
@@ -350,12 +394,15 @@ pub(crate) fn walk_tree<'r>(
         made: Vec::new(rt.alloc()),
     };
     walk.folders.push(Folder {
-        from,
-        to,
+        from: from.clone()?,
+        to: copy_of(&to)?,
         name: String::new(rt.alloc()),
     })?;
     walk.go()?;
     walk.write_scripts()?;
+    if let Some(program) = like {
+        walk.defaults(program, from.as_str(), text_of(&to))?;
+    }
     walk.finish()?;
     Ok(walk.status)
 }

@@ -1,1 +1,3 @@
+pub mod PieceViews
+pub mod Pieces
 pub mod ScriptTexts

@@ -1,24 +1,14 @@
--- Pieces that are joined, and kept.
-use Rattle.std.proofs.Common.{◌≡◌, ℕ, ◌-◌, List, [], ◌∷◌, ◌++◌, Option, Some, None, ap, ◌∙◌, append-nil, take, drop, refl}
-use Rattle.std.proofs.lemmas.List.{take-append-drop}
+-- Pieces that are kept.
+use Rattle.std.proofs.Common.{◌≡◌, List, [], ◌∷◌, ◌++◌, Option, Some, None, ap, ◌∙◌, refl}
 use Rattle.std.specs.Prelude.{flat_map}
 use Rattle.tclchars.specs.Runs.{Text}
 use Rattle.families.specs.Families.{Home}
 use Rattle.translation.specs.Places.{line_of}
-use Rattle.tclscript.specs.Tree.{Command, Word}
-use Rattle.portforms.specs.Words.{words_in}
-use Rattle.translation.specs.Pieces.{Piece, pieces, pieces_of}
+use Rattle.tclscript.specs.Tree.{Command}
+use Rattle.scripttext.specs.Pieces.{Piece, pieces_of}
+use Rattle.scripttext.proofs.Joined.{joined}
 use Rattle.translation.specs.Translations.{AreKept, change_of, line_at, note_of, notes_on, or_kept, outcome_of, written_for, written_for_all}
 use Rattle.translation.specs.TranslationViews.{note}
-
-joined_from : (start : ℕ) (words : List Word) (text : Text) (cs : List Command) → flat_map (λ (p : Piece). p.text) (pieces start words text cs) ≡ text
-joined_from start words text [] = append-nil text
-joined_from start words text (c ∷ cs) =
-    ap (λ (t : Text). take (c.offset - start) text ++ t) (joined_from c.offset (words_in c.words) (drop (c.offset - start) text) cs)
-    ∙ take-append-drop (c.offset - start) text
-
-pub joined : (text : Text) (cs : List Command) → flat_map (λ (p : Piece). p.text) (pieces_of text cs) ≡ text
-joined text cs = joined_from 0 [] text cs
 
 pub kept : (home : Option Home) (p : Piece) → change_of home p ≡ None → written_for home p ≡ p.text
 kept home p e = ap (or_kept p.text) e

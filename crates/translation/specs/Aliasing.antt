@@ -7,7 +7,7 @@ use Rattle.families.specs.Families.{Home}
 use Rattle.aliases.specs.Aliases.{Alias, alias_in, path_command, script_of, ShellScript}
 use Rattle.portforms.specs.Words.{constants}
 use Rattle.translation.specs.Places.{behind_words}
-use Rattle.translation.specs.Pieces.{Piece}
+use Rattle.scripttext.specs.Pieces.{Piece}
 
 -- an alias, and what stands behind the command that sets it
 pub record Aliased : Type 0 where

@@ -9,7 +9,7 @@ use Rattle.aliases.specs.Views.{alias_view}
 use Rattle.portforms.specs.Words.{commands_in}
 use Rattle.translation.specs.Aliasing as aliasing
 use Rattle.translation.specs.Aliasing.{scripts_of}
-use Rattle.translation.specs.Pieces.{pieces_of}
+use Rattle.scripttext.specs.Pieces.{pieces_of}
 use Rattle.translation.specs.declared.aliasing.Aliased.{Aliased}
 
 abbrev pub aliased_view : Aliased → aliasing.Aliased

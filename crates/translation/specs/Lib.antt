@@ -3,8 +3,6 @@ pub mod AliasingViews
 pub mod Notes
 pub mod OptionViews
 pub mod Options
-pub mod PieceViews
-pub mod Pieces
 pub mod Places
 pub mod TranslationViews
 pub mod Translations

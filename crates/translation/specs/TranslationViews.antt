@@ -9,7 +9,7 @@ use Rattle.tclscript.specs.Faults.{IsTextFault}
 use Rattle.tclscript.specs.Text.{IsWithin}
 use Rattle.tclscript.specs.Tree.{Commands, Command}
 use Rattle.portforms.specs.Words.{commands_in}
-use Rattle.translation.specs.Pieces.{pieces_of}
+use Rattle.scripttext.specs.Pieces.{pieces_of}
 use Rattle.translation.specs.Translations.{written_for_all, notes_on_all}
 use Rattle.translation.specs.declared.notes.Note.{Note}
 use Rattle.translation.specs.declared.notes.Outcome.{Outcome}

@@ -16,7 +16,7 @@ use Rattle.translation.specs.Writing.{written, needs}
 use Rattle.guards.specs.Guards.{Guard, guard_of}
 use Rattle.translation.specs.Aliasing.{of_alias}
 use Rattle.translation.specs.Options.{idle_front, without_option}
-use Rattle.translation.specs.Pieces.{Piece}
+use Rattle.scripttext.specs.Pieces.{Piece}
 use Rattle.translation.specs.Notes.{Note, left_in}
 
 -- Forms, with the versions that symbols mean in a file of this home

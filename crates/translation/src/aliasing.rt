@@ -6,14 +6,14 @@ ghost use Rattle.families.specs.Views.{home_view};
 ghost use Rattle.portforms.specs.Words.{texts};
 ghost use Rattle.translation.specs.Aliasing as spec;
 ghost use Rattle.translation.specs.AliasingViews.{aliased_view};
-ghost use Rattle.translation.specs.PieceViews.{piece_view};
+ghost use Rattle.scripttext.specs.PieceViews.{piece_view};
 ghost use Rattle.translation.specs.TranslationViews.{AddsChange};
 
-use crate::pieces::Piece;
 use crate::places::behind_words;
 use aliases::{Alias, ShellScript, alias_in, push_folder, shell_script};
 use families::Home;
 use portforms::constants;
+use scripttext::Piece;
 use std::alloc::{AllocError, Global};
 
 /// An alias, and what stands behind the command that sets it.

@@ -4,7 +4,7 @@ ghost use Rattle.tclchars.specs.Runs.{Text};
 ghost use Rattle.families.specs.Families.{Home};
 ghost use Rattle.tclscript.specs.Tree.{Command};
 ghost use Rattle.translation.specs.Places.{line_of};
-ghost use Rattle.translation.specs.Pieces.{Piece, pieces_of};
+ghost use Rattle.scripttext.specs.Pieces.{Piece, pieces_of};
 ghost use Rattle.translation.specs.Translations.{AreKept, change_of, line_at, notes_on, outcome_of};
 ghost use Rattle.translation.specs.Translations.{written_for, written_for_all};
 ghost use Rattle.translation.specs.TranslationViews.{note};

@@ -6,7 +6,6 @@ mod aliasing;
 mod laws;
 mod notes;
 mod options;
-mod pieces;
 mod places;
 mod translating;
 mod translation_fault;

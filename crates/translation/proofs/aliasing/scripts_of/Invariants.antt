@@ -3,7 +3,7 @@ use Rattle.std.specs.Option.{option_map}
 use Rattle.aliases.specs.Views.{shell_scripts_view}
 use Rattle.families.specs.Views.{home_view}
 use Rattle.translation.specs.Aliasing.{scripts_of}
-use Rattle.translation.specs.PieceViews.{piece_view}
+use Rattle.scripttext.specs.PieceViews.{piece_view}
 use Rattle.translation.proofs.aliasing.scripts_of.Given as goal
 
 abbrev pub invariant-loop-piece : goal.invariant-loop-piece

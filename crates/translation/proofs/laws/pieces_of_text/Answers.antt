@@ -1,4 +1,5 @@
-use Rattle.translation.proofs.Kept.{joined, unchanged}
+use Rattle.scripttext.proofs.Joined.{joined}
+use Rattle.translation.proofs.Kept.{unchanged}
 use Rattle.translation.proofs.laws.pieces_of_text.Goals as goal
 
 pub returns-clause-joined : goal.returns-clause-joined

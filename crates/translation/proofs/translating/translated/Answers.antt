@@ -1,7 +1,7 @@
 use Rattle.std.specs.Option.{option_map}
 use Rattle.families.specs.Views.{home_view}
 use Rattle.portforms.specs.Words.{texts}
-use Rattle.translation.specs.PieceViews.{piece_view}
+use Rattle.scripttext.specs.PieceViews.{piece_view}
 use Rattle.translation.specs.Translations.{notes_on, written_for}
 use Rattle.translation.specs.TranslationViews.{notes_view}
 use Rattle.translation.proofs.More.{one_more}

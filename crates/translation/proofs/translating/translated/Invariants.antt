@@ -2,7 +2,7 @@ use Rattle.std.proofs.Common.{◌≡◌, map, take}
 use Rattle.std.specs.Option.{option_map}
 use Rattle.families.specs.Views.{home_view}
 use Rattle.portforms.specs.Words.{texts}
-use Rattle.translation.specs.PieceViews.{piece_view}
+use Rattle.scripttext.specs.PieceViews.{piece_view}
 use Rattle.translation.specs.Translations.{written_for_all, notes_on_all}
 use Rattle.translation.specs.TranslationViews.{notes_view}
 use Rattle.translation.proofs.translating.translated.Given as goal

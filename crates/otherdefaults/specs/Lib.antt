@@ -1,0 +1,11 @@
+pub mod Pieces
+pub mod PieceViews
+pub mod Dictionary
+pub mod LmodVersions
+pub mod PartViews
+pub mod Said
+pub mod SaidViews
+pub mod Defaults
+pub mod FolderViews
+pub mod FindingViews
+pub mod Written

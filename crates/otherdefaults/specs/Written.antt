@@ -1,0 +1,34 @@
+-- What is written for a folder, whose default is named (modulefile(5), module-version).
+use Rattle.std.specs.Prelude.{List, [], ◌∷◌, ◌++◌, Bool, false, bytes_eq, codes, if◌then◌else◌, Option, Some, None}
+use Rattle.tclchars.specs.Bytes.{newline}
+use Rattle.tclchars.specs.Runs.{Text}
+use Rattle.otherdefaults.specs.Defaults.{full, last_named, own_version}
+use Rattle.otherdefaults.specs.Said.{ends, Statement}
+
+-- a text whose last line is ended
+abbrev pub in_lines : Text → Text
+in_lines [] = []
+in_lines (c ∷ cs) = if ends (newline ∷ []) (c ∷ cs) then c ∷ cs else (c ∷ cs) ++ newline ∷ []
+
+unfoldable pub command : Text
+command = codes "module-version "
+
+unfoldable pub symbol : Text
+symbol = codes " default\n"
+
+-- `module-version FOLDER/VERSION default`
+abbrev pub command_of : Text → Text → Text
+command_of folder version = command ++ (full folder version ++ symbol)
+
+-- the text with this command behind it
+abbrev pub with_default : Text → Text → Text → Text
+with_default text folder version = in_lines text ++ command_of folder version
+
+abbrev pub is_version : Text → Option Text → Bool
+is_version version None = false
+is_version version (Some named) = bytes_eq named version
+
+-- the statements of a default file name the version of the folder
+abbrev pub names_version : Text → Text → Option (List Statement) → Bool
+names_version folder version None = false
+names_version folder version (Some ss) = is_version version (last_named (own_version folder) ss)
