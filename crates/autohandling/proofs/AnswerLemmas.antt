@@ -13,7 +13,7 @@ use Rattle.shelltext.specs.declared.shell.Shell.{Shell}
 use Rattle.tclrules.specs.declared.limits.Limits.{Limits}
 use Rattle.requests.specs.Reasons.{RequestReason}
 use Rattle.requests.specs.Requests.{RequestedAction}
-use Rattle.requests.specs.Steps.{RequestStep, request_context_in}
+use Rattle.requests.specs.Steps.{Done, RequestStep, request_context_in}
 use Rattle.modules.specs.Answers.{cause_of}
 use Rattle.modules.specs.MoveViews.{moves_of}
 use Rattle.modules.specs.Replies.{changed_env, changed_view}
@@ -67,15 +67,19 @@ module _ (agrees : Files → Listings → Type 0) (shell : Shell) (e : Environme
       (changed_view e changed, subst Stepped (sym same.0) step, said, done.0, done.1)
   answered limits act names added (Err fault) step said done same = tt
 
--- a failure in the last of several calls is one of them all
-fault_later : (agrees : Files → Listings → Type 0) (shell : Shell) (e : Environment) (failed before : Type 0) (Comes : Outcomes) (fault : AutomaticFault) → (failed → before)
-    → IsAutomaticFault agrees failed shell e Comes fault → IsAutomaticFault agrees before shell e Comes fault
-fault_later agrees shell e failed before Comes (Refused refusal) later h =
-    let P : RequestReason → Type 0 = λ reason. InEachPair agrees (λ files listings. Comes files listings (Err reason)) in stands_as (cause_of refusal) failed before P P later (λ r k. k) h
-fault_later agrees shell e failed before Comes (Unprinted prints.OutOfMemory) later h = tt
-fault_later agrees shell e failed before Comes (Unprinted (prints.NotSayable name)) later h = h
+-- A failure in the last of several calls is one of them all, and one of outcomes that are among others.
+fault_among : (agrees : Files → Listings → Type 0) (shell : Shell) (e : Environment) (failed before : Type 0) (Comes Others : Outcomes) (fault : AutomaticFault) → (failed → before)
+    → InEachPair agrees (λ files listings. (o : Result Done RequestReason) → Comes files listings o → Others files listings o)
+    → IsAutomaticFault agrees failed shell e Comes fault → IsAutomaticFault agrees before shell e Others fault
+fault_among agrees shell e failed before Comes Others (Refused refusal) later among h =
+    stands_as (cause_of refusal) failed before (λ reason. InEachPair agrees (λ files listings. Comes files listings (Err reason)))
+    (λ reason. InEachPair agrees (λ files listings. Others files listings (Err reason))) later (λ r k files listings a. among files listings a (Err r) (k files listings a)) h
+fault_among agrees shell e failed before Comes Others (Unprinted prints.OutOfMemory) later among h = tt
+fault_among agrees shell e failed before Comes Others (Unprinted (prints.NotSayable name)) later among (d, comes, lacks) =
+    (d, (λ files listings a. among files listings a (Ok d) (comes files listings a)), lacks)
 
-pub faults_later : (agrees : Files → Listings → Type 0) (shell : Shell) (e : Environment) (failed before : Type 0) (Comes : Outcomes) (result : Result AutomaticAnswer AutomaticFault) → (failed → before)
-    → IfErr result (IsAutomaticFault agrees failed shell e Comes) → IfErr result (IsAutomaticFault agrees before shell e Comes)
-faults_later agrees shell e failed before Comes (Ok a) later h = tt
-faults_later agrees shell e failed before Comes (Err fault) later h = fault_later agrees shell e failed before Comes fault later h
+pub faults_among : (agrees : Files → Listings → Type 0) (shell : Shell) (e : Environment) (failed before : Type 0) (Comes Others : Outcomes) (result : Result AutomaticAnswer AutomaticFault)
+    → (failed → before) → InEachPair agrees (λ files listings. (o : Result Done RequestReason) → Comes files listings o → Others files listings o)
+    → IfErr result (IsAutomaticFault agrees failed shell e Comes) → IfErr result (IsAutomaticFault agrees before shell e Others)
+faults_among agrees shell e failed before Comes Others (Ok a) later among h = tt
+faults_among agrees shell e failed before Comes Others (Err fault) later among h = fault_among agrees shell e failed before Comes Others fault later among h

@@ -1,5 +1,5 @@
 -- Refusals for which nothing is put in.
-use Rattle.std.proofs.Common.{◌≡◌, List, Option, Some, None, refl}
+use Rattle.std.proofs.Common.{◌≡◌, true, List, Option, Some, None, refl}
 use Rattle.envvars.specs.Texts.{Text}
 use Rattle.envvars.specs.Environment.{Environment}
 use Rattle.filetree.specs.Causes.{Applies, Cause, memory, device, because}
@@ -31,7 +31,7 @@ with_search (because r) failed P Q final h = (h, final r)
 
 -- for a reason of this kind nothing is put in, whatever the names are
 abbrev pub IsOther : RequestReason → Type 0
-IsOther reason = (s : RequestContext) (e : Environment) (added names : List Text) → loads.IsFinal s e added names reason
+IsOther reason = (loads.is_other reason ≡ true) × ((s : RequestContext) (e : Environment) (added names : List Text) → loads.IsFinal s e added names reason)
 
 -- The load is refused by another number than 52.
 pub final_load : (refusal : Refusal) (failed : Type 0) (P : RequestReason → Type 0)
@@ -39,18 +39,18 @@ pub final_load : (refusal : Refusal) (failed : Type 0) (P : RequestReason → Ty
     → Applies (cause_of refusal) failed (λ r. P r × IsOther r)
 final_load refusals.OutOfMemory failed P not h = tt
 final_load (refusals.Run fault) failed P not h =
-    with_reason file_refused _ failed P IsOther (λ r s e added names. tt) h
+    with_reason file_refused _ failed P IsOther (λ r. (refl, λ s e added names. tt)) h
 final_load (refusals.Find fault) failed P not h =
-    with_search (search.cause_of fault) failed P IsOther (λ r s e added names. tt) h
+    with_search (search.cause_of fault) failed P IsOther (λ r. (refl, λ s e added names. tt)) h
 final_load (refusals.Env fault) failed P not h =
-    with_reason (λ r. refused_edit (bad_edit r)) _ failed P IsOther (λ r s e added names. tt) h
-final_load refusals.BadArguments failed P not h = (h, λ s e added names. tt)
-final_load (refusals.UnknownSubcommand word) failed P not h = (h, λ s e added names. tt)
-final_load (refusals.ConflictWith name) failed P not h = (h, λ s e added names. tt)
+    with_reason (λ r. refused_edit (bad_edit r)) _ failed P IsOther (λ r. (refl, λ s e added names. tt)) h
+final_load refusals.BadArguments failed P not h = (h, (refl, λ s e added names. tt))
+final_load (refusals.UnknownSubcommand word) failed P not h = (h, (refl, λ s e added names. tt))
+final_load (refusals.ConflictWith name) failed P not h = (h, (refl, λ s e added names. tt))
 final_load (refusals.PrereqMissing m) failed P not h = absurd (not m refl)
-final_load (refusals.StillNeededBy name) failed P not h = (h, λ s e added names. tt)
-final_load (refusals.FileGone path) failed P not h = (h, λ s e added names. tt)
-final_load (refusals.NotAModulefile path) failed P not h = (h, λ s e added names. tt)
+final_load (refusals.StillNeededBy name) failed P not h = (h, (refl, λ s e added names. tt))
+final_load (refusals.FileGone path) failed P not h = (h, (refl, λ s e added names. tt))
+final_load (refusals.NotAModulefile path) failed P not h = (h, (refl, λ s e added names. tt))
 
 kept_reason : {R : Type 0} (view : R → RequestReason) (o : Option R) (added : List Text) → ((r : R) → unloads.IsFinal added (view r)) → IsNotPut (by_reason view o) added (by_reason view o)
 kept_reason view None added final = tt

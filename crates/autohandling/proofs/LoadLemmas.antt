@@ -115,15 +115,5 @@ module _ (s : RequestContext) (e : Environment) (asked added names : List Text) 
 
 -- the first try, of the names that were asked for
 module _ (s : RequestContext) (e : Environment) (asked : List Text) where
-  pub first_refuses : (reason : RequestReason) → RequestStep s e (load asked) (Err reason) → IsFinal s e [] asked reason → RefusesLoad s e asked reason
-  first_refuses reason step final = record {
-    added = [];
-    tried = asked;
-    rest = [];
-    completed = subst (λ (l : List Text). Completes s e asked [] l) (sym (append-nil asked)) as_asked;
-    refused = step;
-    final = final;
-  }
-
   pub first_looks : (at : Text) → RequestLooksAt s e (load asked) at → AutomaticLoadLooksAt s e asked at
   first_looks at looks = last_looks s e asked [] asked as_asked at looks

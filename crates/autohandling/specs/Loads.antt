@@ -1,5 +1,5 @@
 -- What an automated load loads (module(1), load --auto), over the files and directories of a tree.
-use Rattle.std.specs.Prelude.{◌≡◌, ◌⊎◌, true, false, List, [], ◌∷◌, ◌++◌, All, Contains, Option}
+use Rattle.std.specs.Prelude.{◌≡◌, ◌⊎◌, Bool, true, false, List, [], ◌∷◌, ◌++◌, All, Contains, Option}
 use Rattle.std.specs.Prelude.{Some, None, Result, Ok, Err}
 use Rattle.envvars.specs.Texts.{Text}
 use Rattle.envvars.specs.Environment.{Environment}
@@ -90,11 +90,38 @@ pub record RefusesLoad (s : RequestContext) (e : Environment) (asked : List Text
   pub refused : RequestStep s e (load tried) (Err reason)
   pub final : IsFinal s e added tried reason
 
--- The outcomes of an automated load: what the load of names makes that complete those asked for, or why it is refused.
-abbrev pub AutomaticLoad : RequestContext → Environment → List Text → Result Done RequestReason → Type 0
-AutomaticLoad s e asked (Ok d) =
+-- What the load of names makes that complete those asked for, or why it is refused.
+abbrev pub CompletedLoad : RequestContext → Environment → List Text → Result Done RequestReason → Type 0
+CompletedLoad s e asked (Ok d) =
     (added : List Text) × (names : List Text) × Completes s e asked added names × RequestStep s e (load names) (Ok d)
-AutomaticLoad s e asked (Err reason) = RefusesLoad s e asked reason
+CompletedLoad s e asked (Err reason) = RefusesLoad s e asked reason
+
+-- the load of these names is refused, since none of the alternatives of a prereq is loaded
+abbrev pub LacksOne : RequestContext → Environment → List Text → Type 0
+LacksOne s e names = (alternatives : List Text) × RequestStep s e (load names) (Err (prereq_missing alternatives))
+
+-- for another reason
+abbrev pub is_other : RequestReason → Bool
+is_other (prereq_missing alternatives) = false
+is_other reason = true
+
+abbrev pub IsRefusedElse : RequestContext → Environment → List Text → Result Done RequestReason → Type 0
+IsRefusedElse s e names (Ok d) = ⊥
+IsRefusedElse s e names (Err reason) = RequestStep s e (load names) (Err reason) × (is_other reason ≡ true)
+
+-- The outcomes of an automated load: what the load of the names makes as they were asked for, or another reason for
+-- which it is refused; where a prereq is missing, what comes of names that complete these.
+abbrev pub AutomaticLoad : RequestContext → Environment → List Text → Result Done RequestReason → Type 0
+AutomaticLoad s e asked o =
+    ((d : Done) × RequestStep s e (load asked) (Ok d) × (o ≡ Ok d))
+    ⊎ (IsRefusedElse s e asked o ⊎ (LacksOne s e asked × CompletedLoad s e asked o))
+
+-- The names that are loaded, of which some were put in: those asked for where their load is accepted, and where a
+-- prereq is missing names that complete these.
+abbrev pub AutomaticNames : RequestContext → Environment → List Text → List Text → List Text → Type 0
+AutomaticNames s e asked added names =
+    ((d : Done) × RequestStep s e (load asked) (Ok d) × (added ≡ []) × (names ≡ asked))
+    ⊎ (LacksOne s e asked × Completes s e asked added names)
 
 -- the search for an alternative that the name lacks behind those in front looks at this path
 abbrev pub NeedLooksAt : RequestContext → Environment → List Text → Text → Text → Type 0

@@ -5,7 +5,8 @@ ghost use Rattle.filetree.specs.Agreement.{FailsOnlyAt, InEachPair, ReadsOn};
 ghost use Rattle.requests.specs.Requests as actions;
 ghost use Rattle.requests.specs.Steps.{Done, RequestStep, request_context_in};
 ghost use Rattle.autohandling.specs.Answers.{IsAnswer, IsAutomaticFault};
-ghost use Rattle.autohandling.specs.Loads.{AutomaticLoad, AutomaticLoadLooksAt, Completes};
+ghost use Rattle.autohandling.specs.Loads.{AutomaticLoad, AutomaticLoadLooksAt, AutomaticNames};
+ghost use Rattle.autohandling.specs.Loads.{CompletedLoad, Completes};
 
 use crate::answer::{AutomaticAnswer, answer_of};
 use crate::fault::AutomaticFault;
@@ -37,7 +38,7 @@ fn load_completed<T: Tree>(
         (texts_in a.added) (texts_in a.names))) }
     ensures refused { IfErr result (
         IsAutomaticFault (T.agrees tree.new) (T.failures tree.old < T.failures tree.new) shell env.now
-        (λ files listings. AutomaticLoad (request_context_in limits shell files listings) env.now
+        (λ files listings. CompletedLoad (request_context_in limits shell files listings) env.now
         (map string_bytes names.now))) }
     ensures failed { FailsOnlyAt T.agrees T.failed tree.old tree.new (λ files listings.
         AutomaticLoadLooksAt (request_context_in limits shell files listings) env.now (map string_bytes names.now)) }
@@ -70,8 +71,8 @@ pub fn load_automatically<T: Tree>(
     ensures loaded { IfOk result (λ a. IsAnswer (T.agrees tree.new) shell env.now
         (λ files listings. RequestStep (request_context_in limits shell files listings) env.now
         (actions.load (texts_in a.names))) a) }
-    ensures completed { IfOk result (λ a. InEachPair (T.agrees tree.new) (λ files listings.
-        Completes (request_context_in limits shell files listings) env.now (map string_bytes names.now)
+    ensures named { IfOk result (λ a. InEachPair (T.agrees tree.new) (λ files listings.
+        AutomaticNames (request_context_in limits shell files listings) env.now (map string_bytes names.now)
         (texts_in a.added) (texts_in a.names))) }
     ensures as_asked { IfOk result (λ a. InEachPair (T.agrees tree.new) (λ files listings. (d : Done)
         → RequestStep (request_context_in limits shell files listings) env.now

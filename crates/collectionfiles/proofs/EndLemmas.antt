@@ -30,7 +30,7 @@ pub leaves_by : (path : Text) (left : Unwritten) (fault : FileFault) (a b : Entr
 leaves_by path Failed fault a b e h = inl h
 leaves_by path Left fault a b e h = inr (path, e, h)
 
-some_as : {X : Type 0} (o : Option X) (P Q : X → Type 0) → ((x : X) → P x → Q x) → IfSome o P → IfSome o Q
+pub some_as : {X : Type 0} (o : Option X) (P Q : X → Type 0) → ((x : X) → P x → Q x) → IfSome o P → IfSome o Q
 some_as (Some x) P Q f h = f x h
 some_as None P Q f h = tt
 

@@ -1,14 +1,17 @@
 -- Names in folders, and in sets.
-use Rattle.std.proofs.Common.{◌≡◌, ℕ, zero, suc, Bool, true, false, cond, ◌||◌, ◌&&◌, List, [], ◌∷◌, refl, sym, ap, ◌∙◌}
+use Rattle.std.proofs.Common.{◌≡◌, ℕ, zero, suc, Bool, true, false, cond, ◌||◌, ◌&&◌, List, [], ◌∷◌, refl, sym, ap, ◌∙◌, inr}
 use Rattle.std.proofs.Common.{◌+◌, ◌<◌, ◌≤◌, length, get_or, drop, map, string_bytes, String, Global, arith}
-use Rattle.std.specs.Prelude.{bytes_eq, is_some, Option, Some, None, Result, Ok, Err, OnOk}
+use Rattle.std.specs.Prelude.{bytes_eq, is_some, Option, Some, None, Result, Ok, Err, IfErr, IfSome, OnOk}
 use Rattle.std.specs.List.{list_any}
 use Rattle.envvars.specs.Texts.{Text, has}
-use Rattle.envvars.proofs.TextLemmas.{same_text}
+use Rattle.envvars.proofs.TextLemmas.{bytes_eq-same, same_text}
 use Rattle.collectionfiles.specs.Entries.{Entry, Entries, nothing, file, folder, link, other, bytes_at_end}
 use Rattle.collectionfiles.specs.Entries.{bytes_in, in_folder, is_there, leads, led_on, max_links}
+use Rattle.collectionfiles.specs.Failures.{Failure, IsAtOne, IsInFolder, failure_of}
 use Rattle.collectionfiles.specs.Names.{is_collection_name}
 use Rattle.collectionfiles.specs.Lists.{is_in, leads_to_file}
+use Rattle.collectionfiles.specs.declared.fault.FileFault.{FileFault}
+use Rattle.collectionfiles.proofs.EndLemmas.{some_as}
 
 pub map_on : {A E : Type 0} (r : Result A E) (P Q : Type 0) → (P → Q) → OnOk r P → OnOk r Q
 map_on (Ok x) P Q f h = f h
@@ -103,3 +106,32 @@ any_end p [] zero l = refl
 any_end p [] (suc i) l = refl
 any_end p (n ∷ ns) zero l = absurd (omega (arith, l))
 any_end p (n ∷ ns) (suc i) l = any_end p ns i (omega (arith, l))
+
+-- ---- where a listing failed
+
+or_true : (b : Bool) → (b || true) ≡ true
+or_true true = refl
+or_true false = refl
+
+-- the name at a place is one of the names
+pub is_one : (names : List (String Global)) (i : ℕ) (x : String Global) → i < length names → x ≡ get_or names i x
+    → has (string_bytes x) (map string_bytes names) ≡ true
+is_one [] i x l e = absurd (omega (arith, l))
+is_one (n ∷ ns) zero x l e =
+    ap (λ (y : String Global). bytes_eq (string_bytes x) (string_bytes y) || has (string_bytes x) (map string_bytes ns)) (sym e)
+    ∙ ap (λ (b : Bool). b || has (string_bytes x) (map string_bytes ns)) (bytes_eq-same (string_bytes x))
+is_one (n ∷ ns) (suc i) x l e =
+    ap (λ (b : Bool). bytes_eq (string_bytes x) (string_bytes n) || b) (is_one ns i x (omega (arith, l)) e)
+    ∙ or_true (bytes_eq (string_bytes x) (string_bytes n))
+
+-- at the path of one of the names in a folder, which is there by what the folder has
+pub failed_in_folder : (e : Entries) (path : Text) (names : List Text)
+    → ((q : Text) → is_collection_name q ≡ true → has q names ≡ is_there (e (in_folder path q)))
+    → (f : Failure) → IsAtOne path names f → IsInFolder e path f
+failed_in_folder e path names all f h = inr (h.0, sym (all h.0 h.2.0) ∙ h.1, h.2)
+
+-- a failure of a call is one of the caller
+pub fails_as : {X : Type 0} (r : Result X FileFault) (P Q : Failure → Type 0) → ((f : Failure) → P f → Q f)
+    → IfErr r (λ fault. IfSome (failure_of fault) P) → IfErr r (λ fault. IfSome (failure_of fault) Q)
+fails_as (Ok x) P Q more h = tt
+fails_as (Err fault) P Q more h = some_as (failure_of fault) P Q more h

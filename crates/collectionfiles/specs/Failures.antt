@@ -1,15 +1,16 @@
 -- What the maps don't decide, as faults say it: what the system couldn't do, and that a collection can't be saved
 -- (docs/REFUSALS.md, "Of the function alone"); and the texts of faults.
-use Rattle.std.specs.Prelude.{◌≡◌, ◌⊎◌, ℕ, ◌++◌, codes, decimal, string_bytes, Option, Some, None, Ok}
+use Rattle.std.specs.Prelude.{◌≡◌, ◌⊎◌, ℕ, true, List, ◌++◌, codes, decimal, string_bytes, Option, Some, None, Ok}
 use Rattle.message.specs.Messages.{around, quoting}
-use Rattle.envvars.specs.Texts.{Text}
+use Rattle.envvars.specs.Texts.{Text, has}
 use Rattle.envvars.specs.Environment.{Environment}
 use Rattle.collections.specs.Lines.{Kept}
 use Rattle.collections.specs.Saved.{IsSaveFault, text_of_save}
 use Rattle.collections.specs.Views.{text_of}
 use Rattle.collections.specs.declared.save.SaveFault.{SaveFault}
-use Rattle.collectionfiles.specs.Entries.{Entries, beside, in_folder}
+use Rattle.collectionfiles.specs.Entries.{Entries, beside, in_folder, is_there}
 use Rattle.collectionfiles.specs.Ends.{free_end}
+use Rattle.collectionfiles.specs.Names.{is_collection_name}
 use Rattle.collectionfiles.specs.Places.{Folders, folders_for}
 use Rattle.collectionfiles.specs.declared.fault.FileFault.{FileFault}
 use Rattle.collectionfiles.specs.declared.fault.FileFault.TheVariants as faults
@@ -74,6 +75,29 @@ abbrev pub IsRemoval : Environment → Text → Failure → Type 0
 IsRemoval env name f =
     (folders : Folders) × (folders_for env name ≡ Ok folders)
     × (IsInFolders folders name f ⊎ (f ≡ unwritten (in_folder folders.own name)))
+
+-- ---- Where listing may fail
+
+-- at the path of a collection's name in a folder
+abbrev pub IsAtName : Text → Text → Failure → Type 0
+IsAtName path name f = (is_collection_name name ≡ true) × (f ≡ unread (in_folder path name))
+
+-- at that of one of these names
+abbrev pub IsAtOne : Text → List Text → Failure → Type 0
+IsAtOne path names f = (name : Text) × (has name names ≡ true) × IsAtName path name f
+
+-- at the path of a folder, or at that of a collection's name which is there
+abbrev pub IsInFolder : Entries → Text → Failure → Type 0
+IsInFolder entries path f =
+    (f ≡ unread path) ⊎ ((name : Text) × (is_there (entries (in_folder path name)) ≡ true) × IsAtName path name f)
+
+abbrev pub IsInSome : Entries → Option Text → Failure → Type 0
+IsInSome entries None f = ⊥
+IsInSome entries (Some path) f = IsInFolder entries path f
+
+-- of one of the folders
+abbrev pub IsListing : Entries → Folders → Failure → Type 0
+IsListing entries folders f = IsInFolder entries folders.own f ⊎ IsInSome entries folders.others f
 
 -- ---- Where writing may fail
 

@@ -4,6 +4,8 @@ ghost use Rattle.std.specs.BTreeSet.{contains_text};
 ghost use Rattle.std.specs.List.{list_any};
 ghost use Rattle.envvars.specs.Texts.{Text};
 ghost use Rattle.collectionfiles.specs.Calls.{InEach, Narrows};
+ghost use Rattle.collectionfiles.specs.Failures as failures;
+ghost use Rattle.collectionfiles.specs.Failures.{failure_of, unread};
 ghost use Rattle.collectionfiles.specs.Faults.{reason_of};
 ghost use Rattle.collectionfiles.specs.Entries as entry;
 ghost use Rattle.collectionfiles.specs.Lists as spec;
@@ -27,6 +29,7 @@ fn leads_to_file<S: Storage>(alloc: Global, storage: &mut S, path: &str) -> Resu
     ensures answer { IfOk result (λ leads. InEach (S.agrees storage.new) (λ entries.
         spec.leads_to_file entries path.now ≡ leads)) }
     ensures fault { IfErr result (λ fault. reason_of fault ≡ None) }
+    ensures failure { IfErr result (λ fault. IfSome (failure_of fault) (λ f. f ≡ unread path.now)) }
 {
     match end_of(alloc, storage, path) {
         Ok(
@@ -53,6 +56,8 @@ fn has_file<S: Storage>(
     ensures answer { IfOk result (λ has. InEach (S.agrees storage.new) (λ entries.
         spec.leads_to_file entries (entry.in_folder folder.now name.now) ≡ has)) }
     ensures fault { IfErr result (λ fault. reason_of fault ≡ None) }
+    ensures failure { IfErr result (λ fault. IfSome (failure_of fault) (λ f.
+        f ≡ unread (entry.in_folder folder.now name.now))) }
 {
     let path = in_folder(alloc, folder, name)?;
     leads_to_file(alloc, storage, path.as_str())
@@ -69,6 +74,7 @@ fn is_in<S: Storage>(
     ensures answer { IfOk result (λ is. InEach (S.agrees storage.new) (λ entries.
         spec.is_in entries folder.now name.now ≡ is)) }
     ensures fault { IfErr result (λ fault. reason_of fault ≡ None) }
+    ensures failure { IfErr result (λ fault. IfSome (failure_of fault) (failures.IsAtName folder.now name.now)) }
 {
     if is_collection_name(name) {
         return has_file(alloc, storage, folder, name);
@@ -80,6 +86,7 @@ fn is_in<S: Storage>(
 fn put_name(alloc: Global, found: &mut BTreeSet<String>, name: &str) -> Result<(), FileFault>
     ensures added { OnOk result ((q : Text) → contains_text found.new q ≡ (contains_text found.old q || bytes_eq q name.now)) }
     ensures fault { IfErr result (λ fault. reason_of fault ≡ None) }
+    ensures failure { IfErr result (λ fault. failure_of fault ≡ None) }
 {
     let own = String::from_str(alloc, name)?;
     found.insert(own)?;
@@ -98,6 +105,7 @@ fn add_name<S: Storage>(
     ensures added { OnOk result (InEach (S.agrees storage.new) (λ entries. (q : Text) → contains_text found.new q
         ≡ (contains_text found.old q || (bytes_eq q name.now && spec.is_in entries folder.now name.now)))) }
     ensures fault { IfErr result (λ fault. reason_of fault ≡ None) }
+    ensures failure { IfErr result (λ fault. IfSome (failure_of fault) (failures.IsAtName folder.now name.now)) }
 {
     if is_in(alloc, storage, folder, name)? {
         return put_name(alloc, found, name);
@@ -118,6 +126,8 @@ fn add_names<S: Storage>(
         ≡ (contains_text found.old q || list_any (λ name. bytes_eq q name && spec.is_in entries folder.now name)
         (map string_bytes names.now)))) }
     ensures fault { IfErr result (λ fault. reason_of fault ≡ None) }
+    ensures failure { IfErr result (λ fault. IfSome (failure_of fault)
+        (failures.IsAtOne folder.now (map string_bytes names.now))) }
 {
     for name in names {
         add_name(alloc, storage, found, folder, name.as_str())?;
@@ -136,6 +146,8 @@ fn add_folder<S: Storage>(
     ensures added { OnOk result (InEach (S.agrees storage.new) (λ entries. (q : Text) → contains_text found.new q
         ≡ (contains_text found.old q || spec.is_in entries folder.now q))) }
     ensures fault { IfErr result (λ fault. reason_of fault ≡ None) }
+    ensures failure { IfErr result (λ fault. IfSome (failure_of fault) (λ f. InEach (S.agrees storage.new) (λ entries.
+        failures.IsInFolder entries folder.now f))) }
 {
     match storage.names(folder) {
         Ok(names) => add_names(alloc, storage, found, folder, names.as_slice()),
@@ -154,6 +166,8 @@ fn add_others<S: Storage>(
     ensures added { OnOk result (InEach (S.agrees storage.new) (λ entries. (q : Text) → contains_text found.new q
         ≡ (contains_text found.old q || spec.is_in_some entries (folders_view folders.now).others q))) }
     ensures fault { IfErr result (λ fault. reason_of fault ≡ None) }
+    ensures failure { IfErr result (λ fault. IfSome (failure_of fault) (λ f. InEach (S.agrees storage.new) (λ entries.
+        failures.IsInSome entries (folders_view folders.now).others f))) }
 {
     match &folders.others {
         Some(others) => add_folder(alloc, storage, found, others.as_str()),
@@ -164,7 +178,8 @@ fn add_others<S: Storage>(
 /// The names of the collections, those of Environment Modules too, in the order of their bytes. Files of another name are
 /// left out.
 ///
-/// The errors: `NoHome`, no variable says where they lie; `Reading`, the system failed; `OutOfMemory`.
+/// The errors: `NoHome`, no variable says where they lie; `Reading`, the system failed at this path, which is that of a
+/// folder or of a collection's name in it; `OutOfMemory`.
 pub fn list_collections<S: Storage>(
     alloc: Global,
     storage: &mut S,
@@ -175,6 +190,9 @@ pub fn list_collections<S: Storage>(
         × InEach (S.agrees storage.new) (λ entries. (name : Text)
         → contains_text found name ≡ spec.is_listed entries folders name)) }
     ensures fault { IfErr result (λ fault. IfSome (reason_of fault) (λ reason. places.folders_of env.now ≡ Err reason)) }
+    ensures failure { IfErr result (λ fault. IfSome (failure_of fault) (λ f. (folders : places.Folders)
+        × (places.folders_of env.now ≡ Ok folders)
+        × InEach (S.agrees storage.new) (λ entries. failures.IsListing entries folders f))) }
 {
     let folders = Folders::of_environment(alloc, env)?;
     let mut found = BTreeSet::new(alloc);

@@ -29,6 +29,7 @@ port_options =
     ∷ codes "--host"
     ∷ codes "--json"
     ∷ codes "--kept"
+    ∷ codes "--like"
     ∷ codes "--one-version"
     ∷ codes "--stdin"
     ∷ []

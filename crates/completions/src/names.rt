@@ -47,6 +47,7 @@ fn port_options() -> &'static [&'static str]
         "--host",
         "--json",
         "--kept",
+        "--like",
         "--one-version",
         "--stdin",
     ]

@@ -20,7 +20,7 @@ use Rattle.requests.specs.RequestViews.{action_view}
 use Rattle.requests.specs.Requests.{RequestedAction, switch, unload}
 use Rattle.requests.specs.Steps.{RequestStep, request_context_in}
 use Rattle.requests.specs.declared.action.Action.{Action}
-use Rattle.explanations.specs.Advised.{ForConflict, IsFirstSwitch, IsRefused, NoSwitch}
+use Rattle.explanations.specs.Advised.{Instead, IsFirstSwitch, IsRefused, NoSwitch}
 use Rattle.explanations.specs.Explained.{IsAccepted}
 use Rattle.explanations.specs.Views.{IsSwitchOrNone, IsTried}
 use Rattle.explanations.specs.declared.advice.Advice.{Advice}
@@ -96,20 +96,20 @@ module _ (agrees : Files → Listings → Type 0) (limits : Limits) (shell : She
   -- ---- a conflict
 
   pub by_switch : (other : Text) (names : List Text) (advice : Advice) → IsSwitchOrNone agrees limits shell e other names (Some advice)
-      → ForConflict agrees limits shell e other names (Some advice)
+      → Instead agrees limits shell e other names (Some advice)
   by_switch other names advice (action, tried, first) =
-      subst (λ (a : Advice). ForConflict agrees limits shell e other names (Some a)) (sym tried) (inl first)
+      subst (λ (a : Advice). Instead agrees limits shell e other names (Some a)) (sym tried) (inl first)
 
   by_unload : (other : Text) (names : List Text) (action : Action) → action_view action ≡ unload (other ∷ []) → NoSwitch agrees limits shell e other names
       → (o : Option Advice) → IfSome o (IsTried action) → IfNone o (IsRefused agrees limits shell e (action_view action))
-      → ForConflict agrees limits shell e other names o
+      → Instead agrees limits shell e other names o
   by_unload other names action is none None tried refused =
-      inr (none, subst (λ (a : RequestedAction). IsRefused agrees limits shell e a) is refused)
+      (none, subst (λ (a : RequestedAction). IsRefused agrees limits shell e a) is refused)
   by_unload other names action is none (Some advice) tried refused =
-      subst (λ (a : Advice). ForConflict agrees limits shell e other names (Some a)) (sym tried) (inr (none, is))
+      subst (λ (a : Advice). Instead agrees limits shell e other names (Some a)) (sym tried) (inr (none, is))
 
   pub unloads : (other : Text) (names : List Text) (action : Action) → action_view action ≡ unload (other ∷ []) → NoSwitch agrees limits shell e other names
       → (r : Result (Option Advice) Refusal) → IfOk r (λ o. IfSome o (IsTried action)) → IfOk r (λ o. IfNone o (IsRefused agrees limits shell e (action_view action)))
-      → IfOk r (ForConflict agrees limits shell e other names)
+      → IfOk r (Instead agrees limits shell e other names)
   unloads other names action is none (Ok o) tried refused = by_unload other names action is none o tried refused
   unloads other names action is none (Err refusal) tried refused = tt

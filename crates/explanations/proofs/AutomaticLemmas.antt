@@ -20,13 +20,13 @@ use Rattle.requests.specs.Steps.{RequestStep, request_context_in}
 use Rattle.requests.specs.declared.action.Action.{Action}
 use Rattle.requests.specs.declared.action.Action.TheVariants as actions
 use Rattle.autohandling.specs.Answers.{IsAnswer, IsAutomaticFault, Outcomes}
-use Rattle.autohandling.specs.Loads.{Completes}
+use Rattle.autohandling.specs.Loads.{AutomaticNames}
 use Rattle.autohandling.specs.declared.answer.AutomaticAnswer.{AutomaticAnswer}
 use Rattle.autohandling.specs.declared.fault.AutomaticFault.{AutomaticFault}
 use Rattle.autohandling.specs.declared.fault.AutomaticFault.TheVariants as automatic
-use Rattle.explanations.specs.Advised.{Among, ForNeed, ForNeeded, IsCompletedLoad, IsCompletedUnload, IsKnown, IsNotAutomatic, LoadComes, none_is_found}
+use Rattle.explanations.specs.Advised.{Among, ForNeed, ForNeeded, HasReason, IsCompletedLoad, IsCompletedUnload, IsKnown, IsNotAutomatic, LoadComes, none_is_found}
 use Rattle.explanations.specs.Explained.{IsAccepted, IsSound}
-use Rattle.explanations.specs.Views.{HasReason, IsAutomated}
+use Rattle.explanations.specs.Views.{IsAutomated}
 use Rattle.explanations.specs.declared.advice.Advice.{Advice}
 use Rattle.explanations.specs.declared.advice.Advice.TheVariants as advices
 
@@ -109,11 +109,11 @@ accepted_unload agrees limits shell e r names (a, is, same) h =
 -- and the names are those of the answer
 pub completed_load : (agrees : Files → Listings → Type 0) (limits : Limits) (shell : Shell) (e : Environment) (asked : List Text) (r : Result AutomaticAnswer AutomaticFault)
     (names : Vec (String Global) Global) → ((a : AutomaticAnswer) × (r ≡ Ok a) × (names ≡ a.names))
-    → IfOk r (λ a. InEachPair agrees (λ files listings. Completes (request_context_in limits shell files listings) e asked (texts_in a.added) (texts_in a.names)))
+    → IfOk r (λ a. InEachPair agrees (λ files listings. AutomaticNames (request_context_in limits shell files listings) e asked (texts_in a.added) (texts_in a.names)))
     → IsCompletedLoad agrees limits shell e asked (action_view (actions.Load names))
 completed_load agrees limits shell e asked r names (a, is, same) h =
     let Completed : Result AutomaticAnswer AutomaticFault → Type 0 =
-    λ r. IfOk r (λ a. InEachPair agrees (λ files listings. Completes (request_context_in limits shell files listings) e asked (texts_in a.added) (texts_in a.names))) in
+    λ r. IfOk r (λ a. InEachPair agrees (λ files listings. AutomaticNames (request_context_in limits shell files listings) e asked (texts_in a.added) (texts_in a.names))) in
     (texts_in a.added, texts_in a.names, ap (λ (v : Vec (String Global) Global). load (texts_in v)) same, subst Completed is h)
 
 -- ---- what isn't done
@@ -121,10 +121,10 @@ completed_load agrees limits shell e asked r names (a, is, same) h =
 -- what an answer was refused for
 pub undone : (before now : Files → Listings → Type 0) (failed : Type 0) (shell : Shell) (e : Environment) (Comes : Outcomes) (r : Result AutomaticAnswer AutomaticFault)
     → Narrows before now → ((fault : AutomaticFault) × (r ≡ Err fault) × HasReason fault) → IfErr r (IsAutomaticFault before failed shell e Comes)
-    → (fault : AutomaticFault) × IsAutomaticFault now ⊥ shell e Comes fault
+    → (fault : AutomaticFault) × HasReason fault × IsAutomaticFault now ⊥ shell e Comes fault
 undone before now failed shell e Comes r narrows (fault, is, reason) h =
     let Refused : Result AutomaticAnswer AutomaticFault → Type 0 = λ r. IfErr r (IsAutomaticFault before failed shell e Comes) in
-    (fault, not_automatic before now failed shell e Comes fault narrows reason (subst Refused is h))
+    (fault, reason, not_automatic before now failed shell e Comes fault narrows reason (subst Refused is h))
 
 -- an alternative was found, or none was
 pub one_among : (agrees : Files → Listings → Type 0) (limits : Limits) (shell : Shell) (e : Environment) (alternatives : List Text) (o : Option (String Global)) (b : Bool)

@@ -1,5 +1,5 @@
 -- Why a request is refused, by what was said of its refusal.
-use Rattle.std.proofs.Common.{◌≡◌, true, false, List, Option, Some, None, Result, Ok, Err, IfOk, inl, inr, refl, sym, subst}
+use Rattle.std.proofs.Common.{◌≡◌, true, false, List, Option, Some, None, Result, Ok, Err, IfErr, IfOk, inl, inr, refl, sym, subst}
 use Rattle.std.specs.Prelude.{IfSome}
 use Rattle.envvars.specs.Environment.{Environment}
 use Rattle.envvars.specs.Reasons as edits
@@ -28,7 +28,7 @@ use Rattle.failedcommands.specs.declared.location.FileExplanation.{FileExplanati
 use Rattle.explanations.proofs.AdviceLemmas.{Answers}
 use Rattle.explanations.proofs.LocationLemmas.{locates_later, none_located_later}
 use Rattle.explanations.specs.Advised.{ComesTo, IsAdvised}
-use Rattle.explanations.specs.Explained.{IsExplained, IsFile, IsOfOutcome, IsOfUsage, IsSound, IsWhy}
+use Rattle.explanations.specs.Explained.{IsExplained, IsFile, IsOfOutcome, IsOfUsage, IsSound, IsUnexplained, IsWhy}
 use Rattle.explanations.specs.Views.{IfBecause, IsFileOf, is_known}
 use Rattle.explanations.specs.declared.advice.Advice.{Advice}
 use Rattle.explanations.specs.declared.advice.Advice.TheVariants as advices
@@ -58,7 +58,7 @@ knowns agrees limits shell e (Err fault) h = tt
 module _ (before now : Files → Listings → Type 0) (limits : Limits) (shell : Shell) (e : Environment) (action : RequestedAction) (narrows : Narrows before now) where
   pub file_later : (refusal : Refusal) (o : Option FileExplanation) → IsFileOf before limits shell e action refusal o → IsFileOf now limits shell e action refusal o
   file_later (refusals.Run fault) None (caused, h) = (caused, none_located_later before now limits narrows shell e action (words_of fault) h)
-  file_later (refusals.Run fault) (Some x) (caused, h) = (caused, locates_later before now limits narrows (words_of fault) x h)
+  file_later (refusals.Run fault) (Some x) (caused, h) = (caused, locates_later before now limits narrows shell e action (words_of fault) x h)
   file_later refusals.OutOfMemory o h = h
   file_later (refusals.Find fault) o h = h
   file_later (refusals.Env fault) o h = h
@@ -177,6 +177,49 @@ outcomes_of before now limits shell e action narrows refusal failed answer r is 
     (applies_later before now limits shell e action narrows (cause_of refusal) failed
     (subst (λ (r : Result RequestChanges Refusal). Answers before limits shell e failed action r) is over_tree))
     file advised
+
+-- ---- why nothing is said
+
+-- of what has no reason
+given_up : (words : List Text) (c : Cause RequestReason) → is_given_up c ≡ true → IsUnexplained words c
+given_up words memory is = tt
+given_up words device is = tt
+given_up words (because r) is = absurd (cc)
+
+pub all_given_up : (words : List Text) (r : Result Explanation Refusal) → IfErr r (λ refusal. is_given_up (cause_of refusal) ≡ true)
+    → IfErr r (λ refusal. IsUnexplained words (cause_of refusal))
+all_given_up words (Ok x) h = tt
+all_given_up words (Err refusal) h = given_up words (cause_of refusal) h
+
+-- what was said is said
+pub kept : (said r : Result Explanation Refusal) (P : Explanation → Type 0) → IfOk r (λ x. said ≡ Ok x) → IfOk said P → IfOk r P
+kept said (Ok x) P same h = subst (λ (r : Result Explanation Refusal). IfOk r P) same h
+kept said (Err refusal) P same h = tt
+
+-- of words that make no request
+by_no_search : (words : List Text) (c : Cause FindReason) → Applies (by_search c) ⊥ (λ r. Err r ≡ request_of words) → IsUnexplained words (by_search c)
+by_no_search words memory h = tt
+by_no_search words device h = absurd h
+by_no_search words (because r) h = (sym h, λ same. absurd (cc))
+
+by_no_edit : {R : Type 0} (view : R → RequestReason) → ((r : R) → view r ≡ bad_arguments → ⊥) → (words : List Text) (o : Option R)
+    → Applies (by_reason view o) ⊥ (λ r. Err r ≡ request_of words) → IsUnexplained words (by_reason view o)
+by_no_edit view not words None h = tt
+by_no_edit view not words (Some r) h = (sym h, not r)
+
+pub no_request : (words : List Text) (refusal : Refusal) → (refusal ≡ refusals.BadArguments → ⊥) → Applies (cause_of refusal) ⊥ (λ r. Err r ≡ request_of words)
+    → IsUnexplained words (cause_of refusal)
+no_request words refusals.OutOfMemory not h = tt
+no_request words (refusals.Run fault) not h = by_no_edit file_refused (λ r same. absurd (cc)) words (file_reason_of fault) h
+no_request words (refusals.Find fault) not h = by_no_search words (find_cause fault) h
+no_request words (refusals.Env fault) not h = by_no_edit (λ r. refused_edit (bad_edit r)) (λ r same. absurd (cc)) words (edits.reason_of fault) h
+no_request words refusals.BadArguments not h = absurd (not refl)
+no_request words (refusals.UnknownSubcommand word) not h = (sym h, λ same. absurd (cc))
+no_request words (refusals.ConflictWith name) not h = (sym h, λ same. absurd (cc))
+no_request words (refusals.PrereqMissing missing) not h = (sym h, λ same. absurd (cc))
+no_request words (refusals.StillNeededBy name) not h = (sym h, λ same. absurd (cc))
+no_request words (refusals.FileGone path) not h = (sym h, λ same. absurd (cc))
+no_request words (refusals.NotAModulefile path) not h = (sym h, λ same. absurd (cc))
 
 -- ---- the words
 

@@ -8,3 +8,4 @@ pub mod UnknownLemmas
 pub mod EvaluatedLemmas
 pub mod PartLemmas
 pub mod ExplainedLemmas
+pub mod FailedLemmas

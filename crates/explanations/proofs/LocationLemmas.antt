@@ -1,12 +1,12 @@
 -- Where a file failed, by its text.
-use Rattle.std.proofs.Common.{◌≡◌, ℕ, ◌+◌, ◌<◌, ◌≤◌, List, length, map, take, get_or, Option, Some, None, Result, Ok, Err, String, string_bytes, IfOk, inl, inr, refl, sym, subst, false}
+use Rattle.std.proofs.Common.{◌≡◌, ℕ, ◌+◌, ◌<◌, ◌≤◌, List, length, map, take, drop, get_or, Option, Some, None, Result, Ok, Err, String, string_bytes, IfOk, inl, inr, refl, sym, subst, false}
 use Rattle.std.proofs.lemmas.List.{take_all}
 use Rattle.std.proofs.lemmas.List.Elements.{All-map, All-more, All-weaker}
 use Rattle.std.specs.Prelude.{All, IfNone, IfSome, is_none}
 use Rattle.std.specs.declared.alloc.Global.{Global}
 use Rattle.envvars.specs.Environment.{Environment}
 use Rattle.envvars.specs.Texts.{Text}
-use Rattle.filetree.specs.Agreement.{Files, Listings, InEachPair, Narrows}
+use Rattle.filetree.specs.Agreement.{Files, Listings, Narrows}
 use Rattle.filetree.specs.Modulefiles.{modulefile}
 use Rattle.givenup.specs.Causes.{is_given_up}
 use Rattle.shelltext.specs.declared.shell.Shell.{Shell}
@@ -18,13 +18,13 @@ use Rattle.modulerun.specs.declared.run_fault.RunFault.{RunFault}
 use Rattle.modules.specs.declared.refusal.Refusal.{Refusal}
 use Rattle.modules.specs.declared.refusal.Refusal.TheVariants as refusals
 use Rattle.requests.specs.Requests.{RequestedAction}
-use Rattle.requests.specs.Steps.{request_context_in, script_at}
+use Rattle.requests.specs.Steps.{script_at}
 use Rattle.filetree.specs.Relations.{Is}
 use Rattle.failedcommands.specs.Failing.{Words, words_of}
 use Rattle.failedcommands.specs.Locations.{IsLocation, IsUnplaced}
 use Rattle.failedcommands.specs.declared.location.FileExplanation.{FileExplanation}
-use Rattle.explanations.specs.Locations.{IsNoScript, IsNotLocated, IsThere, Locates, NoneIsLocated}
-use Rattle.explanations.specs.Evaluated.{AreEvaluated}
+use Rattle.failedcommands.proofs.CommandLemmas.{views_parted}
+use Rattle.explanations.specs.Locations.{AreItsFiles, IsFirstLocated, IsLocated, IsNoScript, IsNotLocated, IsThere, Locates, NoneIsLocated}
 use Rattle.explanations.specs.EvaluatedViews.{file_context}
 use Rattle.explanations.specs.Views.{IsFileOf}
 use Rattle.explanations.specs.declared.evaluated_files.EvaluatedFile.{EvaluatedFile}
@@ -52,18 +52,15 @@ script_missed agrees failed path result refusal is reason h =
     reason_of is_given_up refl refl (cause_of refusal) failed _ reason (subst (λ (r : Result (String Global) Refusal). Reads agrees failed path r) is h)
 
 -- what locates a failure in the script locates it in the file
-pub locates : (agrees : Files → Listings → Type 0) (limits : Limits) (words : Words) (c : FileContext) (path text : Text)
-    (result : Result (Option FileExplanation) Refusal) → c.path ≡ path → IsThere agrees path text
+pub locates : (agrees : Files → Listings → Type 0) (limits : Limits) (words : Words) (c file : FileContext) (path text : Text)
+    (result : Result (Option FileExplanation) Refusal) → c ≡ file → c.path ≡ path → IsThere agrees path text
     → IfOk result (λ o. IfSome o (IsLocation limits c words text))
-    → IfOk result (λ o. IfSome o (Locates agrees limits words))
-locates agrees limits words c path text (Ok (Some x)) same there h = record {
-  context = c;
-  text = text;
-  there = subst (λ (p : Text). IsThere agrees p text) (sym same) there;
-  located = h;
-}
-locates agrees limits words c path text (Ok None) same there h = tt
-locates agrees limits words c path text (Err e) same there h = tt
+    → IfOk result (λ o. IfSome o (IsLocated agrees limits words file))
+locates agrees limits words c file path text (Ok (Some x)) is same there h =
+    let here : IsLocated agrees limits words c x = record { text = text; there = subst (λ (p : Text). IsThere agrees p text) (sym same) there; located = h } in
+    subst (λ (k : FileContext). IsLocated agrees limits words k x) is here
+locates agrees limits words c file path text (Ok None) is same there h = tt
+locates agrees limits words c file path text (Err e) is same there h = tt
 
 -- and what doesn't place it there doesn't locate it
 pub unlocated : (agrees : Files → Listings → Type 0) (limits : Limits) (words : Words) (c file : FileContext) (path text : Text)
@@ -78,25 +75,36 @@ unlocated agrees limits words c file path text (Err e) is same there h = tt
 -- ---- the same over fewer pairs of maps
 
 module _ (before now : Files → Listings → Type 0) (limits : Limits) (narrows : Narrows before now) where
-  pub locates_later : (words : Words) (x : FileExplanation) → Locates before limits words x → Locates now limits words x
-  locates_later words x h = record {
-    context = h.context;
-    text = h.text;
-    there = λ files listings a. h.there files listings (narrows files listings a);
-    located = h.located;
-  }
+  located_later : (words : Words) (c : FileContext) (x : FileExplanation) → IsLocated before limits words c x → IsLocated now limits words c x
+  located_later words c x h = record { text = h.text; there = λ files listings a. h.there files listings (narrows files listings a); located = h.located }
 
   pub not_located_later : (words : Words) (c : FileContext) → IsNotLocated before limits words c → IsNotLocated now limits words c
   not_located_later words c (inl (reason, h)) = inl (reason, λ files listings a. h files listings (narrows files listings a))
   not_located_later words c (inr (text, there, h)) = inr (text, (λ files listings a. there files listings (narrows files listings a)), h)
 
-  pub none_located_later : (shell : Shell) (e : Environment) (action : RequestedAction) (words : Words)
-      → NoneIsLocated before limits shell e action words → NoneIsLocated now limits shell e action words
-  none_located_later shell e action words (files, evaluated, none) = (
-    files,
-    (λ maps listings a. evaluated maps listings (narrows maps listings a)),
-    All-weaker (λ (c : FileContext). IsNotLocated before limits words c) (λ (c : FileContext). IsNotLocated now limits words c) (not_located_later words) files none,
-  )
+  not_located_all : (words : Words) (files : List FileContext) → All (IsNotLocated before limits words) files → All (IsNotLocated now limits words) files
+  not_located_all words files none =
+      All-weaker (λ (c : FileContext). IsNotLocated before limits words c) (λ (c : FileContext). IsNotLocated now limits words c) (not_located_later words) files none
+
+  first_later : (words : Words) (files : List FileContext) (x : FileExplanation) → IsFirstLocated before limits words files x → IsFirstLocated now limits words files x
+  first_later words files x h = record {
+    before = h.before;
+    file = h.file;
+    after = h.after;
+    parted = h.parted;
+    unlocated = not_located_all words h.before h.unlocated;
+    located = located_later words h.file x h.located;
+  }
+
+  module _ (shell : Shell) (e : Environment) (action : RequestedAction) where
+    its_files_later : (files : List FileContext) → AreItsFiles before limits shell e action files → AreItsFiles now limits shell e action files
+    its_files_later files evaluated = λ maps listings a. evaluated maps listings (narrows maps listings a)
+
+    pub locates_later : (words : Words) (x : FileExplanation) → Locates before limits shell e action words x → Locates now limits shell e action words x
+    locates_later words x (files, evaluated, first) = (files, its_files_later files evaluated, first_later words files x first)
+
+    pub none_located_later : (words : Words) → NoneIsLocated before limits shell e action words → NoneIsLocated now limits shell e action words
+    none_located_later words (files, evaluated, none) = (files, its_files_later files evaluated, not_located_all words files none)
 
 -- ---- the files of a request
 
@@ -109,8 +117,7 @@ not_there agrees limits words c path o same is h =
 -- none of the files of a request
 pub none_located : (before now : Files → Listings → Type 0) (limits : Limits) (shell : Shell) (e : Environment) (action : RequestedAction) (words said : Words)
     (files : List EvaluatedFile) (taken : List EvaluatedFile) → Narrows before now → taken ≡ files → said ≡ words
-    → InEachPair before (λ maps listings. AreEvaluated (request_context_in limits shell maps listings) e action (map (file_context shell) files))
-    → (r : Result (Option FileExplanation) Refusal)
+    → AreItsFiles before limits shell e action (map (file_context shell) files) → (r : Result (Option FileExplanation) Refusal)
     → IfOk r (λ o. IfNone o (All (λ (file : EvaluatedFile). IsNotLocated now limits said (file_context shell file)) taken))
     → IfOk r (λ o. IfNone o (NoneIsLocated now limits shell e action words))
 none_located before now limits shell e action words said files taken narrows same is evaluated (Ok (Some x)) h = tt
@@ -123,15 +130,25 @@ none_located before now limits shell e action words said files taken narrows sam
 )
 none_located before now limits shell e action words said files taken narrows same is evaluated (Err e') h = tt
 
--- the same of what is located
-pub located_so : (agrees : Files → Listings → Type 0) (limits : Limits) (words said : Words) (r : Result (Option FileExplanation) Refusal) → said ≡ words
-    → IfOk r (λ o. IfSome o (Locates agrees limits said)) → IfOk r (λ o. IfSome o (Locates agrees limits words))
-located_so agrees limits words said r is h = subst (λ (w : Words). IfOk r (λ o. IfSome o (Locates agrees limits w))) is h
+-- or the first of them that is located
+pub one_located : (before now : Files → Listings → Type 0) (limits : Limits) (shell : Shell) (e : Environment) (action : RequestedAction) (words said : Words)
+    (files : List EvaluatedFile) (taken : List EvaluatedFile) → Narrows before now → taken ≡ files → said ≡ words
+    → AreItsFiles before limits shell e action (map (file_context shell) files) → (r : Result (Option FileExplanation) Refusal)
+    → IfOk r (λ o. IfSome o (IsFirstLocated now limits said (map (file_context shell) taken)))
+    → IfOk r (λ o. IfSome o (Locates now limits shell e action words))
+one_located before now limits shell e action words said files taken narrows same is evaluated (Ok (Some x)) h = (
+  map (file_context shell) files,
+  (λ maps listings a. evaluated maps listings (narrows maps listings a)),
+  subst (λ (l : List EvaluatedFile). IsFirstLocated now limits words (map (file_context shell) l) x) same
+      (subst (λ (w : Words). IsFirstLocated now limits w (map (file_context shell) taken) x) is h),
+)
+one_located before now limits shell e action words said files taken narrows same is evaluated (Ok None) h = tt
+one_located before now limits shell e action words said files taken narrows same is evaluated (Err e') h = tt
 
 -- what is said of the file of a fault
 pub file_of_fault : (agrees : Files → Listings → Type 0) (limits : Limits) (shell : Shell) (e : Environment) (action : RequestedAction) (fault : RunFault)
     (r : Result (Option FileExplanation) Refusal) → IfOk r (λ o. is_none (file_reason_of fault) ≡ false)
-    → IfOk r (λ o. IfSome o (Locates agrees limits (words_of fault))) → IfOk r (λ o. IfNone o (NoneIsLocated agrees limits shell e action (words_of fault)))
+    → IfOk r (λ o. IfSome o (Locates agrees limits shell e action (words_of fault))) → IfOk r (λ o. IfNone o (NoneIsLocated agrees limits shell e action (words_of fault)))
     → IfOk r (IsFileOf agrees limits shell e action (refusals.Run fault))
 file_of_fault agrees limits shell e action fault (Ok (Some x)) caused located none = (caused, located)
 file_of_fault agrees limits shell e action fault (Ok None) caused located none = (caused, none)
@@ -149,6 +166,23 @@ not_located_more before now limits words shell files i file o narrows below is n
     (All-weaker (λ (f : EvaluatedFile). IsNotLocated before limits words (file_context shell f)) P
     (λ f k. not_located_later before now limits narrows words (file_context shell f) k) (take i files) all)
     (subst P is (subst (λ (o : Option FileExplanation). IfNone o (P file)) none h))
+
+-- or this one is the first that is
+pub first_located : (before now : Files → Listings → Type 0) (limits : Limits) (words : Words) (shell : Shell) (files : List EvaluatedFile) (i : ℕ) (file : EvaluatedFile)
+    (o : Option FileExplanation) (x : FileExplanation) → Narrows before now → i < length files → file ≡ get_or files i file → o ≡ Some x
+    → IfSome o (IsLocated now limits words (file_context shell file))
+    → All (λ (f : EvaluatedFile). IsNotLocated before limits words (file_context shell f)) (take i files)
+    → IsFirstLocated now limits words (map (file_context shell) files) x
+first_located before now limits words shell files i file o x narrows below is some h all = record {
+  before = map (file_context shell) (take i files);
+  file = file_context shell file;
+  after = map (file_context shell) (drop (i + 1) files);
+  parted = views_parted (file_context shell) files i file below is;
+  unlocated = All-map (λ (c : FileContext). IsNotLocated now limits words c) (file_context shell) (take i files)
+      (All-weaker (λ (f : EvaluatedFile). IsNotLocated before limits words (file_context shell f)) (λ (f : EvaluatedFile). IsNotLocated now limits words (file_context shell f))
+      (λ f k. not_located_later before now limits narrows words (file_context shell f) k) (take i files) all);
+  located = subst (λ (o : Option FileExplanation). IfSome o (IsLocated now limits words (file_context shell file))) some h;
+}
 
 -- at the end it was all of them
 pub none_of_all : (agrees : Files → Listings → Type 0) (limits : Limits) (words : Words) (shell : Shell) (files : List EvaluatedFile) (i : ℕ) → length files ≤ i

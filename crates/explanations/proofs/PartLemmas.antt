@@ -9,6 +9,7 @@ use Rattle.envloaded.specs.Loaded.{Entry, names_of}
 use Rattle.envloaded.specs.LoadedEntries.{entry_view}
 use Rattle.envloaded.specs.declared.entry.Loaded.{Loaded}
 use Rattle.envvars.specs.Environment.{Environment}
+use Rattle.envvars.specs.Reasons as edits
 use Rattle.envvars.specs.Texts.{Text, slice_texts, texts_in}
 use Rattle.filetree.specs.Agreement.{Files, Listings, InEachPair}
 use Rattle.filetree.specs.Causes.{Applies, Cause, memory, device, because}
@@ -16,6 +17,7 @@ use Rattle.givenup.specs.Causes.{is_given_up}
 use Rattle.shelltext.specs.declared.shell.Shell.{Shell}
 use Rattle.tclrules.specs.declared.limits.Limits.{Limits}
 use Rattle.modulefile.specs.Files.{FileReason}
+use Rattle.modulefile.specs.Judgments.{bad_edit}
 use Rattle.modulefile.specs.RecordViews.{mode_view}
 use Rattle.modulefile.specs.declared.records.Mode.{Mode}
 use Rattle.modulefile.specs.declared.records.Mode.TheVariants as modes
@@ -25,19 +27,20 @@ use Rattle.modules.specs.Views.{done_view}
 use Rattle.modules.specs.declared.refusal.Refusal.{Refusal}
 use Rattle.modules.specs.declared.refusal.Refusal.TheVariants as refusals
 use Rattle.modules.specs.declared.done.RequestResults.{RequestResults}
-use Rattle.requests.specs.Reasons.{RequestReason, file_refused, missed}
+use Rattle.requests.specs.Reasons.{RequestReason, bad_arguments, conflict_with, file_gone, file_refused, missed, not_a_modulefile, prereq_missing, refused_edit, still_needed_by}
+use Rattle.requests.specs.Reasons.{unknown_subcommand}
 use Rattle.requests.specs.Requests.{RequestedAction, switch}
 use Rattle.requests.specs.Steps.{RequestContext, RequestStep, last_meant, modulepath, request_context_in}
 use Rattle.lookup.specs.DefaultFileResults.{HasResult}
+use Rattle.search.specs.Answers.{cause_of as find_cause}
 use Rattle.search.specs.Found.{Found, FoundModule}
 use Rattle.search.specs.Reasons.{FindReason}
 use Rattle.explanations.specs.Evaluated as spec
-use Rattle.explanations.specs.Evaluated.{FoundOrMissed, IsMeant, Makes}
+use Rattle.explanations.specs.Evaluated.{FoundOrMissed, IsMeant, Makes, is_for_file}
 use Rattle.explanations.specs.EvaluatedViews.{Outcome, file_context, is_of_file, module_view, part_view}
 use Rattle.explanations.specs.declared.evaluated_files.EvaluatedFile.{EvaluatedFile}
 use Rattle.explanations.specs.declared.evaluated_files.ModulePath as code_module
 use Rattle.explanations.specs.declared.evaluated_files.NamePart as code_part
-use Rattle.explanations.proofs.AdviceLemmas.{reason_of}
 
 -- ---- names
 
@@ -83,24 +86,32 @@ module _ (agrees : Files → Listings → Type 0) (limits : Limits) (shell : She
   of_file None failed reason h = absurd (cc)
   of_file (Some r) failed reason h = λ files listings a. (r, h files listings a)
 
-  of_another : (c : Cause RequestReason) (failed : Type 0) → is_given_up c ≡ false → after ≡ e → Applies c failed Refused → ComesOut false
-  of_another c failed reason same h =
-      let r = reason_of is_given_up refl refl c failed Refused reason h in
-      λ files listings a. inr (r.0, r.1 files listings a, same)
+  of_another : (r : RequestReason) → is_for_file r ≡ false → after ≡ e → Refused r → ComesOut false
+  of_another r other same h = λ files listings a. inr (r, h files listings a, other, same)
+
+  of_search : (c : Cause FindReason) (failed : Type 0) → is_given_up (by_search c) ≡ false → after ≡ e → Applies (by_search c) failed Refused → ComesOut false
+  of_search memory failed reason same h = absurd (cc)
+  of_search device failed reason same h = absurd (cc)
+  of_search (because r) failed reason same h = of_another (missed r) refl same h
+
+  of_edit : {R : Type 0} (view : R → RequestReason) → ((r : R) → is_for_file (view r) ≡ false) → (o : Option R) (failed : Type 0) → is_given_up (by_reason view o) ≡ false → after ≡ e
+      → Applies (by_reason view o) failed Refused → ComesOut false
+  of_edit view other None failed reason same h = absurd (cc)
+  of_edit view other (Some r) failed reason same h = of_another (view r) (other r) same h
 
   part_refused_as : (refusal : Refusal) (failed : Type 0) → is_given_up (cause_of refusal) ≡ false → after ≡ e → Applies (cause_of refusal) failed Refused
       → ComesOut (is_of_file refusal)
   part_refused_as (refusals.Run fault) failed reason same h = of_file (file_reason_of fault) failed reason h
-  part_refused_as refusals.OutOfMemory failed reason same h = of_another memory failed reason same h
-  part_refused_as (refusals.Find fault) failed reason same h = of_another (cause_of (refusals.Find fault)) failed reason same h
-  part_refused_as (refusals.Env fault) failed reason same h = of_another (cause_of (refusals.Env fault)) failed reason same h
-  part_refused_as refusals.BadArguments failed reason same h = of_another (cause_of refusals.BadArguments) failed reason same h
-  part_refused_as (refusals.UnknownSubcommand word) failed reason same h = of_another (cause_of (refusals.UnknownSubcommand word)) failed reason same h
-  part_refused_as (refusals.ConflictWith name) failed reason same h = of_another (cause_of (refusals.ConflictWith name)) failed reason same h
-  part_refused_as (refusals.PrereqMissing missing) failed reason same h = of_another (cause_of (refusals.PrereqMissing missing)) failed reason same h
-  part_refused_as (refusals.StillNeededBy name) failed reason same h = of_another (cause_of (refusals.StillNeededBy name)) failed reason same h
-  part_refused_as (refusals.FileGone path) failed reason same h = of_another (cause_of (refusals.FileGone path)) failed reason same h
-  part_refused_as (refusals.NotAModulefile path) failed reason same h = of_another (cause_of (refusals.NotAModulefile path)) failed reason same h
+  part_refused_as refusals.OutOfMemory failed reason same h = absurd (cc)
+  part_refused_as (refusals.Find fault) failed reason same h = of_search (find_cause fault) failed reason same h
+  part_refused_as (refusals.Env fault) failed reason same h = of_edit (λ r. refused_edit (bad_edit r)) (λ r. refl) (edits.reason_of fault) failed reason same h
+  part_refused_as refusals.BadArguments failed reason same h = of_another bad_arguments refl same h
+  part_refused_as (refusals.UnknownSubcommand word) failed reason same h = of_another (unknown_subcommand (string_bytes word)) refl same h
+  part_refused_as (refusals.ConflictWith name) failed reason same h = of_another (conflict_with (string_bytes name)) refl same h
+  part_refused_as (refusals.PrereqMissing missing) failed reason same h = of_another (prereq_missing (texts_in missing.names)) refl same h
+  part_refused_as (refusals.StillNeededBy name) failed reason same h = of_another (still_needed_by (string_bytes name)) refl same h
+  part_refused_as (refusals.FileGone path) failed reason same h = of_another (file_gone (string_bytes path)) refl same h
+  part_refused_as (refusals.NotAModulefile path) failed reason same h = of_another (not_a_modulefile (string_bytes path)) refl same h
 
 -- by what the call for the part answers, whose action is the part's
 module _ (agrees : Files → Listings → Type 0) (limits : Limits) (shell : Shell) (e after : Environment) (part : spec.NamePart) (action : RequestedAction) (is : action ≡ spec.action_of part)

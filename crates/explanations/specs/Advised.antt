@@ -7,21 +7,25 @@ use Rattle.envloaded.specs.Loaded.{Entry, loaded_in, names_of}
 use Rattle.envvars.specs.Environment.{Environment}
 use Rattle.envvars.specs.Texts.{Text, has, texts_in}
 use Rattle.filetree.specs.Agreement.{Files, Listings, InEachPair}
+use Rattle.givenup.specs.Causes.{is_given_up}
 use Rattle.filetree.specs.Modulefiles.{directories}
 use Rattle.modulefile.specs.Files.{FileReason, halted, failed, refused}
+use Rattle.modules.specs.Answers.{cause_of}
 use Rattle.modules.specs.Spaced.{spaced}
 use Rattle.requests.specs.Reasons.{RequestReason, conflict_with, prereq_missing, still_needed_by, missed, file_refused}
 use Rattle.requests.specs.RequestViews.{action_view}
 use Rattle.requests.specs.Requests.{RequestedAction, load, unload, switch}
 use Rattle.requests.specs.Steps.{Done, RequestStep, modulepath, request_context_in}
 use Rattle.search.specs.Reasons.{FindReason, not_found}
+use Rattle.shelltext.specs.declared.print.PrintFault.TheVariants as prints
 use Rattle.shelltext.specs.declared.shell.Shell.{Shell}
 use Rattle.tclrules.specs.Derivation.{Halt, LeftOut}
 use Rattle.tclrules.specs.declared.limits.Limits.{Limits}
 use Rattle.autohandling.specs.Answers.{IsAutomaticFault, Outcomes}
-use Rattle.autohandling.specs.Loads.{AutomaticLoad, Completes, FoundAmong}
+use Rattle.autohandling.specs.Loads.{AutomaticLoad, AutomaticNames, FoundAmong}
 use Rattle.autohandling.specs.Unloads.{AutomaticUnload, StillNeed, in_front}
 use Rattle.autohandling.specs.declared.fault.AutomaticFault.{AutomaticFault}
+use Rattle.autohandling.specs.declared.fault.AutomaticFault.TheVariants as automatic
 use Rattle.explanations.specs.Alike.{AreLike}
 use Rattle.explanations.specs.Replacements.{instead_of}
 use Rattle.explanations.specs.declared.advice.Advice.{Advice}
@@ -71,6 +75,12 @@ names_or_none None = []
 names_or_none (Some names) = names
 
 -- ---- what is refused for itself, and where names are searched
+
+-- the fault is neither want of memory nor a failed device
+abbrev pub HasReason : AutomaticFault → Type 0
+HasReason (automatic.Refused refusal) = is_given_up (cause_of refusal) ≡ false
+HasReason (automatic.Unprinted prints.OutOfMemory) = ⊥
+HasReason (automatic.Unprinted (prints.NotSayable name)) = Unit {0}
 
 -- for those names of a request that there are
 abbrev pub ForNames : (List Text → Option Advice → Type 0) → Option (List Text) → Option Advice → Type 0
@@ -126,24 +136,29 @@ module _ (agrees : Files → Listings → Type 0) (limits : Limits) (shell : She
   IsInstead other names advised =
       IsFirstSwitch other names advised ⊎ (NoSwitch other names × (advised ≡ unload (other ∷ [])))
 
-  -- the module that forbids it is one of the request's own; or neither is accepted
-  abbrev pub IsOwn : Text → Type 0
-  IsOwn other = (entries : List Entry) × (loaded_in e ≡ Some entries) × (has other (names_of entries) ≡ false)
+  -- or nothing, where neither is accepted
+  abbrev pub Instead : Text → List Text → Option Advice → Type 0
+  Instead other names None = NoSwitch other names × IsRefused (unload (other ∷ []))
+  Instead other names (Some (advices.Try action)) = IsInstead other names (action_view action)
+  Instead other names (Some (advices.TryAutomated asked action)) = ⊥
+  Instead other names (Some (advices.Known line)) = ⊥
 
-  abbrev pub NothingInstead : Text → List Text → Type 0
-  NothingInstead other names = IsOwn other ⊎ (NoSwitch other names × IsRefused (unload (other ∷ [])))
+  -- the module is loaded, or isn't
+  abbrev pub IsLoaded : Text → Bool → Type 0
+  IsLoaded name is =
+      (entries : List Entry) × (loaded_in e ≡ Some entries) × (has name (names_of entries) ≡ is)
 
+  -- Nothing where the module that forbids it is one of the request's own.
   abbrev pub ForConflict : Text → List Text → Option Advice → Type 0
-  ForConflict other names None = NothingInstead other names
-  ForConflict other names (Some (advices.Try action)) = IsInstead other names (action_view action)
-  ForConflict other names (Some (advices.TryAutomated asked action)) = ⊥
-  ForConflict other names (Some (advices.Known line)) = ⊥
+  ForConflict other names o =
+      (IsLoaded other false × (o ≡ None)) ⊎ (IsLoaded other true × Instead other names o)
 
   -- ---- with the option --auto
 
   -- it isn't done with that option either, for a reason
   abbrev pub IsNotAutomatic : Outcomes → Type 0
-  IsNotAutomatic Comes = (fault : AutomaticFault) × IsAutomaticFault agrees ⊥ shell e Comes fault
+  IsNotAutomatic Comes =
+      (fault : AutomaticFault) × HasReason fault × IsAutomaticFault agrees ⊥ shell e Comes fault
 
   abbrev pub LoadComes : List Text → Outcomes
   LoadComes names files listings o = AutomaticLoad (request_context_in limits shell files listings) e names o
@@ -156,7 +171,7 @@ module _ (agrees : Files → Listings → Type 0) (limits : Limits) (shell : She
   IsCompletedLoad asked advised =
       (added : List Text) × (names : List Text) × (advised ≡ load names)
       × InEachPair agrees (λ files listings.
-      Completes (request_context_in limits shell files listings) e asked added names)
+      AutomaticNames (request_context_in limits shell files listings) e asked added names)
 
   abbrev pub IsCompletedUnload : List Text → RequestedAction → Type 0
   IsCompletedUnload asked advised =

@@ -81,13 +81,20 @@ pub record FileOf (s : RequestContext) (e : Environment) (part : NamePart) (file
   pub meant : IsMeant s e entries part.mode part.name target
   pub context : file ≡ option_map (part_context s e entries part) target
 
--- what a part makes of the environment: that of its request where it is accepted, else the same
+-- the reason is that a modulefile is
+abbrev pub is_for_file : RequestReason → Bool
+is_for_file (file_refused reason) = true
+is_for_file reason = false
+
+-- What a part makes of the environment that isn't refused for its file: that of its request where it is accepted, else
+-- the same.
 abbrev pub Makes : RequestContext → Environment → RequestedAction → Environment → Type 0
 Makes s e action after =
     ((d : Done) × RequestStep s e action (Ok d) × (after ≡ d.env))
-    ⊎ ((reason : RequestReason) × RequestStep s e action (Err reason) × (after ≡ e))
+    ⊎ ((reason : RequestReason) × RequestStep s e action (Err reason) × (is_for_file reason ≡ false) × (after ≡ e))
 
--- These parts are done, one after another: their files, and the environment that they make.
+-- These parts are done, one after another, and none is refused for its file: their files, and the environment that they
+-- make.
 pub data Passes (s : RequestContext) (e : Environment) : List NamePart → List FileContext → Environment → Type 0 where
   nothing : Passes s e [] [] e
   part_more : (parts : List NamePart) (files : List FileContext) (now : Environment) (part : NamePart)
@@ -95,7 +102,7 @@ pub data Passes (s : RequestContext) (e : Environment) : List NamePart → List 
       → Makes s now (action_of part) after
       → Passes s e (parts ++ part ∷ []) (files ++ option_to_list file) after
 
--- The parts are done up to one that is refused for its file.
+-- The parts are done up to the first that is refused for its file.
 pub record Stops (s : RequestContext) (e : Environment) (parts : List NamePart) (files : List FileContext)
     : Type 0 where
   pub front : List NamePart

@@ -4,6 +4,7 @@ use Rattle.std.specs.Prelude.{◌≡◌, ◌⊎◌, List, [], ◌∷◌, Option,
 use Rattle.envvars.specs.Environment.{Environment}
 use Rattle.envvars.specs.Texts.{Text}
 use Rattle.filetree.specs.Agreement.{Files, Listings, InEachPair}
+use Rattle.filetree.specs.Causes.{Cause, memory, device, because}
 use Rattle.shelltext.specs.declared.shell.Shell.{Shell}
 use Rattle.tclrules.specs.declared.limits.Limits.{Limits}
 use Rattle.modulefile.specs.Files.{FileReason}
@@ -22,8 +23,8 @@ use Rattle.explanations.specs.declared.advice.Advice.TheVariants as advices
 use Rattle.explanations.specs.declared.explanation.Explanation.{Explanation}
 use Rattle.failedcommands.specs.declared.location.FileExplanation.{FileExplanation}
 
--- In each pair of maps that agrees the request is refused because a modulefile is, and what is said locates a script
--- that is refused in the same words.
+-- In each pair of maps that agrees the request is refused because a modulefile is, and what is said locates the first
+-- of its files that is refused in the same words and has a command that is shown to have failed.
 pub record IsWhy (agrees : Files → Listings → Type 0) (limits : Limits) (shell : Shell) (e : Environment)
     (action : RequestedAction) (x : FileExplanation) : Type 0 where
   pub fault : RunFault
@@ -31,7 +32,7 @@ pub record IsWhy (agrees : Files → Listings → Type 0) (limits : Limits) (she
   pub caused : file_reason_of fault ≡ Some reason
   pub refused : InEachPair agrees (λ files listings.
       RequestStep (request_context_in limits shell files listings) e action (Err (file_refused reason)))
-  pub located : Locates agrees limits (words_of fault) x
+  pub located : Locates agrees limits shell e action (words_of fault) x
 
 -- in each pair of maps that agrees the request is accepted, and comes to the same
 abbrev pub IsAccepted : (Files → Listings → Type 0) → Limits → Shell → Environment → RequestedAction → Type 0
@@ -72,6 +73,13 @@ IsOfOutcome agrees limits shell e action x =
     ⊎ ((reason : RequestReason) × ComesTo agrees limits shell e action (Err reason)
     × IsFile agrees limits shell e action reason x.file
     × IsAdvised agrees limits shell e action reason x.advice)
+
+-- Why nothing is said: memory is wanting, the device failed, or the words make no request, for another reason than that
+-- they don't fit the subcommand.
+abbrev pub IsUnexplained : List Text → Cause RequestReason → Type 0
+IsUnexplained words memory = Unit {0}
+IsUnexplained words device = Unit {0}
+IsUnexplained words (because reason) = (request_of words ≡ Err reason) × (reason ≡ bad_arguments → ⊥)
 
 -- What is said of the words of a request.
 abbrev pub IsExplained : (Files → Listings → Type 0) → Limits → Shell → Environment → List Text → Explanation → Type 0

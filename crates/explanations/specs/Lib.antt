@@ -5,6 +5,7 @@ pub mod Advised
 pub mod Evaluated
 pub mod Locations
 pub mod Explained
+pub mod FailedPaths
 -- what is said of it
 pub mod FileLines
 pub mod AdviceLines

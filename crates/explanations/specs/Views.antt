@@ -6,12 +6,9 @@ use Rattle.envvars.specs.Environment.{Environment}
 use Rattle.envvars.specs.Texts.{Text, texts_in}
 use Rattle.filetree.specs.Agreement.{Files, Listings}
 use Rattle.filetree.specs.Causes.{Cause, memory, device, because}
-use Rattle.givenup.specs.Causes.{is_given_up}
-use Rattle.shelltext.specs.declared.print.PrintFault.TheVariants as prints
 use Rattle.shelltext.specs.declared.shell.Shell.{Shell}
 use Rattle.tclrules.specs.declared.limits.Limits.{Limits}
 use Rattle.modulerun.specs.Running.{file_reason_of}
-use Rattle.modules.specs.Answers.{cause_of}
 use Rattle.modules.specs.declared.refusal.Refusal.{Refusal}
 use Rattle.modules.specs.declared.refusal.Refusal.TheVariants as refusals
 use Rattle.failedcommands.specs.Failing.{words_of}
@@ -19,8 +16,6 @@ use Rattle.failedcommands.specs.declared.location.FileExplanation.{FileExplanati
 use Rattle.requests.specs.RequestViews.{action_view}
 use Rattle.requests.specs.Requests.{RequestedAction}
 use Rattle.requests.specs.declared.action.Action.{Action}
-use Rattle.autohandling.specs.declared.fault.AutomaticFault.{AutomaticFault}
-use Rattle.autohandling.specs.declared.fault.AutomaticFault.TheVariants as automatic
 use Rattle.explanations.specs.Advised.{IsFirstSwitch, NoSwitch}
 use Rattle.explanations.specs.Locations.{Locates, NoneIsLocated}
 use Rattle.explanations.specs.declared.advice.Advice.{Advice}
@@ -48,19 +43,13 @@ abbrev pub IsAutomated : List Text → Action → Advice → Type 0
 IsAutomated asked action advice =
     (typed : Vec (String Global) Global) × (advice ≡ advices.TryAutomated typed action) × (texts_in typed ≡ asked)
 
--- the fault is neither want of memory nor a failed device
-abbrev pub HasReason : AutomaticFault → Type 0
-HasReason (automatic.Refused refusal) = is_given_up (cause_of refusal) ≡ false
-HasReason (automatic.Unprinted prints.OutOfMemory) = ⊥
-HasReason (automatic.Unprinted (prints.NotSayable name)) = Unit {0}
-
 -- What is said of the file of a refusal: of a fault of one, where it failed, or that none is located.
 abbrev pub IsFileOf : (Files → Listings → Type 0) → Limits → Shell → Environment → RequestedAction → Refusal
     → Option FileExplanation → Type 0
 IsFileOf agrees limits shell e action (refusals.Run fault) None =
     (is_none (file_reason_of fault) ≡ false) × NoneIsLocated agrees limits shell e action (words_of fault)
 IsFileOf agrees limits shell e action (refusals.Run fault) (Some x) =
-    (is_none (file_reason_of fault) ≡ false) × Locates agrees limits (words_of fault) x
+    (is_none (file_reason_of fault) ≡ false) × Locates agrees limits shell e action (words_of fault) x
 IsFileOf agrees limits shell e action refusal o = o ≡ None
 
 -- it is a line, and no request

@@ -121,7 +121,7 @@ fn instead<T: Tree>(
     ensures narrows { Narrows (T.agrees tree.old) (T.agrees tree.new) }
     ensures advised { IfOk result (λ o. IfSome o (IsSound (T.agrees tree.new) refused.entry.limits
         refused.entry.request.now.shell refused.entry.env.now)) }
-    ensures fits { IfOk result (spec.ForConflict (T.agrees tree.new) refused.entry.limits
+    ensures fits { IfOk result (spec.Instead (T.agrees tree.new) refused.entry.limits
         refused.entry.request.now.shell refused.entry.env.now other.now (map string_bytes names.now)) }
 {
     if let Some(advice) = switch_to_one(refused, tree, other, names)? {

@@ -7,7 +7,8 @@ ghost use Rattle.autohandling.specs.declared.answer.AutomaticAnswer.{AutomaticAn
 ghost use Rattle.autohandling.specs.declared.fault.AutomaticFault.{AutomaticFault};
 ghost use Rattle.explanations.specs.Advised as spec;
 ghost use Rattle.explanations.specs.Explained.{IsSound};
-ghost use Rattle.explanations.specs.Views.{HasReason, IsAutomated};
+ghost use Rattle.explanations.specs.Advised.{HasReason};
+ghost use Rattle.explanations.specs.Views.{IsAutomated};
 
 use crate::advice::Advice;
 use crate::known::known;

@@ -1,11 +1,12 @@
 //! What is said of a refused request: where a modulefile failed, and what to do.
-ghost use Rattle.std.specs.Prelude.{◌≡◌, true, Ok, IfOk, IfSome, map, string_bytes};
+ghost use Rattle.std.specs.Prelude.{◌≡◌, true, Ok, IfErr, IfOk, IfSome, map, string_bytes};
 ghost use Rattle.filetree.specs.Agreement.{Narrows};
+ghost use Rattle.givenup.specs.Causes.{is_given_up};
 ghost use Rattle.modules.specs.Answers.{cause_of};
 ghost use Rattle.requests.specs.RequestViews.{action_view};
 ghost use Rattle.requests.specs.Requests.{RequestedAction, request_of};
 ghost use Rattle.explanations.specs.Advised.{IsAdvised};
-ghost use Rattle.explanations.specs.Explained.{IsExplained, IsOfOutcome, IsOfUsage, IsSound, IsWhy};
+ghost use Rattle.explanations.specs.Explained.{IsExplained, IsOfOutcome, IsOfUsage, IsSound, IsUnexplained, IsWhy};
 ghost use Rattle.explanations.specs.Views.{IfBecause, IsFileOf, is_known};
 
 use crate::advice::{Advice, advice_for};
@@ -121,12 +122,27 @@ fn of_request<T: Tree>(refused: RefusedRequest<'_>, tree: &mut T) -> Result<Expl
     }
 }
 
+/// What is said of a request that is run.
+///
+/// It fails where memory ran out, or the device failed.
+fn unless_refused(said: Result<Explanation, Refusal>) -> Result<Explanation, Refusal>
+    ensures same { IfOk result (λ x. said ≡ Ok x) }
+    ensures given_up { IfErr result (λ refusal. is_given_up (cause_of refusal) ≡ true) }
+{
+    match unless_given_up(said)? {
+        Ok(explanation) => Ok(explanation),
+        // Only loaded lists that don't fit together are a reason, and with these no modulefile is refused.
+        Err(_) => Err(Refusal::OutOfMemory),
+    }
+}
+
 /// Explains why the request of these words, of which the first is the subcommand, is refused; nothing where it is
 /// accepted. The environment doesn't change. A file is named only where the request is refused because of one, and only
-/// one that is refused in the same words, by the command that is named; what is advised would be accepted, and is what
-/// the reason of the refusal asks for. Where the words don't fit the subcommand it says how that is used.
+/// the first of its files that is refused in the same words and has a command that is shown to have failed, which is
+/// named; what is advised would be accepted, and is what the reason of the refusal asks for. Where the words don't fit
+/// the subcommand it says how that is used.
 ///
-/// It fails where no subcommand has this name, for want of memory, or by 43 where the device failed.
+/// Errors: no subcommand has this name; want of memory; or 43 where the device failed.
 #[tactic(auto, using(crate::proofs::ExplainedLemmas::known_if))]
 pub fn explain<T: Tree>(
     alloc: Global,
@@ -141,6 +157,7 @@ pub fn explain<T: Tree>(
         × IsWhy (T.agrees tree.new) limits shell env.now action file)) }
     ensures advised { IfOk result (λ x. IfSome x.advice (IsSound (T.agrees tree.new) limits shell env.now)) }
     ensures said { IfOk result (IsExplained (T.agrees tree.new) limits shell env.now (map string_bytes words.now)) }
+    ensures refused { IfErr result (λ refusal. IsUnexplained (map string_bytes words.now) (cause_of refusal)) }
 {
     let wanted = match request(alloc, shell, words) {
         Ok(wanted) => wanted,
@@ -153,5 +170,5 @@ pub fn explain<T: Tree>(
         env,
         limits,
     };
-    of_request(refused, tree)
+    unless_refused(of_request(refused, tree))
 }

@@ -1,33 +1,37 @@
 //! Where the device failed.
+ghost use Rattle.std.specs.Prelude.{◌≡◌, ◌<◌, false, IfErr, IfNone, IfOk, IfSome, Some};
+ghost use Rattle.filetree.specs.Agreement.{Narrows};
+ghost use Rattle.requests.specs.RequestViews.{action_view};
+ghost use Rattle.givenup.specs.Causes.{is_given_up};
+ghost use Rattle.modules.specs.Answers.{cause_of};
+ghost use Rattle.explanations.specs.FailedPaths.{IsAnswer, is_kept};
 
 use envvars::Env;
 use filetree::{SeenPath, Tree, TreeFault};
-use modules::{Request, run_changes};
-use std::alloc::Global;
+use givenup::unless_given_up;
+use modules::{Refusal, Request, RequestChanges, run_changes};
+use std::alloc::{AllocError, Global};
 use tclrules::Limits;
 
 /// A tree over another, which keeps the path at which the device failed last.
 #[derive(Drop)]
-struct WatchedTree<'a, T> {
-    tree: &'a mut T,
+struct WatchedTree<T> {
+    tree: T,
     alloc: Global,
     failed: Option<String>,
 }
 
-/// A copy of the path, where there is memory for it.
-fn kept(alloc: Global, path: &str) -> Option<String> {
-    String::from_str(alloc, path).ok()
-}
+impl<T: Tree> Tree for WatchedTree<T> {
+    ghost failures = { λ t. T.failures t.tree };
 
-impl<T: Tree> Tree for WatchedTree<'_, T> {
-    ghost failures = { λ t. T.failures t.tree.now };
+    ghost failed = { λ t path. is_kept t.failed path };
 
-    ghost agrees = { λ t files listings. T.agrees t.tree.now files listings };
+    ghost agrees = { λ t files listings. T.agrees t.tree files listings };
 
     fn read(&mut self, path: &str) -> Result<Option<Vec<u8>>, TreeFault> {
         let answer = self.tree.read(path);
         if let Err(TreeFault::Device) = &answer {
-            self.failed = kept(self.alloc, path);
+            self.failed = Some(String::from_str(self.alloc, path)?);
         }
         answer
     }
@@ -35,7 +39,7 @@ impl<T: Tree> Tree for WatchedTree<'_, T> {
     fn begins_with(&mut self, path: &str, prefix: &[u8]) -> Result<bool, TreeFault> {
         let answer = self.tree.begins_with(path, prefix);
         if let Err(TreeFault::Device) = &answer {
-            self.failed = kept(self.alloc, path);
+            self.failed = Some(String::from_str(self.alloc, path)?);
         }
         answer
     }
@@ -47,7 +51,7 @@ impl<T: Tree> Tree for WatchedTree<'_, T> {
     fn see(&mut self, path: &str, prefix: &[u8]) -> Result<SeenPath, TreeFault> {
         let answer = self.tree.see(path, prefix);
         if let Err(TreeFault::Device) = &answer {
-            self.failed = kept(self.alloc, path);
+            self.failed = Some(String::from_str(self.alloc, path)?);
         }
         answer
     }
@@ -55,27 +59,51 @@ impl<T: Tree> Tree for WatchedTree<'_, T> {
     fn entries(&mut self, dir: &str) -> Result<Option<Vec<String>>, TreeFault> {
         let answer = self.tree.entries(dir);
         if let Err(TreeFault::Device) = &answer {
-            self.failed = kept(self.alloc, dir);
+            self.failed = Some(String::from_str(self.alloc, dir)?);
         }
         answer
     }
 
-    ghost satisfiable = { λ t. T.satisfiable t.tree.now };
+    ghost satisfiable = { λ t. T.satisfiable t.tree };
 }
 
-/// The path at which the device fails in a request, if it does.
-pub fn failed_path<T: Tree>(
+/// The path that was kept; or nothing, where the request has an outcome.
+///
+/// It fails for want of memory.
+fn answer(
+    kept: Option<String>,
+    outcome: Result<RequestChanges, Refusal>,
+) -> Result<Option<String>, AllocError>
+    ensures some { IfOk result (λ o. IfSome o (λ path. kept ≡ Some path)) }
+    ensures none { IfOk result (λ o. IfNone o (IfErr outcome (λ refusal. is_given_up (cause_of refusal) ≡ false))) }
+{
+    match (kept, unless_given_up(outcome)) {
+        (Some(path), _) => Ok(Some(path)),
+        (None, Ok(_)) => Ok(None),
+        (None, Err(_)) => Err(AllocError),
+    }
+}
+
+/// The path at which the device fails in a request, if it does: one at which the request looks. Where it doesn't, the
+/// request is accepted or has a reason.
+///
+/// It fails for want of memory.
+pub fn failed_path<T: Tree + Drop>(
     alloc: Global,
     request: &Request,
     env: &Env,
-    tree: &mut T,
+    tree: T,
     limits: Limits,
-) -> Option<String> {
+) -> Result<Option<String>, AllocError>
+    ensures { IfOk result (λ o. (last : T) × Narrows (T.agrees tree) (T.agrees last)
+        × IsAnswer (T.agrees last) (T.failures tree < T.failures last) limits request.now.shell env.now
+        (action_view request.now.action) o) }
+{
     let mut watched = WatchedTree {
         tree,
         alloc,
         failed: None,
     };
-    let _ = run_changes(alloc, request, env, &mut watched, limits);
-    watched.failed
+    let outcome = run_changes(alloc, request, env, &mut watched, limits);
+    answer(watched.failed, outcome)
 }

@@ -1,12 +1,13 @@
 //! Which of the files that are evaluated in a request is the one that failed, and where.
-ghost use Rattle.std.specs.Prelude.{◌≡◌, All, false, is_none, IfNone, IfOk, IfSome, string_bytes};
+ghost use Rattle.std.specs.Prelude.{◌≡◌, All, false, is_none, map, IfNone, IfOk, IfSome, string_bytes};
 ghost use Rattle.filetree.specs.Agreement.{Narrows};
 ghost use Rattle.modulerun.specs.Running.{file_reason_of};
 ghost use Rattle.requests.specs.RequestViews.{action_view};
 ghost use Rattle.failedcommands.specs.Failing.{words_of};
 ghost use Rattle.failedcommands.specs.Views.{words_view};
 ghost use Rattle.explanations.specs.EvaluatedViews.{file_context};
-ghost use Rattle.explanations.specs.Locations.{IsNoScript, IsNotLocated, IsThere, Locates, NoneIsLocated};
+ghost use Rattle.explanations.specs.Locations.{IsFirstLocated, IsLocated, IsNoScript, IsNotLocated, IsThere};
+ghost use Rattle.explanations.specs.Locations.{Locates, NoneIsLocated};
 
 use crate::evaluated_files::{EvaluatedFile, evaluated_files};
 use crate::refused::RefusedRequest;
@@ -42,7 +43,8 @@ fn explain_in<T: Tree>(
 ) -> Result<Option<FileExplanation>, Refusal>
     ensures narrows { Narrows (T.agrees tree.old) (T.agrees tree.new) }
     ensures located { IfOk result (λ o. IfSome o (
-        Locates (T.agrees tree.new) refused.entry.limits (words_view words.now))) }
+        IsLocated (T.agrees tree.new) refused.entry.limits (words_view words.now)
+        (file_context refused.entry.request.now.shell file.now))) }
     ensures none { IfOk result (λ o. IfNone o (
         IsNotLocated (T.agrees tree.new) refused.entry.limits (words_view words.now)
         (file_context refused.entry.request.now.shell file.now))) }
@@ -78,7 +80,8 @@ fn explain_one<T: Tree>(
 ) -> Result<Option<FileExplanation>, Refusal>
     ensures narrows { Narrows (T.agrees tree.old) (T.agrees tree.new) }
     ensures located { IfOk result (λ o. IfSome o (
-        Locates (T.agrees tree.new) refused.entry.limits (words_view words.now))) }
+        IsFirstLocated (T.agrees tree.new) refused.entry.limits (words_view words.now)
+        (map (file_context refused.entry.request.now.shell) files.now))) }
     ensures none { IfOk result (λ o. IfNone o (All (λ file.
         IsNotLocated (T.agrees tree.new) refused.entry.limits (words_view words.now)
         (file_context refused.entry.request.now.shell file)) files.now)) }
@@ -103,8 +106,9 @@ pub(crate) fn explain_file<T: Tree>(
 ) -> Result<Option<FileExplanation>, Refusal>
     ensures narrows { Narrows (T.agrees tree.old) (T.agrees tree.new) }
     ensures caused { IfOk result (λ o. is_none (file_reason_of fault.now) ≡ false) }
-    ensures located { IfOk result (λ o. IfSome o (
-        Locates (T.agrees tree.new) refused.entry.limits (words_of fault.now))) }
+    ensures located { IfOk result (λ o. IfSome o (Locates (T.agrees tree.new) refused.entry.limits
+        refused.entry.request.now.shell refused.entry.env.now (action_view refused.entry.request.now.action)
+        (words_of fault.now))) }
     ensures none { IfOk result (λ o. IfNone o (NoneIsLocated (T.agrees tree.new) refused.entry.limits
         refused.entry.request.now.shell refused.entry.env.now (action_view refused.entry.request.now.action)
         (words_of fault.now))) }

@@ -15,7 +15,7 @@ IsFound results files folders modulepath name true =
 IsFound results files folders modulepath name false =
     (reason : FindReason) × Located results files folders modulepath name (Err reason)
 
--- It finds one for the first of the names, or for one of the others. For no name it finds one.
+-- It finds one for the first of the names, or for one of the others. Without names it finds none.
 abbrev pub IsOneFound : (Text → Text → Option DefaultFileResult → Type 0) → Files → Listings → Text → List Text → Bool
     → Type 0
 IsOneFound results files folders modulepath [] answer = answer ≡ false

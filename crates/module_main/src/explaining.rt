@@ -64,8 +64,8 @@ fn tell_path(rt: &HostRuntime, shell: Shell, given: &Given, words: &[String], is
     let Ok(wanted) = request(rt.alloc(), shell, words) else {
         return;
     };
-    let mut tree = DiskTree::new(rt);
-    let Some(path) = failed_path(rt.alloc(), &wanted, &given.env, &mut tree, STANDARD_LIMITS) else {
+    let tree = DiskTree::new(rt);
+    let Ok(Some(path)) = failed_path(rt.alloc(), &wanted, &given.env, tree, STANDARD_LIMITS) else {
         return;
     };
     if is_user {

@@ -1,4 +1,5 @@
-use Rattle.std.proofs.Common.{◌≡◌, List, [], map, string_bytes, String, Ok, Err, refl, sym, ap, subst, arith}
+use Rattle.std.proofs.Common.{◌≡◌, List, [], map, string_bytes, String, Ok, Err, inl, inr, refl, sym, ap, subst, arith}
+use Rattle.std.proofs.lemmas.Result.{IfOk-weaker}
 use Rattle.std.specs.declared.alloc.Global.{Global}
 use Rattle.envvars.specs.Texts.{Text, texts_in}
 use Rattle.filetree.specs.Agreement.{FailsOnlyWhere, InEachPair}
@@ -11,11 +12,11 @@ use Rattle.modules.specs.Answers.{cause_of, is_failure}
 use Rattle.modules.specs.Replies.{changed_view}
 use Rattle.modules.proofs.StepLemmas.{stands_as}
 use Rattle.autohandling.specs.Answers.{Outcomes}
-use Rattle.autohandling.specs.Loads.{AutomaticLoad, AutomaticLoadLooksAt, Completes, as_asked, RefusesLoad}
+use Rattle.autohandling.specs.Loads.{AutomaticLoad, AutomaticLoadLooksAt, AutomaticNames, CompletedLoad, Completes}
 use Rattle.autohandling.specs.declared.answer.AutomaticAnswer.{AutomaticAnswer}
-use Rattle.autohandling.proofs.AnswerLemmas.{answered, faulted, faults_later, of_names}
+use Rattle.autohandling.proofs.AnswerLemmas.{answered, faulted, faults_among, of_names}
 use Rattle.autohandling.proofs.FinalLemmas.{IsOther, final_load}
-use Rattle.autohandling.proofs.LoadLemmas.{first_looks, first_refuses}
+use Rattle.autohandling.proofs.LoadLemmas.{first_looks}
 use Rattle.autohandling.proofs.ResultLemmas.{if_ok}
 use Rattle.autohandling.proofs.UnloadLemmas.{known_reason, known_unfailed}
 use Rattle.autohandling.proofs.loading.load_automatically.Goals as goal
@@ -28,15 +29,17 @@ returns-in_ok-own-in-Ok-clause-loaded g c =
     answered agrees c.args.shell c.args.env.now c.in-Ok.changed c.args.limits load c.in_ok-own-in-Ok.own c.new.result c.answer_of.result
     (subst Stepped (sym c.in_ok-own-in-Ok.ensures) c.in-Ok.ensures.over_tree) c.answer_of.ensures.said c.answer_of.ensures.done c.answer_of.ensures.names
 
-pub returns-in_ok-own-in-Ok-clause-completed : goal.returns-in_ok-own-in-Ok-clause-completed
-returns-in_ok-own-in-Ok-clause-completed g c =
+pub returns-in_ok-own-in-Ok-clause-named : goal.returns-in_ok-own-in-Ok-clause-named
+returns-in_ok-own-in-Ok-clause-named g c =
     let e = c.args.env.now in
+    let done = changed_view e c.in-Ok.changed in
     let asked : List Text = map (λ (s : String Global). string_bytes s) c.args.names.now in
     let none : texts_in c.new.result ≡ [] = ap (map (λ (s : String Global). string_bytes s)) c.new.ensures.items in
     let P : List Text → List Text → Type 0 = λ added names.
-    InEachPair (g.T.Tree.agrees c.load.new.tree) (λ files listings. Completes (request_context_in c.args.limits c.args.shell files listings) e asked added names) in
+    InEachPair (g.T.Tree.agrees c.load.new.tree) (λ files listings. AutomaticNames (request_context_in c.args.limits c.args.shell files listings) e asked added names) in
     of_names c.in_ok-own-in-Ok.own c.new.result c.answer_of.result P
-    (subst (λ (l : List Text). P l (texts_in c.in_ok-own-in-Ok.own)) (sym none) (subst (λ (l : List Text). P [] l) (sym c.in_ok-own-in-Ok.ensures) (λ files listings a. as_asked))) c.answer_of.ensures.names
+    (subst (λ (l : List Text). P l (texts_in c.in_ok-own-in-Ok.own)) (sym none)
+    (subst (λ (l : List Text). P [] l) (sym c.in_ok-own-in-Ok.ensures) (λ files listings a. inl (done, c.in-Ok.ensures.over_tree files listings a, refl, refl)))) c.answer_of.ensures.names
 
 pub returns-in_ok-own-in-Ok-clause-refused : goal.returns-in_ok-own-in-Ok-clause-refused
 returns-in_ok-own-in-Ok-clause-refused g c =
@@ -44,7 +47,23 @@ returns-in_ok-own-in-Ok-clause-refused g c =
     let asked : List Text = map (λ (s : String Global). string_bytes s) c.args.names.now in
     let Comes : Outcomes = λ files listings. AutomaticLoad (request_context_in c.args.limits c.args.shell files listings) e asked in
     faulted (g.T.Tree.agrees c.load.new.tree) c.args.shell e c.in-Ok.changed _ Comes c.answer_of.result
-    (λ files listings a. ([], asked, as_asked, c.in-Ok.ensures.over_tree files listings a)) c.answer_of.ensures.fault
+    (λ files listings a. inl (changed_view e c.in-Ok.changed, c.in-Ok.ensures.over_tree files listings a, refl)) c.answer_of.ensures.fault
+
+pub returns-in-PrereqMissing-clause-named : goal.returns-in-PrereqMissing-clause-named
+returns-in-PrereqMissing-clause-named g c =
+    let e = c.args.env.now in
+    let missing = texts_in c.in-PrereqMissing.field-0.names in
+    let asked : List Text = map (λ (s : String Global). string_bytes s) c.args.names.now in
+    let agrees = g.T.Tree.agrees c.load_completed.new.tree in
+    let Step : RequestReason → Type 0 = λ r. InEachPair (g.T.Tree.agrees c.load.new.tree) (λ files listings. RequestStep (request_context_in c.args.limits c.args.shell files listings) e (load asked) (Err r)) in
+    let refused = known_reason (cause_of c.in-Err.refusal) (prereq_missing missing) _ Step (ap cause_of c.in-PrereqMissing.is) c.in-Err.ensures.over_tree in
+    let P : AutomaticAnswer → Type 0 = λ answer.
+    InEachPair agrees (λ files listings. Completes (request_context_in c.args.limits c.args.shell files listings) e asked (texts_in answer.added) (texts_in answer.names)) in
+    let Q : AutomaticAnswer → Type 0 = λ answer.
+    InEachPair agrees (λ files listings. AutomaticNames (request_context_in c.args.limits c.args.shell files listings) e asked (texts_in answer.added) (texts_in answer.names)) in
+    IfOk-weaker c.load_completed.result P Q
+    (λ answer completed files listings a. inr ((missing, refused files listings (c.load_completed.ensures.reads.narrows files listings a)), completed files listings a))
+    c.load_completed.ensures.completed
 
 pub returns-in-PrereqMissing-clause-as_asked : goal.returns-in-PrereqMissing-clause-as_asked
 returns-in-PrereqMissing-clause-as_asked g c =
@@ -67,8 +86,13 @@ pub returns-in-PrereqMissing-clause-refused : goal.returns-in-PrereqMissing-clau
 returns-in-PrereqMissing-clause-refused g c =
     let e = c.args.env.now in
     let asked : List Text = map (λ (s : String Global). string_bytes s) c.args.names.now in
-    let Comes : Outcomes = λ files listings. AutomaticLoad (request_context_in c.args.limits c.args.shell files listings) e asked in
-    faults_later (g.T.Tree.agrees c.load_completed.new.tree) c.args.shell e _ _ Comes c.load_completed.result (λ q. omega (arith, q, c.load.ensures.reads.counts_failures)) c.load_completed.ensures.refused
+    let missing = texts_in c.in-PrereqMissing.field-0.names in
+    let Step : RequestReason → Type 0 = λ r. InEachPair (g.T.Tree.agrees c.load.new.tree) (λ files listings. RequestStep (request_context_in c.args.limits c.args.shell files listings) e (load asked) (Err r)) in
+    let refused = known_reason (cause_of c.in-Err.refusal) (prereq_missing missing) _ Step (ap cause_of c.in-PrereqMissing.is) c.in-Err.ensures.over_tree in
+    let Comes : Outcomes = λ files listings. CompletedLoad (request_context_in c.args.limits c.args.shell files listings) e asked in
+    let Whole : Outcomes = λ files listings. AutomaticLoad (request_context_in c.args.limits c.args.shell files listings) e asked in
+    faults_among (g.T.Tree.agrees c.load_completed.new.tree) c.args.shell e _ _ Comes Whole c.load_completed.result (λ q. omega (arith, q, c.load.ensures.reads.counts_failures))
+    (λ files listings a o k. inr (inr ((missing, refused files listings (c.load_completed.ensures.reads.narrows files listings a)), k))) c.load_completed.ensures.refused
 
 pub returns-in-PrereqMissing-clause-failed : goal.returns-in-PrereqMissing-clause-failed
 returns-in-PrereqMissing-clause-failed g c =
@@ -90,11 +114,9 @@ returns-in_default-clause-refused g c =
     let agrees = g.T.Tree.agrees c.load.new.tree in
     let Step : RequestReason → Type 0 = λ r. InEachPair agrees (λ files listings. RequestStep (request_context_in c.args.limits c.args.shell files listings) e (load asked) (Err r)) in
     let Other : RequestReason → Type 0 = λ r. Step r × IsOther r in
-    let Whole : RequestReason → Type 0 = λ reason. InEachPair agrees (λ files listings. RefusesLoad (request_context_in c.args.limits c.args.shell files listings) e asked reason) in
+    let Whole : RequestReason → Type 0 = λ reason. InEachPair agrees (λ files listings. AutomaticLoad (request_context_in c.args.limits c.args.shell files listings) e asked (Err reason)) in
     stands_as (cause_of c.in-Err.refusal) _ _ Other Whole (λ q. q)
-    (λ r (step, final) files listings a.
-    let s = request_context_in c.args.limits c.args.shell files listings in
-    first_refuses s e asked r (step files listings a) (final s e [] asked))
+    (λ r (step, (other, final)) files listings a. inr (inl (step files listings a, other)))
     (final_load c.in-Err.refusal _ Step c.in_default.not-PrereqMissing c.in-Err.ensures.over_tree)
 
 pub returns-in_default-clause-failed : goal.returns-in_default-clause-failed

@@ -11,7 +11,7 @@ use Rattle.requests.specs.Steps.{RequestStep, request_context_in}
 use Rattle.modules.specs.Answers.{cause_of, is_failure}
 use Rattle.modules.proofs.StepLemmas.{stands_as}
 use Rattle.autohandling.specs.Answers.{Outcomes}
-use Rattle.autohandling.specs.Loads.{AutomaticLoad, AutomaticLoadLooksAt, Completes, RefusesLoad}
+use Rattle.autohandling.specs.Loads.{AutomaticLoadLooksAt, CompletedLoad, Completes, RefusesLoad}
 use Rattle.autohandling.proofs.AnswerLemmas.{answered, faulted, of_names}
 use Rattle.autohandling.proofs.LoadLemmas.{last_looks, last_refuses}
 use Rattle.autohandling.proofs.loading.load_completed.Goals as goal
@@ -77,7 +77,7 @@ returns-clause-refused g c =
     let asked : List Text = map (λ (s : String Global). string_bytes s) c.args.names.now in
     let narrows = c.load.ensures.reads.narrows in
     let step = rw c.as_slice.ensures.value at c.in_ok-changed.ensures.over_tree in
-    let Comes : Outcomes = λ files listings. AutomaticLoad (request_context_in c.args.limits c.args.shell files listings) e asked in
+    let Comes : Outcomes = λ files listings. CompletedLoad (request_context_in c.args.limits c.args.shell files listings) e asked in
     faulted (g.T.Tree.agrees c.load.new.tree) c.args.shell e c.in_ok-changed.changed _ Comes c.answer_of.result
     (λ files listings a. (texts_in plan.added, texts_in plan.names, (c.in_ok-plan.ensures.completed files listings (narrows files listings a)).completed, step files listings a))
     c.answer_of.ensures.fault

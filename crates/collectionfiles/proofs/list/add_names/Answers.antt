@@ -1,10 +1,13 @@
-use Rattle.std.proofs.Common.{◌+◌, Bool, ◌||◌, ◌&&◌, map, drop, refl, sym, ap, ◌∙◌, string_bytes}
+use Rattle.std.proofs.Common.{◌≡◌, ◌+◌, Bool, true, ◌||◌, ◌&&◌, map, drop, refl, sym, ap, ◌∙◌, subst, string_bytes}
 use Rattle.std.specs.Prelude.{bytes_eq}
 use Rattle.std.specs.BTreeSet.{contains_text}
 use Rattle.std.specs.List.{list_any}
-use Rattle.envvars.specs.Texts.{Text}
+use Rattle.std.proofs.lemmas.Result.{err_from_is_err_and}
+use Rattle.envvars.specs.Texts.{Text, has}
+use Rattle.collectionfiles.specs.Failures.{IsAtName, IsAtOne, failure_of}
 use Rattle.collectionfiles.specs.Lists.{is_in}
-use Rattle.collectionfiles.proofs.ListLemmas.{any_at, any_end, or_none, or_same}
+use Rattle.collectionfiles.proofs.EndLemmas.{some_as}
+use Rattle.collectionfiles.proofs.ListLemmas.{any_at, any_end, is_one, or_none, or_same}
 use Rattle.collectionfiles.proofs.list.add_names.Goals as goal
 
 pub loop-name-init : goal.loop-name-init
@@ -39,3 +42,16 @@ returns-clause-added g c = λ e b q.
     or_none (contains_text c.loop-name.found q)
     ∙ (ap (λ (x : Bool). contains_text c.loop-name.found q || x) (sym (any_end p names c.loop-name.name-index c.loop-name-test.false))
     ∙ c.loop-name.invariant.1 e b q)
+
+pub returns-in_err-add_name-clause-failure : goal.returns-in_err-add_name-clause-failure
+returns-in_err-add_name-clause-failure g c =
+    let names = c.args.names.now in
+    let p = err_from_is_err_and c.from_residual.result c.from_residual.ensures.1 in
+    rw (p.1, p.2) (some_as (failure_of c.in_err-add_name.field-0.0) (IsAtName c.args.folder.now c.as_str.result.now) (IsAtOne c.args.folder.now (map string_bytes names))
+    (λ f h. (
+      c.as_str.result.now,
+      subst (λ (t : Text). has t (map string_bytes names) ≡ true) (sym c.as_str.ensures.value)
+          (is_one names c.loop-name.name-index c.name-item.result c.loop-name-test.true c.name-item.is),
+      h,
+    ))
+    c.in_err-add_name.ensures.failure)

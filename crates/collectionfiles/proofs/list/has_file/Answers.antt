@@ -1,7 +1,8 @@
 use Rattle.std.proofs.Common.{◌≡◌, ◌∙◌, subst}
-use Rattle.std.specs.Prelude.{IfOk}
+use Rattle.std.specs.Prelude.{IfErr, IfOk, IfSome}
 use Rattle.envvars.specs.Texts.{Text}
 use Rattle.collectionfiles.specs.Calls.{InEach}
+use Rattle.collectionfiles.specs.Failures.{failure_of, unread}
 use Rattle.collectionfiles.specs.Lists.{leads_to_file}
 use Rattle.collectionfiles.proofs.list.has_file.Goals as goal
 
@@ -9,3 +10,8 @@ pub returns-clause-answer : goal.returns-clause-answer
 returns-clause-answer g c =
     subst (λ (t : Text). IfOk c.leads_to_file.result (λ has. InEach (g.S.Storage.agrees c.leads_to_file.new.storage) (λ e. leads_to_file e t ≡ has)))
     (c.as_str.ensures.value ∙ c.in_ok-path.ensures) c.leads_to_file.ensures.answer
+
+pub returns-clause-failure : goal.returns-clause-failure
+returns-clause-failure g c =
+    subst (λ (t : Text). IfErr c.leads_to_file.result (λ fault. IfSome (failure_of fault) (λ f. f ≡ unread t)))
+    (c.as_str.ensures.value ∙ c.in_ok-path.ensures) c.leads_to_file.ensures.failure

@@ -1,8 +1,10 @@
 use Rattle.std.proofs.Common.{◌≡◌, Bool, ◌&&◌, sym, ap, ◌∙◌}
 use Rattle.collectionfiles.specs.Calls.{InEach}
 use Rattle.collectionfiles.specs.Entries.{in_folder}
+use Rattle.collectionfiles.specs.Failures.{IsAtName, unread}
 use Rattle.collectionfiles.specs.Lists.{is_in, leads_to_file}
 use Rattle.collectionfiles.proofs.EntryLemmas.{map_ok}
+use Rattle.collectionfiles.proofs.ListLemmas.{fails_as}
 use Rattle.collectionfiles.proofs.list.is_in.Goals as goal
 
 pub returns-then-is_collection_name-clause-answer : goal.returns-then-is_collection_name-clause-answer
@@ -13,3 +15,8 @@ returns-then-is_collection_name-clause-answer g c =
     (λ has h e b.
     ap (λ (t : Bool). t && leads_to_file e (in_folder c.args.folder.now c.args.name.now)) (sym c.is_collection_name.ensures ∙ c.if-is_collection_name.true) ∙ h e b)
     c.has_file.ensures.answer
+
+pub returns-then-is_collection_name-clause-failure : goal.returns-then-is_collection_name-clause-failure
+returns-then-is_collection_name-clause-failure g c =
+    fails_as c.has_file.result (λ f. f ≡ unread (in_folder c.args.folder.now c.args.name.now)) (IsAtName c.args.folder.now c.args.name.now)
+    (λ f e. (sym c.is_collection_name.ensures ∙ c.if-is_collection_name.true, e)) c.has_file.ensures.failure

@@ -1,9 +1,14 @@
-use Rattle.std.proofs.Common.{Bool, ◌||◌, List, ap, ◌∙◌, string_bytes, String, Global}
+use Rattle.std.proofs.Common.{◌≡◌, Bool, ◌||◌, List, ap, ◌∙◌, inl, inr, subst, Ok, string_bytes, String, Global}
 use Rattle.std.specs.Option.{option_map}
 use Rattle.std.specs.BTreeSet.{contains_text}
+use Rattle.std.proofs.lemmas.Result.{err_from_is_err_and}
 use Rattle.envvars.specs.Texts.{Text}
+use Rattle.collectionfiles.specs.Calls.{InEach}
+use Rattle.collectionfiles.specs.Failures.{IsInFolder, IsInSome, IsListing, failure_of}
 use Rattle.collectionfiles.specs.Lists.{is_in, is_in_some}
+use Rattle.collectionfiles.specs.Places.{Folders, folders_of}
 use Rattle.collectionfiles.specs.Seen.{folders_view}
+use Rattle.collectionfiles.proofs.EndLemmas.{some_as}
 use Rattle.collectionfiles.proofs.list.list_collections.Goals as goal
 
 pub returns-clause-listed : goal.returns-clause-listed
@@ -18,3 +23,22 @@ returns-clause-listed g c =
           ∙ (ap (λ (ks : List (String Global)). contains_text (record { keys = ks }) q || is_in e c.as_str.result.now q) c.new-found.ensures.empty
           ∙ ap (λ (x : Text). is_in e x q) c.as_str.ensures.value)),
     )
+
+pub returns-in_err-add_folder-clause-failure : goal.returns-in_err-add_folder-clause-failure
+returns-in_err-add_folder-clause-failure g c =
+    let agrees = g.S.Storage.agrees c.add_folder.new.storage in
+    let p = err_from_is_err_and c.from_residual-in_err-add_folder.result c.from_residual-in_err-add_folder.ensures.1 in
+    rw (p.1, p.2) (some_as (failure_of c.in_err-add_folder.field-0.0) (λ f. InEach agrees (λ e. IsInFolder e c.as_str.result.now f))
+    (λ f. (folders : Folders) × (folders_of c.args.env.now ≡ Ok folders) × InEach agrees (λ e. IsListing e folders f))
+    (λ f h. (folders_view c.in_ok-folders.folders, c.in_ok-folders.ensures.answer, λ e b. inl (subst (λ (x : Text). IsInFolder e x f) c.as_str.ensures.value (h e b))))
+    c.in_err-add_folder.ensures.failure)
+
+pub returns-in_err-add_others-clause-failure : goal.returns-in_err-add_others-clause-failure
+returns-in_err-add_others-clause-failure g c =
+    let agrees = g.S.Storage.agrees c.add_others.new.storage in
+    let folders = folders_view c.in_ok-folders.folders in
+    let p = err_from_is_err_and c.from_residual-in_err-add_others.result c.from_residual-in_err-add_others.ensures.1 in
+    rw (p.1, p.2) (some_as (failure_of c.in_err-add_others.field-0.0) (λ f. InEach agrees (λ e. IsInSome e folders.others f))
+    (λ f. (folders : Folders) × (folders_of c.args.env.now ≡ Ok folders) × InEach agrees (λ e. IsListing e folders f))
+    (λ f h. (folders, c.in_ok-folders.ensures.answer, λ e b. inr (h e b)))
+    c.in_err-add_others.ensures.failure)

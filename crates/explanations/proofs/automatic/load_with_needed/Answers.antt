@@ -23,7 +23,7 @@ returns-in-Some-clause-fits g c =
     fits_need agrees c.args.refused.limits c.args.refused.request.now.shell c.args.refused.env.now (texts_in c.args.missing.now.names) _ (actions.Load c.in-Some.names) c.in_ok-automated.field-0
     c.in_ok-automated.ensures
     (completed_load agrees c.args.refused.limits c.args.refused.request.now.shell c.args.refused.env.now _ c.load_automatically-answer.result c.in-Some.names
-    (done_of c.load_automatically-answer.result c.in_ok-names.field-0 c.in-Some.names c.in_ok-names.ensures.done c.in-Some.is) c.load_automatically-answer.ensures.completed)
+    (done_of c.load_automatically-answer.result c.in_ok-names.field-0 c.in-Some.names c.in_ok-names.ensures.done c.in-Some.is) c.load_automatically-answer.ensures.named)
 
 pub returns-then-is_some-clause-fits : goal.returns-then-is_some-clause-fits
 returns-then-is_some-clause-fits g c =

@@ -1,20 +1,27 @@
 use Rattle.std.proofs.Common.{map, string_bytes, String}
 use Rattle.std.specs.declared.alloc.Global.{Global}
 use Rattle.requests.specs.RequestViews.{action_view}
-use Rattle.explanations.proofs.ExplainedLemmas.{explained, explained_advised, explained_whys}
+use Rattle.explanations.proofs.ExplainedLemmas.{all_given_up, explained, explained_advised, explained_whys, kept}
 use Rattle.explanations.proofs.explanation.explain.Goals as goal
 
 pub returns-clause-why : goal.returns-clause-why
 returns-clause-why g c =
-    explained_whys (g.T.Tree.agrees c.of_request.new.tree) c.args.limits c.in-Ok.wanted.shell c.args.shell c.args.env.now (map (λ (s : String Global). string_bytes s) c.args.words.now)
-    (action_view c.in-Ok.wanted.action) c.in-Ok.ensures.shell c.in-Ok.ensures.action c.of_request.result c.of_request.ensures.why
+    kept c.of_request.result c.unless_refused.result _ c.unless_refused.ensures.same
+    (explained_whys (g.T.Tree.agrees c.of_request.new.tree) c.args.limits c.in-Ok.wanted.shell c.args.shell c.args.env.now (map (λ (s : String Global). string_bytes s) c.args.words.now)
+    (action_view c.in-Ok.wanted.action) c.in-Ok.ensures.shell c.in-Ok.ensures.action c.of_request.result c.of_request.ensures.why)
 
 pub returns-clause-advised : goal.returns-clause-advised
 returns-clause-advised g c =
-    explained_advised (g.T.Tree.agrees c.of_request.new.tree) c.args.limits c.in-Ok.wanted.shell c.args.shell c.args.env.now (map (λ (s : String Global). string_bytes s) c.args.words.now)
-    (action_view c.in-Ok.wanted.action) c.in-Ok.ensures.shell c.in-Ok.ensures.action c.of_request.result c.of_request.ensures.advised
+    kept c.of_request.result c.unless_refused.result _ c.unless_refused.ensures.same
+    (explained_advised (g.T.Tree.agrees c.of_request.new.tree) c.args.limits c.in-Ok.wanted.shell c.args.shell c.args.env.now (map (λ (s : String Global). string_bytes s) c.args.words.now)
+    (action_view c.in-Ok.wanted.action) c.in-Ok.ensures.shell c.in-Ok.ensures.action c.of_request.result c.of_request.ensures.advised)
 
 pub returns-clause-said : goal.returns-clause-said
 returns-clause-said g c =
-    explained (g.T.Tree.agrees c.of_request.new.tree) c.args.limits c.in-Ok.wanted.shell c.args.shell c.args.env.now (map (λ (s : String Global). string_bytes s) c.args.words.now)
-    (action_view c.in-Ok.wanted.action) c.in-Ok.ensures.shell c.in-Ok.ensures.action c.of_request.result c.of_request.ensures.said
+    kept c.of_request.result c.unless_refused.result _ c.unless_refused.ensures.same
+    (explained (g.T.Tree.agrees c.of_request.new.tree) c.args.limits c.in-Ok.wanted.shell c.args.shell c.args.env.now (map (λ (s : String Global). string_bytes s) c.args.words.now)
+    (action_view c.in-Ok.wanted.action) c.in-Ok.ensures.shell c.in-Ok.ensures.action c.of_request.result c.of_request.ensures.said)
+
+pub returns-clause-refused : goal.returns-clause-refused
+returns-clause-refused g c =
+    all_given_up (map (λ (s : String Global). string_bytes s) c.args.words.now) c.unless_refused.result c.unless_refused.ensures.given_up

@@ -1,6 +1,12 @@
 use Rattle.failedcommands.specs.Views.{words_view}
-use Rattle.explanations.proofs.LocationLemmas.{none_of_all, not_located_more}
+use Rattle.explanations.proofs.LocationLemmas.{first_located, none_of_all, not_located_more}
 use Rattle.explanations.proofs.location.explain_one.Goals as goal
+
+pub returns-in-Some-clause-located : goal.returns-in-Some-clause-located
+returns-in-Some-clause-located g c =
+    first_located (g.T.Tree.agrees c.loop-file.tree) (g.T.Tree.agrees c.explain_in.new.tree) c.args.refused.limits (words_view c.args.words.now) c.args.refused.request.now.shell
+    c.args.files.now c.loop-file.file-index c.file-item.result c.in_ok-explained.field-0 c.in-Some.explained c.explain_in.ensures.narrows c.loop-file-test.true c.file-item.is c.in-Some.is
+    c.in_ok-explained.ensures.located c.loop-file.invariant.none
 
 pub loop-file-preserved : goal.loop-file-preserved
 loop-file-preserved g c = record {

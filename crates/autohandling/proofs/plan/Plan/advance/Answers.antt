@@ -92,7 +92,7 @@ returns-in_default-clause-refused g c =
     → RefusesLoad (request_context_in c.args.limits c.args.shell files listings) e asked reason) in
     stands_as (cause_of c.in-Err.refusal) _ _ Other Whole (λ q. q)
     (λ r (step, final) files listings a asked plan. refuses (request_context_in c.args.limits c.args.shell files listings) e asked old c.requires plan r (step files listings a)
-    (λ names. final (request_context_in c.args.limits c.args.shell files listings) e (texts_in old.added) names))
+    (λ names. final.1 (request_context_in c.args.limits c.args.shell files listings) e (texts_in old.added) names))
     (final_load c.in-Err.refusal _ Step c.in_default.not-PrereqMissing (rw c.deref.ensures.value at c.in-Err.ensures.refused))
 
 pub returns-in_default-clause-failed : goal.returns-in_default-clause-failed

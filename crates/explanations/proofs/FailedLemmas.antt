@@ -1,0 +1,68 @@
+-- The path that a watched tree has kept, by what a call over it answers.
+use Rattle.std.proofs.Common.{◌≡◌, ℕ, Bool, true, false, List, String, string_bytes, Option, Some, None, Result, Ok, Err, refl, sym, ap, subst, ◌∙◌, inl, inr, IfOk}
+use Rattle.std.specs.Prelude.{IfErr, IfNone, IfSome}
+use Rattle.std.specs.declared.alloc.AllocError.{AllocError}
+use Rattle.std.proofs.lemmas.Bool.{false≢true}
+use Rattle.std.specs.declared.alloc.Global.{Global}
+use Rattle.envvars.proofs.TextLemmas.{bytes_eq-same, same_text}
+use Rattle.filetree.specs.Agreement.{FailsAt, FailsIf, Files, Listings}
+use Rattle.filetree.specs.Causes.{Applies, Cause, memory, device, because}
+use Rattle.modules.specs.Answers.{StepAnswersOverTree, cause_of, is_failure, is_of_device}
+use Rattle.modules.specs.declared.refusal.Refusal.{Refusal}
+use Rattle.requests.specs.Reasons.{RequestReason}
+use Rattle.envvars.specs.Environment.{Environment}
+use Rattle.filetree.specs.Agreement.{InEachPair}
+use Rattle.modules.specs.declared.reply.RequestChanges.{RequestChanges}
+use Rattle.requests.specs.Looked.{RequestLooksAt}
+use Rattle.requests.specs.Requests.{RequestedAction}
+use Rattle.requests.specs.Steps.{request_context_in}
+use Rattle.shelltext.specs.declared.shell.Shell.{Shell}
+use Rattle.tclrules.specs.declared.limits.Limits.{Limits}
+use Rattle.givenup.specs.Causes.{is_given_up}
+use Rattle.explanations.specs.FailedPaths.{IsAnswer, IsLookedAt, is_kept}
+use Rattle.explanations.proofs.AdviceLemmas.{Answers, accepted_by, refused_by}
+
+-- what is kept, where nothing was before, has failed
+module _ (kept : Option (String Global)) (path : String Global) (is : kept ≡ Some path) (before now : List ℕ → Bool)
+    (old : (p : List ℕ) → before p ≡ false) (new : (p : List ℕ) → now p ≡ is_kept kept p) where
+  at_path : now (string_bytes path) ≡ true
+  at_path = new (string_bytes path) ∙ (ap (λ (o : Option (String Global)). is_kept o (string_bytes path)) is ∙ bytes_eq-same (string_bytes path))
+
+  not_same : now ≡ before → ⊥
+  not_same e = false≢true (sym (old (string_bytes path)) ∙ (ap (λ (f : List ℕ → Bool). f (string_bytes path)) (sym e) ∙ at_path))
+
+  by_test : (t : Bool) (Where : List ℕ → Type 0) → FailsIf t before now Where → (t ≡ true) × Where (string_bytes path)
+  by_test false Where h = absurd (not_same h)
+  by_test true Where h =
+      let there : is_kept kept h.0 ≡ true = sym (new h.0) ∙ h.1.here in
+      let same : string_bytes path ≡ h.0 = same_text (string_bytes path) h.0 (sym (ap (λ (o : Option (String Global)). is_kept o h.0) is) ∙ there) in
+      (refl, subst Where (sym same) h.2)
+
+  -- the call failed by the device, at this path
+  pub failed_there : {X : Type 0} (r : Result X Refusal) (Where : List ℕ → Type 0) → FailsAt is_failure before now r Where
+      → (refusal : Refusal) × (r ≡ Err refusal) × (is_failure refusal ≡ true) × Where (string_bytes path)
+  failed_there (Ok x) Where h = absurd (not_same h)
+  failed_there (Err refusal) Where h = let f = by_test (is_failure refusal) Where h in (refusal, refl, f.0, f.1)
+
+device_failed : (c : Cause RequestReason) (failed : Type 0) (P : RequestReason → Type 0) → is_of_device c ≡ true → Applies c failed P → failed
+device_failed memory failed P e h = absurd (false≢true e)
+device_failed device failed P e h = h
+device_failed (because r) failed P e h = absurd (false≢true e)
+
+module _ (agrees : Files → Listings → Type 0) (failed : Type 0) (limits : Limits) (shell : Shell) (e : Environment) (action : RequestedAction) where
+  -- what is answered of an outcome
+  pub answered : (r : Result RequestChanges Refusal) (kept : Option (String Global)) (before now : List ℕ → Bool)
+      → ((p : List ℕ) → before p ≡ false) → ((p : List ℕ) → now p ≡ is_kept kept p)
+      → FailsAt is_failure before now r (IsLookedAt agrees limits shell e action) → Answers agrees limits shell e failed action r
+      → (o : Option (String Global)) → IfSome o (λ path. kept ≡ Some path) → IfNone o (IfErr r (λ refusal. is_given_up (cause_of refusal) ≡ false))
+      → IsAnswer agrees failed limits shell e action o
+  answered r kept before now old new h over (Some path) is none =
+      let f = failed_there kept path is before now old new r (IsLookedAt agrees limits shell e action) h in
+      (device_failed (cause_of f.0) failed _ f.2 (subst (λ (x : Result RequestChanges Refusal). Answers agrees limits shell e failed action x) f.1 over), f.3)
+  answered (Ok changed) kept before now old new h over None is none = inl (accepted_by agrees limits shell e failed action (Ok changed) changed refl over)
+  answered (Err refusal) kept before now old new h over None is none = inr (refused_by agrees limits shell e failed action (Err refusal) refusal refl none over)
+
+pub both_ok : (r : Result (Option (String Global)) AllocError) (P Q R : Option (String Global) → Type 0) → IfOk r P → IfOk r Q
+    → ((o : Option (String Global)) → P o → Q o → R o) → IfOk r R
+both_ok (Ok o) P Q R p q f = f o p q
+both_ok (Err x) P Q R p q f = tt

@@ -1,0 +1,14 @@
+use Rattle.std.proofs.Common.{◌<◌, refl}
+use Rattle.requests.specs.RequestViews.{action_view}
+use Rattle.explanations.proofs.FailedLemmas.{answered, both_ok}
+use Rattle.explanations.proofs.failures.failed_path.Goals as goal
+
+pub returns : goal.returns
+returns g c =
+    let seen = c.run_changes-outcome.new.tree in
+    both_ok c.answer.result _ _ _ c.answer.ensures.some c.answer.ensures.none (λ o s n. (
+      seen.tree,
+      c.run_changes-outcome.ensures.reads.narrows,
+      answered (g.T.Tree.agrees seen.tree) (g.T.Tree.failures c.args.tree < g.T.Tree.failures seen.tree) c.args.limits c.args.request.now.shell c.args.env.now (action_view c.args.request.now.action)
+          c.run_changes-outcome.result seen.failed _ _ (λ p. refl) (λ p. refl) c.run_changes-outcome.ensures.failed c.run_changes-outcome.ensures.over_tree o s n,
+    ))

@@ -1,0 +1,32 @@
+-- The path at which the device failed in a request (own).
+use Rattle.std.specs.Prelude.{◌⊎◌, ℕ, Bool, false, List, bytes_eq, string_bytes, String, Option, Some, None}
+use Rattle.std.specs.declared.alloc.Global.{Global}
+use Rattle.envvars.specs.Environment.{Environment}
+use Rattle.envvars.specs.Texts.{Text}
+use Rattle.filetree.specs.Agreement.{Files, Listings, InEachPair}
+use Rattle.requests.specs.Looked.{RequestLooksAt}
+use Rattle.requests.specs.Requests.{RequestedAction}
+use Rattle.requests.specs.Steps.{request_context_in}
+use Rattle.shelltext.specs.declared.shell.Shell.{Shell}
+use Rattle.tclrules.specs.declared.limits.Limits.{Limits}
+use Rattle.explanations.specs.Advised.{IsRefused}
+use Rattle.explanations.specs.Explained.{IsAccepted}
+
+-- the path that a watched tree has kept is this one
+abbrev pub is_kept : Option (String Global) → List ℕ → Bool
+is_kept None path = false
+is_kept (Some kept) path = bytes_eq (string_bytes kept) path
+
+-- by each pair of maps that agrees the request looks at this path
+abbrev pub IsLookedAt : (Files → Listings → Type 0) → Limits → Shell → Environment → RequestedAction → Text → Type 0
+IsLookedAt agrees limits shell e action path =
+    InEachPair agrees (λ files listings.
+    RequestLooksAt (request_context_in limits shell files listings) e action path)
+
+-- The device has failed, at a path at which the request looks; or the request is accepted, or refused for a reason.
+abbrev pub IsAnswer : (Files → Listings → Type 0) → Type 0 → Limits → Shell → Environment → RequestedAction
+    → Option (String Global) → Type 0
+IsAnswer agrees failed limits shell e action (Some path) =
+    failed × IsLookedAt agrees limits shell e action (string_bytes path)
+IsAnswer agrees failed limits shell e action None =
+    IsAccepted agrees limits shell e action ⊎ IsRefused agrees limits shell e action
