@@ -70,7 +70,7 @@ class Site:
 
 
 ODD_LINES = [
-    ("asks", "if {[is-loaded nothing]} {}", Question(OTHER)),
+    ("asks", "if {[is-loaded]} {}", Question(OTHER)),
     ("asks", "module-info specified", Question(OTHER)),
     ("asks", "info exists env(PWD)", Question(OTHER)),
     *[("exits",)] * 3,
@@ -88,8 +88,7 @@ OTHERS = ("m", "k", "z", "z/1", "n", "w", "w_1", "m/1", "c", "a")
 
 def odd_lines(variables):
     """What keeps a module from being certified."""
-    unset = [("unsetenv", name, None) for name in variables]
-    return st.sampled_from(ODD_LINES + unset + [("remove-path", ":", name, ["/opt/b"]) for name in variables])
+    return st.sampled_from(ODD_LINES + [("remove-path", ":", name, ["/opt/b"]) for name in variables])
 
 
 def added_value(name, way):
@@ -118,7 +117,7 @@ def by_way(one, other=NOTHING):
 def given_in(ways):
     """Kinds of records that have an answer about the way in them, where variables are used so."""
     kinds = {"fixed": ("setenv",), "stack": ("pushenv",), "path": ("prepend-path", "append-path")}
-    given = [(kind, *way[1:], name) for name, way in ways if way[0] != "fixed" for kind in kinds[way[0]]]
+    given = [(kind, *way[1:], name) for name, way in ways if way[0] != "fixed" for kind in kinds.get(way[0], ())]
     return given + [("setenv", name) for name, way in ways if way == ("fixed", None)] + [("conflict",)]
 
 
@@ -169,8 +168,9 @@ def lines(draw, dirs, kinds):
 def sites(draw, shell, dirs):
     """A site, in which modules that may be loaded at once mostly don't set or unset one variable."""
     variables = sentence.variables(shell)
-    ways = [(name, draw(sentence.ways(shell))) for name in variables]
-    strays = draw(st.lists(st.tuples(st.sampled_from(variables), sentence.ways(shell)), max_size=2))
+    of_all = sentence.ways(shell, (standings.ABSENT,) * 12)
+    ways = [(name, draw(of_all)) for name in variables]
+    strays = draw(st.lists(st.tuples(st.sampled_from(variables), of_all), max_size=2))
     exclusive = {folder: draw(st.sampled_from(["", "some", "all", "first", "asked"])) for folder in sentence.FOLDERS}
     found = {(name, way): sentence.records(name, way, dirs) for name, way in ways + strays}
     some = [*found.values(), added_directories(dirs)]
@@ -180,7 +180,8 @@ def sites(draw, shell, dirs):
     # (hypothesis takes a strategy that stands there twice for one)
     reading = [readers(read, st.one_of(*some, needs), values) for _ in range(6)]
     odd = odd_lines(variables)
-    unseen = st.one_of(sentence.QUIET, needs, odd)
+    absent = st.sampled_from([("unsetenv", name, None) for name in variables])
+    unseen = st.one_of(sentence.QUIET, needs, odd, absent)
     alone = st.sampled_from([*READ, *OWN * 2, *variables])
     every = [*some, odd, sentence.QUIET, *reading, *asking(ways, [*found.values()], unseen, alone)]
     shared = [found[name, way] for name, way in ways if way[0] != "fixed"] * 4
@@ -309,8 +310,10 @@ def judged(site, env):
 def use_of(value):
     """A use of the document, as the model has it."""
     kind = value["use"]
-    if kind in ("set", "unset"):
+    if kind == "set" or "value" in value:
         return ("fixed", value.get("value"))
+    if kind == "unset":
+        return standings.ABSENT
     return ("path", value["delimiter"]) if kind == "path" else ("stack",)
 
 
@@ -449,8 +452,21 @@ CASES = {
     "that the ways undo alike": Case(
         {"n": [("by way", "unloads", ADDS, NONE)]}, "asks", {"P": "/q"}, TO_AND_FRO
     ),
-    "that loads are undone in each way": Case(
+    "that loads can be undone in each way": Case(
+        {"n": [("by way", "in csh", ("remove-path", ":", "P", ["/q"]), NONE)]},
+        "asks",
+        {"P": "/q:/r"},
+        ["csh load n", "csh unload n"],
+    ),
+    "that loads keep the same variables absent in each way": Case(
         {"n": [("by way", "in csh", ("unsetenv", "P", None), NONE)]}, "asks", {"P": "/q"}, ["csh load n", "csh unload n"]
+    ),
+    # The load of the one that unsets V takes it from the one that sets it.
+    "that an unset without a value is a use": Case(
+        {"n": [SETS], "w_1": [("unsetenv", "V", None)]},
+        "clashes",
+        {},
+        ["sh load n", "sh load w_1", "sh unload w_1"],
     ),
     # Both set V where csh loads them, and the unload of one takes it from the other.
     "that loads are in conflict with the same names in each way": Case(
@@ -471,6 +487,26 @@ CASES = {
         "asks",
         {"P": "/q"},
         ["sh load n", "csh unload n"],
+    ),
+    # With w_1 loaded it adds what it doesn't add alone, and the unload takes it out.
+    "that what is loaded is answered by each choice": Case(
+        {"n": [("by way", "beside w_1", ADDS, NONE)], "w_1": [SETS]},
+        "asks",
+        {"P": "/q"},
+        ["sh load n", "sh load w_1", "sh unload n"],
+    ),
+    "that little is asked of what is loaded": Case(
+        {
+            "n": [
+                ("by way", "loads", NONE, NONE),
+                ("by way", "without k", ("says", "k"), NONE),
+                ("by way", "beside w_1", ADDS, NONE),
+            ],
+            "w_1": [SETS],
+        },
+        "asks",
+        {"P": "/q"},
+        ["sh load n", "sh load w_1", "sh unload n"],
     ),
     "that what another way reads counts": Case(
         {"n": [("by way", "unloads", ("reads", "V", "is there", ADDS, NONE), NONE)], "w_1": [SETS]},
@@ -549,8 +585,13 @@ HARMLESS = {
         ("by way", "unloads", ("reads", "HOME", "is there", ("says", "at home"), NONE), NONE),
     ],
     "m/2": [("conflict", ["m"]), ("gives", "type", ("setenv", "T"))],
+    "k/9": [
+        ("by way", "beside m/1 or n", ("says", "beside n"), ("by way", "beside w_1", ("says", "beside w_1"), NONE)),
+        ("gives", "loaded", ("pushenv", "L")),
+    ],
 }
-THROUGH = ["load n m/1", "switch n w_1", "switch m/1 m/2", "load n", "unload w_1", "switch m m/1", "purge"]
+THROUGH = ["load n m/1", "load k/9", "switch n w_1", "switch m/1 m/2", "unload k/9", "load k/9", "load n"]
+THROUGH += ["unload w_1", "switch m m/1", "purge"]
 
 
 @pytest.mark.parametrize("shell", sentence.SHELLS)

@@ -278,7 +278,7 @@ class Session(ByHand, sentence.Reversible):
 
 
 # How often a variable is taken by its use.
-OFTEN = {"path": 6, "stack": 3, "fixed": 1}
+OFTEN = {"path": 6, "stack": 3, "fixed": 1, "absent": 1}
 
 
 def hands(ways_of, names=()):

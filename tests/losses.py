@@ -18,7 +18,7 @@ import pytest
 from tests import standings, ways
 from tests.harness import SECONDS, same, true
 from tests.standings import SiteModule
-from tests.ways import MODE, OTHER, SHELL, VARIABLE, Question, Ran
+from tests.ways import LOADED, MODE, OTHER, SHELL, VARIABLE, Question, Ran
 
 SH = shutil.which("dash") or "/bin/sh"
 ENV = shutil.which("env")
@@ -42,9 +42,6 @@ class Row:
 # start, None for one that is unset.
 ROWS = {
     # Standings of one module: the start is lost where it is unloaded again.
-    "a value that no unload knows": Row(
-        {"a/1": "unsetenv V\n"}, ["one-way"], ["load a", "unload a"], {"V": None}, {"V": "x"}
-    ),
     "an element that no unload puts back": Row(
         {"a/1": "remove-path V /b\n"}, ["one-way"], ["load a", "unload a"], {"V": "/a"}, {"V": "/a:/b"}
     ),
@@ -185,6 +182,12 @@ ROWS = {
         {"LOADEDMODULES": "b/1", "_LMFILES_": "/m/b/1"},
         {"V": "x"},
     ),
+    "a variable that is set here and kept absent there": Row(
+        {"a/1": "setenv V x\n", "b/1": "unsetenv V\n"},
+        ["clashes", "certified"],
+        ["load a", "load b", "unload b"],
+        {"V": None, "LOADEDMODULES": "a/1", "_LMFILES_": "/m/a/1"},
+    ),
     "a conflict with the letters of a name": Row(
         {"a/1": "conflict b\nsetenv V x\n", "bb/1": "setenv V y\n"},
         ["certified", "clashes"],
@@ -225,6 +228,12 @@ ROWS = {
         ["load a", "unload a"],
         {"V": None},
         {"V": "y"},
+    ),
+    "a value that is unset here, and kept absent there": Row(
+        {"a/1": "conflict b\nunsetenv V x\n", "b/1": "unsetenv V\n"},
+        ["clashes", "certified"],
+        ["load a", "unload a"],
+        {"V": "x"},
     ),
     "two values that are unset": Row(
         {"a/1": "conflict b\nunsetenv V x\n", "b/1": "unsetenv V y\n"},
@@ -291,14 +300,18 @@ def question_of(words):
     kind, *rest = words
     if kind == "getenv":
         return Question(VARIABLE, rest[0])
-    return Question({"mode": MODE, "shell": SHELL, "shelltype": SHELL}.get(rest[0], OTHER))
+    if kind == "is-loaded" and rest:
+        return Question(LOADED, " ".join(rest))
+    return Question({"mode": MODE, "shell": SHELL, "shelltype": SHELL}.get(rest[0] if rest else "", OTHER))
 
 
 def answer_of(words, way):
-    """What stands in place of a question where no variable is set and no module is loaded."""
+    """What stands in place of a question where no variable is set."""
     kind, *rest = words
+    if kind == "is-loaded":
+        return str(int(ways.means_one(" ".join(rest), way.loaded)))
     if kind != "module-info":
-        return "".join(rest[1:]) if kind == "getenv" else "0"
+        return "".join(rest[1:])
     answers = {"mode": way.mode, "shell": way.shell, "shelltype": ways.TYPES[way.shell]}
     if len(rest) == 1:
         return answers[rest[0]]

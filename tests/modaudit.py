@@ -90,13 +90,49 @@ ROWS = {
     ),
     "an empty file": ({"/m/a/1": ""}, [("a/1", "certified", "")]),
     # Questions: the first that doesn't keep its answer is the reason.
-    "a question to what is loaded": ({"/m/a/1": "getenv HOME\nis-loaded b\n"}, [("a/1", "asks", "is-loaded b")]),
+    "a question to whether any is loaded": ({"/m/a/1": "getenv HOME\nis-loaded\n"}, [("a/1", "asks", "is-loaded")]),
+    "a message by what is loaded": (
+        {"/m/a/1": "getenv HOME\nif {[is-loaded b c]} {puts stderr x} elseif {![is-loaded d]} {puts stderr y}\n"},
+        [("a/1", "certified", "reads HOME")],
+    ),
+    "a directory by what is loaded": (
+        {"/m/a/1": "if {[is-loaded b]} {append-path P /b} else {append-path P /c}\n"},
+        [("a/1", "asks", "is-loaded b")],
+    ),
+    "a name by a part of it": (
+        {"/m/a/1": "if {![is-loaded b] && [is-loaded b/1]} {append-path P /b}\n"},
+        [("a/1", "certified", "")],
+    ),
+    "two questions of one name": (
+        {"/m/a/1": "if {![is-loaded b] && [is-loaded b c]} {append-path P /b}\n"},
+        [("a/1", "asks", "is-loaded b")],
+    ),
+    "three questions to what is loaded": (
+        {"/m/a/1": "is-loaded b\nis-loaded c\nis-loaded b\nis-loaded d\n"},
+        [("a/1", "certified", "")],
+    ),
+    "four questions to what is loaded": (
+        {"/m/a/1": "is-loaded b\nis-loaded c\nis-loaded d\nis-loaded e\n"},
+        [("a/1", "asks", "is-loaded b")],
+    ),
+    "a question to what is loaded, after an answer": (
+        {"/m/a/1": "if {[is-loaded b]} {is-loaded c}\n", "/m/b/1": "if {![is-loaded c]} {is-loaded d}\n"},
+        [("a/1", "asks", "is-loaded b"), ("b/1", "certified", "")],
+    ),
     "a question to what is loaded, beside the way": (
         {"/m/a/1": "module-info shell\nis-loaded b\n", "/m/b/1": "is-loaded a\nmodule-info mode\n"},
-        [("a/1", "asks", "module-info shell"), ("b/1", "asks", "is-loaded a")],
+        [("a/1", "asks", "module-info shell"), ("b/1", "certified", "")],
+    ),
+    "two questions to what is loaded, beside the mode": (
+        {"/m/a/1": "module-info mode\nis-loaded b\nis-loaded c\n"},
+        [("a/1", "asks", "module-info mode")],
+    ),
+    "a conflict by what is loaded": (
+        {"/m/a/1": "if {[is-loaded b]} {conflict c}\n", "/m/c/1": ""},
+        [("a/1", "asks", "is-loaded b"), ("c/1", "certified", "")],
     ),
     "a question to the typed name": ({"/m/a/1": "module-info specified\n"}, [("a/1", "asks", "module-info specified")]),
-    "a question and a one-way record": ({"/m/a/1": "unsetenv V\nis-loaded\n"}, [("a/1", "asks", "is-loaded")]),
+    "a question and a one-way record": ({"/m/a/1": "remove-path V x\nis-loaded\n"}, [("a/1", "asks", "is-loaded")]),
     "a variable that the file sets before": ({"/m/a/1": "setenv V x\ngetenv V\n"}, [("a/1", "asks", "getenv V")]),
     "a variable that the file sets then": (
         {"/m/a/1": "getenv W\ngetenv V z\nsetenv V x\n"},
@@ -114,7 +150,7 @@ ROWS = {
         {"/m/a/1": "info exists ::env(V)\nunsetenv V x\n"},
         [("a/1", "asks", "$env(V)")],
     ),
-    "a variable that is read and named by what no unload undoes": (
+    "a variable that is read, and named by what an unload does nothing for": (
         {"/m/a/1": "getenv V\nremove-path V /b\n", "/m/b/1": "getenv W\nunsetenv W\n"},
         [("a/1", "asks", "getenv V"), ("b/1", "asks", "getenv W")],
     ),
@@ -249,12 +285,31 @@ ROWS = {
         {"/m/a/1": "if {[module-info shelltype csh]} {module-info mode}\n"},
         [("a/1", "asks", "module-info shelltype csh")],
     ),
-    "a load in csh that no unload undoes": (
+    "a variable that csh alone keeps absent": (
         {"/m/a/1": "if {[module-info shelltype csh]} {unsetenv V}\n"},
         [("a/1", "asks", "module-info shelltype csh")],
     ),
+    "a variable that is kept absent in each shell, and at the load alone": (
+        {
+            "/m/a/1": "if {[module-info shelltype csh]} {unsetenv V\nsetenv W x} else {unsetenv V\nsetenv W y}\n",
+            "/m/b/1": "if {[module-info mode load]} {unsetenv V}\n",
+        },
+        [("a/1", "certified", ""), ("b/1", "certified", "")],
+    ),
+    "a variable that a switch alone keeps absent": (
+        {"/m/a/1": "if {[module-info mode switch]} {unsetenv V}\n"},
+        [("a/1", "asks", "module-info mode switch")],
+    ),
+    "another variable that csh keeps absent": (
+        {"/m/a/1": "if {[module-info shelltype csh]} {unsetenv V} else {unsetenv W}\n"},
+        [("a/1", "asks", "module-info shelltype csh")],
+    ),
+    "a load in csh that no unload undoes": (
+        {"/m/a/1": "if {[module-info shelltype csh]} {remove-path V x}\n"},
+        [("a/1", "asks", "module-info shelltype csh")],
+    ),
     "a question to the mode and a one-way record": (
-        {"/m/a/1": "module-info mode\nunsetenv V\n"},
+        {"/m/a/1": "module-info mode\nremove-path V x\n"},
         [("a/1", "asks", "module-info mode")],
     ),
     "a variable that csh sets, where it is read": (
@@ -298,9 +353,9 @@ ROWS = {
         {"/m/a/1": "getenv V\nsetenv A x\n", "/m/b/1": "getenv V\nsetenv B x\n"},
         [("a/1", "certified", "reads V"), ("b/1", "certified", "reads V")],
     ),
-    "a variable that is read, and a value that no unload knows": (
-        {"/m/a/1": "getenv V\nunsetenv W\n"},
-        [("a/1", "one-way", "unsetenv W")],
+    "a variable that is read, and an element that no unload puts back": (
+        {"/m/a/1": "getenv V\nremove-path W x\n"},
+        [("a/1", "one-way", "remove-path W x")],
     ),
     "a variable that is read, and a refusal": (
         {"/m/a/1": "prepend-path P $env(V)\n"},
@@ -315,12 +370,14 @@ ROWS = {
             "/m/a/1": "getenv A\n",
             "/m/b/1": "getenv B\n",
             "/m/c/1": "getenv C\n",
-            "/m/d/1": "append-path -d , A x\npushenv B x\nunsetenv C x\n",
+            "/m/c/2": "getenv D\n",
+            "/m/d/1": "append-path -d , A x\npushenv B x\nunsetenv C x\nunsetenv D\n",
         },
         [
             ("a/1", "reads-used", "A: read here, used in d/1 (/m/d/1)"),
             ("b/1", "reads-used", "B: read here, used in d/1 (/m/d/1)"),
             ("c/1", "reads-used", "C: read here, used in d/1 (/m/d/1)"),
+            ("c/2", "reads-used", "D: read here, used in d/1 (/m/d/1)"),
             ("d/1", "certified", ""),
         ],
         ["# environment: C isn't 'x'"],
@@ -352,8 +409,8 @@ ROWS = {
         ],
     ),
     "what modules use that aren't settled": (
-        {"/m/a/1": "getenv V\n", "/m/b/1": "setenv V x\nis-loaded z\n", "/m/c/1": "setenv V x\nunsetenv W\n"},
-        [("a/1", "certified", "reads V"), ("b/1", "asks", "is-loaded z"), ("c/1", "one-way", "unsetenv W")],
+        {"/m/a/1": "getenv V\n", "/m/b/1": "setenv V x\nis-loaded\n", "/m/c/1": "setenv V x\nremove-path W y\n"},
+        [("a/1", "certified", "reads V"), ("b/1", "asks", "is-loaded"), ("c/1", "one-way", "remove-path W y")],
     ),
     "what modules use that aren't certified": (
         {"/m/a/1": "getenv V\n", "/m/b/1": "setenv V x\npushenv V y\n"},
@@ -383,9 +440,9 @@ ROWS = {
         {"/m/a/1": "getenv W\nsetenv V x\n", "/m/b/1": "getenv W\nsetenv V y\n"},
         [("a/1", "certified", "reads W"), ("b/1", "clashes", "V: set here, set in a/1 (/m/a/1); used so by 2")],
     ),
-    "a value that no unload knows": ({"/m/a/1": "unsetenv V\n"}, [("a/1", "one-way", "unsetenv V")]),
+    "a variable that is kept absent": ({"/m/a/1": "unsetenv V\n"}, [("a/1", "certified", "")]),
     "an element that no unload puts back": (
-        {"/m/a/1": "setenv V x\nremove-path P /b\nunsetenv W\n"},
+        {"/m/a/1": "setenv V x\nunsetenv W\nremove-path P /b\nremove-path P /c\n"},
         [("a/1", "one-way", "remove-path P /b")],
     ),
     "elements with another delimiter": (
@@ -409,6 +466,18 @@ ROWS = {
     "two values in one module": (
         {"/m/a/1": "unsetenv V x\nunsetenv V y\n"},
         [("a/1", "out-of-step", "V: unset of 'x', and unset of 'y'")],
+    ),
+    "a variable that is unset with a value and without": (
+        {"/m/a/1": "unsetenv V x\nunsetenv V\n"},
+        [("a/1", "out-of-step", "V: unset of 'x', and unset")],
+    ),
+    "a variable that is kept absent, and set": (
+        {"/m/a/1": "unsetenv V\nsetenv V x\n"},
+        [("a/1", "out-of-step", "V: unset, and set")],
+    ),
+    "a MODULEPATH that is kept absent": (
+        {"/m/a/1": "unsetenv MODULEPATH\n"},
+        [("a/1", "out-of-step", "MODULEPATH: unset, and path with ':'")],
     ),
     "a MODULEPATH that is pushed": (
         {"/m/a/1": "pushenv MODULEPATH /n\n", "/n/b/1": ""},
@@ -437,6 +506,26 @@ ROWS = {
     "one stack": (
         {"/m/a/1": "pushenv V b\n", "/m/b/1": "pushenv V c\n"},
         [("a/1", "certified", ""), ("b/1", "certified", "")],
+    ),
+    "a variable that both keep absent": (
+        {"/m/a/1": "unsetenv V\n", "/m/b/1": "unsetenv V\n"},
+        [("a/1", "certified", ""), ("b/1", "certified", "")],
+    ),
+    "a variable that is set here and kept absent there": (
+        {"/m/a/1": "setenv V x\n", "/m/b/1": "unsetenv V\n"},
+        [("a/1", "clashes", "V: set here, unset in b/1 (/m/b/1); used so by 1"), ("b/1", "certified", "")],
+    ),
+    "a path that another keeps absent": (
+        {"/m/a/1": "unsetenv V\n", "/m/b/1": "append-path V b\n", "/m/c/1": "append-path V c\n"},
+        [
+            ("a/1", "clashes", "V: unset here, path with ':' in b/1 (/m/b/1); used so by 2"),
+            ("b/1", "certified", ""),
+            ("c/1", "certified", ""),
+        ],
+    ),
+    "a stack that another keeps absent": (
+        {"/m/a/1": "pushenv V b\n", "/m/b/1": "unsetenv V\n"},
+        [("a/1", "certified", ""), ("b/1", "clashes", "V: unset here, stack in a/1 (/m/a/1); used so by 1")],
     ),
     "a clash without a conflict": (
         {"/m/a/1": "setenv V x\n", "/m/b/1": "setenv V y\n"},
@@ -496,6 +585,17 @@ ROWS = {
         ],
         ["# environment: V isn't 'x'"],
     ),
+    "set here or kept absent there": (
+        {"/m/a/1": "conflict b\nsetenv V x\n", "/m/b/1": "unsetenv V\n"},
+        [("a/1", "certified", ""), ("b/1", "certified", "")],
+    ),
+    "a value unset here, and kept absent there": (
+        {"/m/a/1": "conflict b\nunsetenv V x\n", "/m/b/1": "unsetenv V\n"},
+        [
+            ("a/1", "clashes", "V: unset of 'x' here, unset in b/1 (/m/b/1); used so by 1"),
+            ("b/1", "certified", ""),
+        ],
+    ),
     "a path and a stack": (
         {"/m/a/1": "append-path V b\n", "/m/b/1": "pushenv V c\n"},
         [
@@ -525,12 +625,12 @@ ROWS = {
         [("a/1", "certified", ""), ("b/1", "clashes", "V: set here, set in a/1 (/m/a/1); used so by 2")],
     ),
     "a directory that a module adds which isn't plain": (
-        {"/m/a/1": "append-path MODULEPATH /n\nunsetenv W\n", "/n/b/1": "setenv V y\n"},
-        [("a/1", "one-way", "unsetenv W")],
+        {"/m/a/1": "append-path MODULEPATH /n\nremove-path W x\n", "/n/b/1": "setenv V y\n"},
+        [("a/1", "one-way", "remove-path W x")],
     ),
     "a directory that a module adds which asks": (
-        {"/m/a/1": "append-path MODULEPATH /n\nis-loaded b\n", "/n/b/1": "setenv V y\n"},
-        [("a/1", "asks", "is-loaded b")],
+        {"/m/a/1": "append-path MODULEPATH /n\nis-loaded\n", "/n/b/1": "setenv V y\n"},
+        [("a/1", "asks", "is-loaded")],
     ),
     "a directory that a module adds which says something": (
         {
@@ -789,6 +889,10 @@ STARTS = [
     ("setenv V x", {"V": "1"}, ["V is set"]),
     ("setenv V x", {"V": ""}, ["V is set"]),
     ("setenv V x", {"W": "1"}, []),
+    ("unsetenv V", {}, []),
+    ("unsetenv V", {"W": "1"}, []),
+    ("unsetenv V", {"V": "1"}, ["V is set"]),
+    ("unsetenv V", {"V": ""}, ["V is set"]),
     ("unsetenv V 1", {"V": "1"}, []),
     ("unsetenv V 1", {"V": "2"}, ["V isn't '1'"]),
     ("unsetenv V 1", {}, ["V isn't '1'"]),
@@ -901,7 +1005,7 @@ def test_sums_by_standing(folder):
     files = {
         "/m/a/1": "is-loaded\n",
         "/m/a/2": "is-loaded\n",
-        "/m/b/1": "unsetenv V\n",
+        "/m/b/1": "remove-path V x\n",
         "/m/c/1": "setenv V x\npushenv V y\n",
         "/m/d/1": "setenv W x\n",
         "/m/d/2": "setenv W y\n",
@@ -927,10 +1031,10 @@ def test_remarks_come_once(folder):
 
 def test_the_document_says_the_same(folder):
     files = {
-        "/m/a/1": "setenv V x\nunsetenv W y\nappend-path -d , P /b\npushenv S z\nconflict q\n",
+        "/m/a/1": "setenv V x\nunsetenv W y\nunsetenv U\nappend-path -d , P /b\npushenv S z\nconflict q\n",
         "/m/a/.version": "nope\n",
         "/m/b/1": "getenv HOME\nappend-path B /[module-info mode load]\n",
-        "/m/c/1": "unsetenv V\n",
+        "/m/c/1": "remove-path V x\n",
         "/m/d/1": "setenv D 1\npushenv D 2\n",
         "/m/e/1": "setenv E 1\n",
         "/m/f/1": "pushenv E 1\nprereq y z\n",
@@ -938,13 +1042,13 @@ def test_the_document_says_the_same(folder):
         "/m/h/1": "getenv HOME\ngetenv USER\ngetenv HOME\n",
         "/m/i/1": "getenv HOME\ngetenv E\n",
     }
-    found = Site(folder, files, V="1").document()
+    found = Site(folder, files, V="1", U="1").document()
     there = os.fsdecode(folder.modules)
     wanted = {
         "modules": [
             {"name": "a/1", "standing": "certified"},
             {"name": "b/1", "standing": "asks", "question": "module-info mode load"},
-            {"name": "c/1", "standing": "one-way", "record": "unsetenv V"},
+            {"name": "c/1", "standing": "one-way", "record": "remove-path V x"},
             {"name": "d/1", "standing": "out-of-step", "variable": "D", "uses": [{"use": "set"}, {"use": "stack"}]},
             {
                 "name": "e/1",
@@ -969,6 +1073,7 @@ def test_the_document_says_the_same(folder):
         "certificate": [
             {"variable": "V", "use": "set"},
             {"variable": "W", "use": "unset", "value": "y"},
+            {"variable": "U", "use": "unset"},
             {"variable": "P", "use": "path", "delimiter": ","},
             {"variable": "S", "use": "stack"},
             {"variable": "E", "use": "stack"},
@@ -983,12 +1088,13 @@ def test_the_document_says_the_same(folder):
         "disagreements": [
             {"variable": "V", "use": "set"},
             {"variable": "W", "use": "unset", "value": "y"},
+            {"variable": "U", "use": "unset"},
         ],
     }
     for module in wanted["modules"]:
         module["path"] = f"{there}/{module['name']}"
     same(found, wanted, "the document")
-    site = Site(folder, files, V="1")
+    site = Site(folder, files, V="1", U="1")
     quiet = {**wanted, "modules": [module for module in wanted["modules"] if module["standing"] != "certified"]}
     same(site.document("--quiet"), quiet, "the quiet document")
     done = site.run("--quiet", "--json")
@@ -1240,7 +1346,7 @@ OF_SITES = {
     "openmpi/4.1.6": "certified",
     "plugins/2.3": "refused",
     "profile/1": "certified",
-    "python/3.11.6": "one-way",
+    "python/3.11.6": "certified",
     "solver/2024": "certified",
     "toolbox/5.0": "certified",
     "workdir/1": "certified",

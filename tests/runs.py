@@ -321,7 +321,7 @@ def edited(env, kind, module):
     return new
 
 
-# Ways: ("fixed", value or none), ("path", delimiter), ("stack",); a variable without one is untouched.
+# Ways: ("fixed", value or none), ("absent",), ("path", delimiter), ("stack",); a variable without one is untouched.
 
 
 def named(record):
@@ -332,12 +332,12 @@ def named(record):
 
 
 def suits(ways, record):
-    """The record is of a kind that unloading undoes, and uses its variable in the variable's way."""
+    """The record is of a kind after which the start can be back, and uses its variable in the variable's way."""
     kind = record[0]
     if kind == "setenv":
         return ways.get(record[1]) == ("fixed", None)
     if kind == "unsetenv":
-        return record[2] is not None and ways.get(record[1]) == ("fixed", record[2])
+        return ways.get(record[1]) == (("absent",) if record[2] is None else ("fixed", record[2]))
     if kind == "pushenv":
         return ways.get(record[1]) == ("stack",)
     if kind == "remove-path":
@@ -345,8 +345,13 @@ def suits(ways, record):
     return kind in ("conflict", "prereq", "whatis") or ways.get(record[2]) == ("path", record[1])
 
 
+def is_fixing(record):
+    """The record sets its variable, or unsets a value."""
+    return record[0] == "setenv" or (record[0] == "unsetenv" and record[2] is not None)
+
+
 def fixed_by(module):
-    return {named(r) for r in module[2] if r[0] in ("setenv", "unsetenv")}
+    return {named(r) for r in module[2] if is_fixing(r)}
 
 
 def is_fit(ways, live, module):
@@ -381,7 +386,12 @@ def in_order(ways, env):
 
 
 def is_start(ways, env):
-    return in_order(ways, env) and all(w[0] != "fixed" or env.get(n) == w[1] for n, w in ways.items())
+    return in_order(ways, env) and all(has_its_value(env, name, way) for name, way in ways.items())
+
+
+def has_its_value(env, name, way):
+    """A fixed variable has its value, and an absent one has none."""
+    return env.get(name) == way[1] if way[0] == "fixed" else way[0] != "absent" or name not in env
 
 
 def adds_of(live, name):
@@ -486,7 +496,7 @@ def may_change(ways, live, env, name, value):
     way = ways.get(name, ("none",))
     if is_own(name):
         return WITHOUT == NOT_OWN
-    if way[0] == "fixed":
+    if way[0] in ("fixed", "absent"):
         return WITHOUT == NOT_SET
     if way[0] == "stack":
         return STACK + name not in env or WITHOUT == NO_STACK
@@ -524,6 +534,7 @@ OLD = ("a/1", "old", "q/2")
 WAYS = st.sampled_from(
     [None] * 8
     + [("stack",), ("fixed", None)] * 7
+    + [("absent",)] * 3
     + [("fixed", value) for value in VALUES]
     + [("path", delim) for delim in ":;b "] * 2
 )
@@ -545,8 +556,8 @@ def records(name, way, values=VALUES, free=ELEMENTS):
     """Records that use a variable in this way."""
     if way == ("fixed", None):
         return st.sampled_from([("setenv", name, value) for value in values])
-    if way[0] == "fixed":
-        return st.just(("unsetenv", name, way[1]))
+    if way[0] in ("fixed", "absent"):
+        return st.just(("unsetenv", name, *(way[1:] or [None])))
     if way[0] == "stack":
         return st.sampled_from([("pushenv", name, value) for value in values])
     kinds = ("prepend-path", "append-path")
@@ -574,8 +585,9 @@ def old_entry(parts):
 @functools.cache
 def held(name, way, owners, values=VALUES, free=ELEMENTS):
     """The variables, in order, that a start has of one that is used in this way."""
-    if way[0] == "fixed":
-        return st.just({} if way[1] is None else {name: way[1]})
+    if way[0] in ("fixed", "absent"):
+        value = way[1] if way[1:] else None
+        return st.just({} if value is None else {name: value})
     if way[0] == "path":
         some = elements(way[1], free)
         return st.builds(path_held, st.just(name), st.just(way[1]), st.sampled_from([[]] * (len(some) // 2) + some), COUNTS)
@@ -748,7 +760,7 @@ def premises(ways, start, moves):
     broken, live = set(), []
     for name, way in ways.items():
         one = {name: way}
-        if way[0] == "fixed" and start.get(name) != way[1]:
+        if not has_its_value(start, name, way):
             broken.add("value at the start")
         if way[0] in ("path", "stack") and not in_order(one, start):
             broken.add(way[0] + " in order")
@@ -756,7 +768,7 @@ def premises(ways, start, moves):
         broken.add("list in order")
     for kind, module in moves:
         for record in module[2] if kind == "load" else ():
-            if record[0] == "remove-path" or (record[0] == "unsetenv" and record[2] is None):
+            if record[0] == "remove-path":
                 broken.add("kinds")
             elif not suits(ways, record):
                 broken.add("one way")
@@ -785,15 +797,16 @@ def worked_examples():
     push_x = module(M1, ("pushenv", "C", "x"))
     listed = {NAMES: "a/1", FILES: "/a"}
     path, stack = {"P": ("path", ":")}, {"C": ("stack",)}
-    set_a = module(M1, ("setenv", "A", "1"))
+    set_a, no_a = module(M1, ("setenv", "A", "1")), module(M2, ("unsetenv", "A", None))
     return [
-        ("unsetenv without a value", "kinds", {}, {"A": "x"}, there_and_back(module(M1, ("unsetenv", "A", None)))),
         ("remove-path", "kinds", path, {"P": "/a:/b"}, there_and_back(module(M1, ("remove-path", ":", "P", ["/a"])))),
         ("other records at the unload", "undone alike", path, {"P": "/a"}, [("load", add_b), ("unload", module(M1))]),
         ("another value unset", "undone alike", {"A": ("fixed", "C")}, {"A": "C"}, [("load", module(M1, ("unsetenv", "A", "C"))), ("unload", module(M1, ("unsetenv", "A", "D")))]),
         ("another delimiter", "undone alike", path, {"P": "/a"}, [("load", add_b), ("unload", module(M1, ("prepend-path", ";", "P", ["/b"])))]),
         ("a set of a variable with a value", "value at the start", {"A": ("fixed", None)}, {"A": "x"}, there_and_back(set_a)),
         ("an unset with another value", "value at the start", {"A": ("fixed", "C")}, {"A": "de"}, there_and_back(module(M1, ("unsetenv", "A", "C")))),
+        ("an unset without a value", "value at the start", {"A": ("absent",)}, {"A": "x"}, there_and_back(no_a)),
+        ("set and kept absent", "one way", {"A": ("fixed", None)}, {}, [("load", set_a), ("load", no_a), ("unload", no_a)]),
         ("set and pushed", "one way", stack, {}, crossed(module(M2, ("setenv", "C", "y")), push_x)),
         ("unset and pushed", "one way", stack, {"C": "v"}, crossed(module(M2, ("unsetenv", "C", "v")), push_x)),
         ("added and pushed", "one way", path, {"P": "/a"}, crossed(add_b, module(M2, ("pushenv", "P", "x")))),
@@ -823,5 +836,7 @@ def test_a_premise_is_needed(premise, ways, start, moves):
     same(premises(ways, start, moves), {premise}, "the premises that the run breaks")
     if premise == "alone":
         true(not loses(start, moves) and loses_standing(ways, start, moves), "the standing is lost, and the start stays")
+    elif [kind for kind, _ in moves].count("load") > len(moves) / 2:
+        true(loses_standing(ways, start, moves), "the standing of a module that stays is lost")
     else:
         true(loses(start, moves), "the start is lost")

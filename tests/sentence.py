@@ -168,10 +168,15 @@ def question_of(line, env):
     if kind in ("reads", "takes"):
         return Question(VARIABLE, line[1], env.get(line[1]))
     if kind == "by way":
-        return Question(evaluations.CONDITIONS[line[1]].of)
+        return asked_by(evaluations.CONDITIONS[line[1]])
     if kind == "gives":
-        return Question(evaluations.ANSWERS[line[1]].of)
+        return asked_by(evaluations.ANSWERS[line[1]])
     return line[2] if kind == "asks" else None
+
+
+def asked_by(one):
+    """What a condition or an answer asks for."""
+    return Question(one.of, one.names)
 
 
 def reached(line, env, way, asked):
@@ -379,7 +384,7 @@ class Step:
 
     def edited(self, kind, name, path):
         """Loads or unloads a module, and gives what it records."""
-        way = Way(kind, self.in_switch, self.shell)
+        way = Way(kind, self.in_switch, self.shell, tuple(self.names()))
         ran = self.tree.modules[path].evaluated(name, self.env, way)
         if ran.fault:
             raise Refusal(ran.fault)
@@ -472,10 +477,11 @@ def in_a_shell(env, shell):
 
 
 @functools.cache
-def ways(shell):
-    """How all modules use a variable."""
+def ways(shell, more=()):
+    """How all modules use a variable: so, or in one of more ways."""
     fixed = [("fixed", None)] * 20 + [("fixed", value) for value in startable(shell)]
-    return st.sampled_from([("stack",)] * 20 + [("path", ":")] * 20 + [("path", delim) for delim in "b; :"] * 5 + fixed)
+    paths = [("path", ":")] * 20 + [("path", delim) for delim in "b; :"] * 5
+    return st.sampled_from([("stack",)] * 20 + paths + fixed + [*more])
 
 
 def variables(shell):

@@ -5,14 +5,15 @@ the prover reads nor with the programs. `runs.py` has the edits of environments.
 
 A module's file is a function of the way in which it is evaluated (`ways.py`), in the environment of the audit. A use of
 a variable is what `runs.py` calls a way: ("fixed", None) where a module sets it, ("fixed", value) where it unsets this
-value, ("path", delimiter), or ("stack",).
+value, ("absent",) where it unsets it without a value, ("path", delimiter), or ("stack",).
 """
 
 from tests import runs as model
-from tests.ways import FIRST, MODE, SHELL, VARIABLE, Ran, asked_for, other_ways
+from tests.ways import FIRST, LOADED, MODE, SHELL, VARIABLE, Ran, are_few, asked_for, other_ways
 
 MODULEPATH = "MODULEPATH"
 COLONS = ("path", ":")
+ABSENT, SET = ("absent",), ("fixed", None)
 
 # What shells change by themselves.
 OF_SHELLS = set(
@@ -26,13 +27,14 @@ WITHOUT = ""
 CLAUSES = (
     "the delimiters of paths",
     "two uses in one module",
+    "that an unset without a value is a use",
     "clashes",
     "that versions of one name may be loaded at once",
     "that names match by their parts",
     "that modules are settled",
     "that the ways undo alike",
-    "that loads are in conflict with the same names in each way",
     "that another way asks no more",
+    "that what is loaded is answered by each choice",
     "that what another way reads counts",
     "that a reader's own records don't name it",
     "that the tool's own variables aren't read",
@@ -44,8 +46,11 @@ CLAUSES = (
 
 # Clauses without which random sites lose something too seldom: they have cases by hand alone.
 RARE = (
-    "that loads are undone in each way",
+    "that loads can be undone in each way",
+    "that loads keep the same variables absent in each way",
+    "that loads are in conflict with the same names in each way",
     "that what another way asks rests",
+    "that little is asked of what is loaded",
     "that a reader's conflicts don't free it",
 )
 
@@ -93,9 +98,9 @@ def in_all_ways(records, asked=(), fault=None):
 # One module.
 
 
-def undone(record):
-    """Whether unloading undoes the effect of a record."""
-    return record[0] != "remove-path" and not (record[0] == "unsetenv" and record[2] is None)
+def can_return(record):
+    """Whether the start can be back after a record."""
+    return record[0] != "remove-path"
 
 
 def use_of(record):
@@ -103,8 +108,10 @@ def use_of(record):
     kind = record[0]
     if kind == "setenv":
         return record[1], ("fixed", None)
-    if kind == "unsetenv":
+    if kind == "unsetenv" and record[2] is not None:
         return record[1], ("fixed", record[2])
+    if kind == "unsetenv":
+        return None if is_without("that an unset without a value is a use") else (record[1], ABSENT)
     if kind == "pushenv":
         return record[1], ("stack",)
     if kind in ("prepend-path", "append-path"):
@@ -113,7 +120,7 @@ def use_of(record):
 
 
 def uses_of(module):
-    return [use for use in map(use_of, filter(undone, module.records)) if use]
+    return [use for use in map(use_of, filter(can_return, module.records)) if use]
 
 
 def is_of_tool(name):
@@ -130,17 +137,24 @@ def is_named(name, records):
 
 def rests(question, records):
     """It is of the way, or reads a variable that is none of the tool's, none that shells change, and none that the
-    records name."""
+    records name. Whether any module is loaded, and what was typed, isn't of the way."""
     if question.of == VARIABLE:
         return not (is_of_tool(question.name) or question.name in OF_SHELLS or is_named(question.name, records))
-    return question.of in (MODE, SHELL)
+    return question.of in (MODE, SHELL, LOADED)
+
+
+def kept_absent(records):
+    return [record[1] for record in records if record[0] == "unsetenv" and record[2] is None]
 
 
 def load_alike(records, others):
-    """Loads that leave these are undone, and are in conflict with the same names."""
-    are_undone = is_without("that loads are undone in each way") or all(map(undone, others))
+    """After loads that leave these the start can be back, and they keep the same variables absent and are in conflict
+    with the same names."""
+    can_be_back = is_without("that loads can be undone in each way") or all(map(can_return, others))
+    are_absent = is_without("that loads keep the same variables absent in each way")
+    can_be_back = can_be_back and (are_absent or kept_absent(records) == kept_absent(others))
     is_same = is_without("that loads are in conflict with the same names in each way")
-    return are_undone and (is_same or names_of_conflicts(records) == names_of_conflicts(others))
+    return can_be_back and (is_same or names_of_conflicts(records) == names_of_conflicts(others))
 
 
 def is_alike(way, ran, first):
@@ -154,7 +168,11 @@ def is_alike(way, ran, first):
 
 
 def is_same_in_all_ways(module):
-    return all(is_alike(way, ran, module.first) for way, ran in module.others.items())
+    """Its evaluations are alike in all ways, with what is loaded by each choice of answers, if these are few."""
+    few = is_without("that little is asked of what is loaded") or are_few(module.first.asked)
+    is_left = is_without("that what is loaded is answered by each choice")
+    others = {way: ran for way, ran in module.others.items() if not (is_left and way.loaded)}
+    return few and all(is_alike(way, ran, module.first) for way, ran in others.items())
 
 
 def keeps_answer(question, module):
@@ -168,10 +186,10 @@ def asks(module):
 
 
 def keeps_its_answers(module):
-    """It is accepted, each of its questions keeps its answer, and unloading undoes its records."""
+    """It is accepted, each of its questions keeps its answer, and after its records the start can be back."""
     if module.first.fault is not None:
         return False
-    return is_without("that modules are settled") or (not asks(module) and all(map(undone, module.records)))
+    return is_without("that modules are settled") or (not asks(module) and all(map(can_return, module.records)))
 
 
 def is_settled(module):
@@ -215,10 +233,12 @@ def exclude(one, other):
 
 
 def go_together(one, other):
-    return one == other and one[0] in ("path", "stack")
+    return one == other and one[0] in ("path", "stack", "absent")
 
 
 def agree_at_start(one, other):
+    """A start can agree with both uses: what is set, and what is kept absent, is unset there."""
+    one, other = (SET if use == ABSENT else use for use in (one, other))
     return one == other or (one[0], other[0]) != ("fixed", "fixed")
 
 
@@ -371,8 +391,8 @@ def certificate(modules):
 
 def agrees_with_use(env, name, use):
     """An environment whose loaded texts are in order agrees with a use."""
-    if use[0] == "fixed":
-        return env.get(name) == use[1]
+    if use[0] in ("fixed", "absent"):
+        return model.has_its_value(env, name, use)
     return model.in_order({name: use}, env)
 
 

@@ -8,11 +8,12 @@ TYPES = {"sh": "sh", "bash": "sh", "ksh": "sh", "zsh": "sh", "csh": "csh", "tcsh
 
 
 class Way(typing.NamedTuple):
-    """For what a file is evaluated, whether it is a half of a switch, and for which shell."""
+    """For what a file is evaluated, whether it is a half of a switch, for which shell, and with which modules loaded."""
 
     mode: str = "load"
     in_switch: bool = False
     shell: str = "sh"
+    loaded: tuple = ()
 
 
 FIRST = Way()
@@ -22,14 +23,18 @@ MODES = (("load", False), ("load", True), ("unload", False), ("unload", True))
 
 
 class Question(typing.NamedTuple):
-    """What a file asks for: a variable, with its value; the mode or the shell; or what is loaded or was typed."""
+    """What a file asks for: a variable, with its value; the mode or the shell; whether one of some names, which are words
+    here, means a loaded module; or whether any is loaded, or what was typed."""
 
     of: str
     name: str = ""
     value: str | None = None
 
 
-VARIABLE, MODE, SHELL, OTHER = "variable", "mode", "shell", "other"
+VARIABLE, MODE, SHELL, LOADED, OTHER = "variable", "mode", "shell", "loaded", "other"
+
+# The most evaluations of a file that asks what is loaded.
+MOST = 8
 
 
 class Ran(typing.NamedTuple):
@@ -42,23 +47,64 @@ class Ran(typing.NamedTuple):
 
 
 def asked_for(asked):
-    """What of its way was asked for: the mode, the shell, both or nothing."""
-    return {question.of for question in asked} & {MODE, SHELL}
+    """What of its way was asked for: the mode, the shell, both or nothing, and the questions of what is loaded."""
+    return {question.of for question in asked} & {MODE, SHELL} | {(LOADED, words) for words in loaded_questions(asked)}
+
+
+def loaded_questions(asked):
+    """The questions of what is loaded, by their words, each once."""
+    return list(dict.fromkeys(question.name for question in asked if question.of == LOADED))
+
+
+def means_one(words, loaded):
+    """Whether one of these names means a module of the list."""
+    return any(f"{module}/".startswith(f"{name}/") for name in words.split() for module in loaded)
+
+
+def ways_of(asked):
+    """The ways that these questions can tell apart, with nothing loaded."""
+    modes = MODES if MODE in asked_for(asked) else MODES[:1]
+    shells = TYPES if SHELL in asked_for(asked) else ["sh"]
+    return [Way(*mode, shell) for shell, mode in itertools.product(shells, modes)]
+
+
+def are_few(asked):
+    """No more questions of what is loaded than can be answered by yes and no in eight evaluations."""
+    questions = loaded_questions(asked)
+    return not questions or len(ways_of(asked)) * 2 ** len(questions) <= MOST
+
+
+def lists_of(questions):
+    """What is loaded so that these questions are answered by each choice of yes and no: all that they name but what a
+    name means whose answer is no."""
+    names = [name for words in questions for name in words.split()]
+    denied = [
+        [words for words, yes in zip(questions, answers) if not yes]
+        for answers in itertools.product([False, True], repeat=len(questions))
+    ]
+    return [tuple(name for name in names if not means_one(" ".join(words), [name])) for words in denied]
 
 
 def other_ways(asked):
     """The ways that these questions can tell apart, but for the first."""
-    modes = MODES if MODE in asked_for(asked) else MODES[:1]
-    shells = TYPES if SHELL in asked_for(asked) else ["sh"]
-    return [way for shell, mode in itertools.product(shells, modes) if (way := Way(*mode, shell)) != FIRST]
+    lists = lists_of(loaded_questions(asked)) if are_few(asked) else [()]
+    every = dict.fromkeys(way._replace(loaded=loaded) for loaded in lists for way in ways_of(asked))
+    return [way for way in every if way != FIRST]
 
 
 class Condition(typing.NamedTuple):
-    """A condition of a modulefile: how it is written, what of the way it asks for, and in which ways it holds."""
+    """A condition of a modulefile: how it is written, what of the way it asks for, in which ways it holds, and the names
+    that it asks for."""
 
     text: str
     of: str
     holds: typing.Callable
+    names: str = ""
+
+
+def beside(names):
+    """The condition that one of these names means a loaded module."""
+    return Condition(f"[is-loaded {names}]", LOADED, lambda way: means_one(names, way.loaded), names)
 
 
 CONDITIONS = {
@@ -70,19 +116,26 @@ CONDITIONS = {
     "in csh": Condition("[module-info shelltype] eq {csh}", SHELL, lambda way: TYPES[way.shell] == "csh"),
     "in zsh": Condition("[module-info shell zsh]", SHELL, lambda way: way.shell == "zsh"),
     "in fish": Condition("[module-info shell] eq {fish}", SHELL, lambda way: way.shell == "fish"),
+    "beside w_1": beside("w_1"),
+    "beside m": beside("m"),
+    "beside m/1 or n": beside("m/1 n"),
+    "without k": Condition("![is-loaded k]", LOADED, lambda way: not means_one("k", way.loaded), "k"),
 }
 
 
 class Answer(typing.NamedTuple):
-    """An answer that stands in a value: how it is asked for, what of the way that is, and what it is."""
+    """An answer that stands in a value: how it is asked for, what of the way that is, what it is, and the names that it
+    asks for."""
 
     text: str
     of: str
     says: typing.Callable
+    names: str = ""
 
 
 ANSWERS = {
     "mode": Answer("[module-info mode]", MODE, lambda way: way.mode),
     "shell": Answer("[module-info shell]", SHELL, lambda way: way.shell),
     "type": Answer("[module-info shelltype]", SHELL, lambda way: TYPES[way.shell]),
+    "loaded": Answer("[is-loaded m k/9]", LOADED, lambda way: str(int(means_one("m k/9", way.loaded))), "m k/9"),
 }
