@@ -1,7 +1,7 @@
 -- What is offered for completion, with the modules that can be loaded (module(1)).
 use Rattle.std.specs.Prelude.{◌≡◌, ◌⊎◌, ◌<◌, ◌≤◌, ◌==◌, ◌||◌, ℕ, Bool, true, List, [], ◌∷◌, length, if◌then◌else◌}
 use Rattle.std.specs.Prelude.{Option}
-use Rattle.std.specs.List.{flat_map, list_any}
+use Rattle.std.specs.List.{All, flat_map, list_any}
 use Rattle.message.specs.Messages.{Text}
 use Rattle.envvars.specs.Environment.{Environment}
 use Rattle.filetree.specs.Agreement.{Files, Listings, InEachPair}
@@ -31,11 +31,14 @@ abbrev pub names_in : List Listing → List Text
 names_in listings = flat_map (λ listing. names_of listing.1) listings
 
 -- These are the names of the modules along MODULEPATH that a word selects, in the order of `avail`, as they stand
--- elsewhere than at some paths, in each pair of maps that agrees. The numbers are those of the device's failures before
--- and after: in between it has failed where there are such paths, and these are no more than its failures.
+-- elsewhere than at some paths, in each pair of maps that agrees. At each of these the device has failed. The numbers are
+-- those of its failures before and after: in between it has failed where there are such paths, and these are no more
+-- than its failures.
 pub record CanBeLoaded (results : Text → Text → Option DefaultFileResult → Type 0)
-    (agrees : Files → Listings → Type 0) (before now : ℕ) (e : Environment) (word : Text) (names : List Text) : Type 0 where
+    (agrees : Files → Listings → Type 0) (HasFailed : Text → Type 0) (before now : ℕ) (e : Environment) (word : Text)
+    (names : List Text) : Type 0 where
   pub unreadable : List Text
+  pub failed : All HasFailed unreadable
   pub cause : (unreadable ≡ []) ⊎ (before < now)
   pub counted : length unreadable ≤ now
   pub listed : InEachPair agrees (λ files folders. (listings : List Listing)
@@ -43,9 +46,9 @@ pub record CanBeLoaded (results : Text → Text → Option DefaultFileResult →
       × (names ≡ names_in listings))
 
 -- These are the names of the kinds, where those of modules that can be loaded are such, if a kind asks for them.
-abbrev pub Offers : (Text → Text → Option DefaultFileResult → Type 0) → (Files → Listings → Type 0) → ℕ → ℕ
-    → Environment → List NameKind → Text → List Text → Type 0
-Offers results agrees before now e kinds word names =
+abbrev pub Offers : (Text → Text → Option DefaultFileResult → Type 0) → (Files → Listings → Type 0) → (Text → Type 0)
+    → ℕ → ℕ → Environment → List NameKind → Text → List Text → Type 0
+Offers results agrees HasFailed before now e kinds word names =
     (available : List Text)
-    × (list_any is_available kinds ≡ true → CanBeLoaded results agrees before now e word available)
+    × (list_any is_available kinds ≡ true → CanBeLoaded results agrees HasFailed before now e word available)
     × (names ≡ offered e available kinds)

@@ -1,6 +1,7 @@
 -- What `whatis` without names and `keyword` report where something can't be read (module(1)): what stands there is left
 -- out, and named.
 use Rattle.std.specs.Prelude.{◌≡◌, ◌≤◌, ◌++◌, ℕ, List, codes, flat_map, length, Option}
+use Rattle.std.specs.List.{All}
 use Rattle.envvars.specs.Environment.{Environment}
 use Rattle.envvars.specs.Texts.{Text}
 use Rattle.filetree.specs.Agreement.{Files, Listings}
@@ -21,9 +22,9 @@ pub record DescribesWithout (paths : List Text) (agrees : Files → Listings →
   pub described : IsDescription (AgreesWithout paths agrees) limits shell e sought text left
   pub leaves_out : left_out ≡ left ++ flat_map unreadable_line paths
 
--- The same with some paths, no more than the device has failed: none, where it never did.
-abbrev pub IsReadableDescription : (Files → Listings → Type 0) → ℕ → Limits → Shell → Environment → Option Text → Text
-    → Text → Type 0
-IsReadableDescription agrees failures limits shell e sought text left_out =
-    (unreadable : List Text) × (length unreadable ≤ failures)
+-- The same with some paths at which the device has failed, no more than it has failed: none, where it never did.
+abbrev pub IsReadableDescription : (Files → Listings → Type 0) → (Text → Type 0) → ℕ → Limits → Shell → Environment
+    → Option Text → Text → Text → Type 0
+IsReadableDescription agrees HasFailed failures limits shell e sought text left_out =
+    (unreadable : List Text) × All HasFailed unreadable × (length unreadable ≤ failures)
     × DescribesWithout unreadable agrees limits shell e sought text left_out

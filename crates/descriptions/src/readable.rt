@@ -2,6 +2,7 @@
 ghost use Rattle.std.specs.Prelude.{◌≡◌, ◌<◌, ◌≤◌, ◌++◌, flat_map, map, string_bytes, IfOk, IfErr, OnOk};
 ghost use Rattle.std.specs.Option.{option_map};
 ghost use Rattle.filetree.specs.Causes.{Applies};
+ghost use Rattle.hidingtree.specs.Hidden.{HasFailedAt};
 ghost use Rattle.modules.specs.Answers.{cause_of};
 ghost use Rattle.descriptions.specs.Readable.{IsReadableDescription, unreadable_line};
 
@@ -59,8 +60,9 @@ pub fn describe_readable<T: Tree + Drop>(
     tree: &mut HidingTree<T>,
     limits: Limits,
 ) -> Result<Description, Refusal>
-    ensures described { IfOk result (λ d. IsReadableDescription (T.agrees tree.new.tree) (T.failures tree.new.tree)
-        limits shell env.now (option_map (λ t. t.now) sought.entry) (string_bytes d.text) (string_bytes d.left_out)) }
+    ensures described { IfOk result (λ d. IsReadableDescription (T.agrees tree.new.tree)
+        (HasFailedAt T.agrees T.failures T.failed tree.new.tree) (T.failures tree.new.tree) limits shell env.now
+        (option_map (λ t. t.now) sought.entry) (string_bytes d.text) (string_bytes d.left_out)) }
     ensures fault { IfErr result (λ refusal. Applies (cause_of refusal)
         ((T.failures tree.old.tree < T.failures tree.new.tree) × (1000 ≤ T.failures tree.new.tree)) (λ reason. ⊥)) }
 {

@@ -1,6 +1,7 @@
 -- The path that a watched tree has kept, by what a call over it answers.
 use Rattle.std.proofs.Common.{◌≡◌, ℕ, Bool, true, false, List, String, string_bytes, Option, Some, None, Result, Ok, Err, refl, sym, ap, subst, ◌∙◌, inl, inr, IfOk}
 use Rattle.std.specs.Prelude.{IfErr, IfNone, IfSome}
+use Rattle.std.specs.Option.{ForSome}
 use Rattle.std.specs.declared.alloc.AllocError.{AllocError}
 use Rattle.std.proofs.lemmas.Bool.{false≢true}
 use Rattle.std.specs.declared.alloc.Global.{Global}
@@ -49,18 +50,19 @@ device_failed memory failed P e h = absurd (false≢true e)
 device_failed device failed P e h = h
 device_failed (because r) failed P e h = absurd (false≢true e)
 
-module _ (agrees : Files → Listings → Type 0) (failed : Type 0) (limits : Limits) (shell : Shell) (e : Environment) (action : RequestedAction) where
+module _ (agrees : Files → Listings → Type 0) (fails : Type 0) (failed : List ℕ → Bool) (limits : Limits) (shell : Shell) (e : Environment) (action : RequestedAction) where
   -- what is answered of an outcome
   pub answered : (r : Result RequestChanges Refusal) (kept : Option (String Global)) (before now : List ℕ → Bool)
       → ((p : List ℕ) → before p ≡ false) → ((p : List ℕ) → now p ≡ is_kept kept p)
-      → FailsAt is_failure before now r (IsLookedAt agrees limits shell e action) → Answers agrees limits shell e failed action r
+      → FailsAt is_failure before now r (IsLookedAt agrees limits shell e action) → Answers agrees limits shell e fails action r
+      → ForSome kept (λ path. failed (string_bytes path) ≡ true)
       → (o : Option (String Global)) → IfSome o (λ path. kept ≡ Some path) → IfNone o (IfErr r (λ refusal. is_given_up (cause_of refusal) ≡ false))
-      → IsAnswer agrees failed limits shell e action o
-  answered r kept before now old new h over (Some path) is none =
+      → IsAnswer agrees fails failed limits shell e action o
+  answered r kept before now old new h over there (Some path) is none =
       let f = failed_there kept path is before now old new r (IsLookedAt agrees limits shell e action) h in
-      (device_failed (cause_of f.0) failed _ f.2 (subst (λ (x : Result RequestChanges Refusal). Answers agrees limits shell e failed action x) f.1 over), f.3)
-  answered (Ok changed) kept before now old new h over None is none = inl (accepted_by agrees limits shell e failed action (Ok changed) changed refl over)
-  answered (Err refusal) kept before now old new h over None is none = inr (refused_by agrees limits shell e failed action (Err refusal) refusal refl none over)
+      (device_failed (cause_of f.0) fails _ f.2 (subst (λ (x : Result RequestChanges Refusal). Answers agrees limits shell e fails action x) f.1 over), there path is, f.3)
+  answered (Ok changed) kept before now old new h over there None is none = inl (accepted_by agrees limits shell e fails action (Ok changed) changed refl over)
+  answered (Err refusal) kept before now old new h over there None is none = inr (refused_by agrees limits shell e fails action (Err refusal) refusal refl none over)
 
 pub both_ok : (r : Result (Option (String Global)) AllocError) (P Q R : Option (String Global) → Type 0) → IfOk r P → IfOk r Q
     → ((o : Option (String Global)) → P o → Q o → R o) → IfOk r R

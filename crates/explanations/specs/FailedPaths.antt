@@ -1,5 +1,5 @@
 -- The path at which the device failed in a request (own).
-use Rattle.std.specs.Prelude.{◌⊎◌, ℕ, Bool, false, List, bytes_eq, string_bytes, String, Option, Some, None}
+use Rattle.std.specs.Prelude.{◌≡◌, ◌⊎◌, ℕ, Bool, true, false, List, bytes_eq, string_bytes, String, Option, Some, None}
 use Rattle.std.specs.declared.alloc.Global.{Global}
 use Rattle.envvars.specs.Environment.{Environment}
 use Rattle.envvars.specs.Texts.{Text}
@@ -23,10 +23,10 @@ IsLookedAt agrees limits shell e action path =
     InEachPair agrees (λ files listings.
     RequestLooksAt (request_context_in limits shell files listings) e action path)
 
--- The device has failed, at a path at which the request looks; or the request is accepted, or refused for a reason.
-abbrev pub IsAnswer : (Files → Listings → Type 0) → Type 0 → Limits → Shell → Environment → RequestedAction
-    → Option (String Global) → Type 0
-IsAnswer agrees failed limits shell e action (Some path) =
-    failed × IsLookedAt agrees limits shell e action (string_bytes path)
-IsAnswer agrees failed limits shell e action None =
+-- The device has failed, at this path, at which the request looks; or the request is accepted, or refused for a reason.
+abbrev pub IsAnswer : (Files → Listings → Type 0) → Type 0 → (Text → Bool) → Limits → Shell → Environment
+    → RequestedAction → Option (String Global) → Type 0
+IsAnswer agrees fails failed limits shell e action (Some path) =
+    fails × (failed (string_bytes path) ≡ true) × IsLookedAt agrees limits shell e action (string_bytes path)
+IsAnswer agrees fails failed limits shell e action None =
     IsAccepted agrees limits shell e action ⊎ IsRefused agrees limits shell e action

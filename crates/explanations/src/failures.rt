@@ -1,5 +1,6 @@
 //! Where the device failed.
-ghost use Rattle.std.specs.Prelude.{◌≡◌, ◌<◌, false, IfErr, IfNone, IfOk, IfSome, Some};
+ghost use Rattle.std.specs.Prelude.{◌≡◌, ◌<◌, false, true, string_bytes, IfErr, IfNone, IfOk, IfSome, Some};
+ghost use Rattle.std.specs.Option.{ForSome};
 ghost use Rattle.filetree.specs.Agreement.{Narrows};
 ghost use Rattle.requests.specs.RequestViews.{action_view};
 ghost use Rattle.givenup.specs.Causes.{is_given_up};
@@ -13,15 +14,18 @@ use modules::{Refusal, Request, RequestChanges, run_changes};
 use std::alloc::{AllocError, Global};
 use tclrules::Limits;
 
-/// A tree over another, which keeps the path at which the device failed last.
+/// A tree over another, which keeps the path at which the device failed last. Memory for the path is taken before each
+/// call, since behind a failure its want would lose the path.
 #[derive(Drop)]
-struct WatchedTree<T> {
+struct WatchedTree<T: Tree + Drop> {
     tree: T,
     alloc: Global,
     failed: Option<String>,
+    /// The device has failed at the path that is kept.
+    ghost failed_there: { ForSome failed (λ path. T.failed tree (string_bytes path) ≡ true) },
 }
 
-impl<T: Tree> Tree for WatchedTree<T> {
+impl<T: Tree + Drop> Tree for WatchedTree<T> {
     ghost failures = { λ t. T.failures t.tree };
 
     ghost failed = { λ t path. is_kept t.failed path };
@@ -29,17 +33,19 @@ impl<T: Tree> Tree for WatchedTree<T> {
     ghost agrees = { λ t files listings. T.agrees t.tree files listings };
 
     fn read(&mut self, path: &str) -> Result<Option<Vec<u8>>, TreeFault> {
+        let kept = String::from_str(self.alloc, path)?;
         let answer = self.tree.read(path);
         if let Err(TreeFault::Device) = &answer {
-            self.failed = Some(String::from_str(self.alloc, path)?);
+            self.failed = Some(kept);
         }
         answer
     }
 
     fn begins_with(&mut self, path: &str, prefix: &[u8]) -> Result<bool, TreeFault> {
+        let kept = String::from_str(self.alloc, path)?;
         let answer = self.tree.begins_with(path, prefix);
         if let Err(TreeFault::Device) = &answer {
-            self.failed = Some(String::from_str(self.alloc, path)?);
+            self.failed = Some(kept);
         }
         answer
     }
@@ -49,17 +55,19 @@ impl<T: Tree> Tree for WatchedTree<T> {
     }
 
     fn see(&mut self, path: &str, prefix: &[u8]) -> Result<SeenPath, TreeFault> {
+        let kept = String::from_str(self.alloc, path)?;
         let answer = self.tree.see(path, prefix);
         if let Err(TreeFault::Device) = &answer {
-            self.failed = Some(String::from_str(self.alloc, path)?);
+            self.failed = Some(kept);
         }
         answer
     }
 
     fn entries(&mut self, dir: &str) -> Result<Option<Vec<String>>, TreeFault> {
+        let kept = String::from_str(self.alloc, dir)?;
         let answer = self.tree.entries(dir);
         if let Err(TreeFault::Device) = &answer {
-            self.failed = Some(String::from_str(self.alloc, dir)?);
+            self.failed = Some(kept);
         }
         answer
     }
@@ -84,7 +92,7 @@ fn answer(
     }
 }
 
-/// The path at which the device fails in a request, if it does: one at which the request looks. Where it doesn't, the
+/// The path at which the device fails in a request, if it does, and at which the request looks. Where it doesn't, the
 /// request is accepted or has a reason.
 ///
 /// It fails for want of memory.
@@ -96,7 +104,7 @@ pub fn failed_path<T: Tree + Drop>(
     limits: Limits,
 ) -> Result<Option<String>, AllocError>
     ensures { IfOk result (λ o. (last : T) × Narrows (T.agrees tree) (T.agrees last)
-        × IsAnswer (T.agrees last) (T.failures tree < T.failures last) limits request.now.shell env.now
+        × IsAnswer (T.agrees last) (T.failures tree < T.failures last) (T.failed last) limits request.now.shell env.now
         (action_view request.now.action) o) }
 {
     let mut watched = WatchedTree {

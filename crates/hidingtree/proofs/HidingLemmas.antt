@@ -1,13 +1,19 @@
 -- Files and directories without what stands at some paths.
 use Rattle.std.proofs.Common.{◌≡◌, inr, ℕ, Bool, true, false, ◌||◌, List, [], ◌∷◌, ◌++◌, map, refl, ap, sym, subst, ◌∙◌, Option, None, bytes_eq, if◌then◌else◌}
-use Rattle.std.proofs.Common.{String, Global, string_bytes}
-use Rattle.std.specs.List.{list_any}
+use Rattle.std.proofs.Common.{String, Global, string_bytes, arith}
+use Rattle.std.proofs.Math.Logic.{∥∥₁_map}
+use Rattle.std.specs.Option.{ForSome}
+use Rattle.std.specs.List.{All, list_any}
 use Rattle.std.proofs.lemmas.List.{map-append}
+use Rattle.std.proofs.lemmas.Bool.{false≢true}
+use Rattle.std.proofs.lemmas.List.Elements.{All-weaker}
 use Rattle.std.proofs.lemmas.List.Folds.{list_any-append}
 use Rattle.std.proofs.lemmas.Slice.Eq.{bytes_eq-Decides}
 use Rattle.message.specs.Messages.{Text}
-use Rattle.filetree.specs.Agreement.{Files, Listings, InEachPair, Narrows}
-use Rattle.hidingtree.specs.Hidden.{AgreesWithout, AreApart, MayAgreeWithout, MayBeLeft, is_among, without}
+use Rattle.filetree.specs.Agreement.{Files, Listings, InEachPair, Narrows, ReadsOn, FailsIf, is_device}
+use Rattle.filetree.specs.declared.tree.TreeFault.{TreeFault}
+use Rattle.filetree.specs.declared.tree.TreeFault.TheVariants.{Device}
+use Rattle.hidingtree.specs.Hidden.{AgreesWithout, AreApart, FailedBefore, HasFailedAt, MayAgreeWithout, MayBeLeft, is_among, without}
 use Rattle.hidingtree.specs.Left.{left_without}
 
 -- one of the elements passes a test of what it stands for
@@ -143,3 +149,43 @@ pub in_whole_pairs : (hidden seen : List Text) (agrees : Files → Listings → 
     → InEachPair (MayAgreeWithout hidden seen agrees) P → InEachPair agrees (λ files folders. P (without hidden files) (without hidden folders))
 in_whole_pairs hidden seen agrees P apart holds = λ files folders a.
     holds (without hidden files) (without hidden folders) (left_without hidden seen agrees apart files folders a)
+
+-- ---- where the device has failed
+
+-- what has failed in a state has failed after it
+later : {T : Type 0} (agrees : T → Files → Listings → Type 0) (failures : T → ℕ) (failed : T → Text → Bool) (old new : T) → ReadsOn agrees failures old new
+    → (path : Text) → FailedBefore agrees failures failed old path → FailedBefore agrees failures failed new path
+later agrees failures failed old new on path h = record {
+  state = h.state;
+  there = h.there;
+  reads_on = record {
+    narrows = λ files folders a. h.reads_on.narrows files folders (on.narrows files folders a);
+    counts_failures = omega (arith, h.reads_on.counts_failures, on.counts_failures);
+  };
+}
+
+pub failed_before : {T : Type 0} (agrees : T → Files → Listings → Type 0) (failures : T → ℕ) (failed : T → Text → Bool) (old new : T) → ReadsOn agrees failures old new
+    → (path : Text) → HasFailedAt agrees failures failed old path → HasFailedAt agrees failures failed new path
+failed_before agrees failures failed old new on path h = ∥∥₁_map h (later agrees failures failed old new on path)
+
+pub all_failed_before : {T : Type 0} (agrees : T → Files → Listings → Type 0) (failures : T → ℕ) (failed : T → Text → Bool) (old new : T) → ReadsOn agrees failures old new
+    → (paths : List Text) → All (HasFailedAt agrees failures failed old) paths → All (HasFailedAt agrees failures failed new) paths
+all_failed_before agrees failures failed old new on paths all =
+    All-weaker (HasFailedAt agrees failures failed old) (HasFailedAt agrees failures failed new) (failed_before agrees failures failed old new on) paths all
+
+pub some_failed_before : {T : Type 0} (agrees : T → Files → Listings → Type 0) (failures : T → ℕ) (failed : T → Text → Bool) (old new : T) → ReadsOn agrees failures old new
+    → (path : Option (String Global)) → ForSome path (λ p. HasFailedAt agrees failures failed old (string_bytes p)) → ForSome path (λ p. HasFailedAt agrees failures failed new (string_bytes p))
+some_failed_before agrees failures failed old new on path h = λ p e. failed_before agrees failures failed old new on (string_bytes p) (h p e)
+
+-- a call that fails by the device at a path leaves it among those with failures
+at_path : (t : Bool) (before now : Text → Bool) (path : Text) → FailsIf t before now (λ at. at ≡ path) → t ≡ true → now path ≡ true
+at_path false before now path h e = absurd (false≢true e)
+at_path true before now path h e = ap now (sym h.2) ∙ h.1.here
+
+pub failed_now : {T : Type 0} (agrees : T → Files → Listings → Type 0) (failures : T → ℕ) (failed : T → Text → Bool) (now : T) (before : Text → Bool) (fault : TreeFault) (path : Text)
+    → FailsIf (is_device fault) before (failed now) (λ at. at ≡ path) → fault ≡ Device → HasFailedAt agrees failures failed now path
+failed_now agrees failures failed now before fault path h is = ∣ record {
+  state = now;
+  there = at_path (is_device fault) before (failed now) path h (ap is_device is);
+  reads_on = record { narrows = λ files folders a. a; counts_failures = omega arith };
+} ∣₁

@@ -3,7 +3,7 @@ use Rattle.std.specs.Prelude.{◌≡◌, ◌⊎◌, ℕ, Bool, true, false, List
 use Rattle.std.specs.Prelude.{bytes_eq, if◌then◌else◌}
 use Rattle.std.specs.List.{list_any}
 use Rattle.message.specs.Messages.{Text}
-use Rattle.filetree.specs.Agreement.{Files, Listings}
+use Rattle.filetree.specs.Agreement.{Files, Listings, ReadsOn}
 
 -- the path is one of these
 abbrev pub is_among : List Text → Text → Bool
@@ -43,6 +43,17 @@ pub record MayAgreeWithout (hidden seen : List Text) (agrees : Files → Listing
 -- nothing was seen at a hidden path
 abbrev pub AreApart : List Text → List Text → Type 0
 AreApart hidden seen = (path : Text) → is_among hidden path ≡ true → is_among seen path ≡ false
+
+-- in a state from which the tree has read on to this one, the path is among those with failures
+pub record FailedBefore {T : Type 0} (agrees : T → Files → Listings → Type 0) (failures : T → ℕ)
+    (failed : T → Text → Bool) (now : T) (path : Text) : Type 0 where
+  pub state : T
+  pub there : failed state path ≡ true
+  pub reads_on : ReadsOn agrees failures state now
+
+-- The device has failed at the path.
+abbrev pub HasFailedAt : {T : Type 0} → (T → Files → Listings → Type 0) → (T → ℕ) → (T → Text → Bool) → T → Text → Type 0
+HasFailedAt agrees failures failed now path = ∥ FailedBefore agrees failures failed now path ∥₁
 
 -- how many paths these are: one, or none
 abbrev pub count_of : {X : Type 0} → Option X → ℕ

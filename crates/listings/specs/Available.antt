@@ -1,5 +1,6 @@
 -- The report of `avail` over a tree (module(1)): what can't be read is left out, and named.
 use Rattle.std.specs.Prelude.{◌≡◌, ◌⊎◌, ◌<◌, ◌≤◌, ℕ, List, [], length, Option, Ok}
+use Rattle.std.specs.List.{All}
 use Rattle.message.specs.Messages.{Text}
 use Rattle.envvars.specs.Environment.{Environment}
 use Rattle.filetree.specs.Agreement.{Files, Listings, InEachPair}
@@ -27,15 +28,16 @@ ReportsModules results paths files folders terminal e words text = (listings : L
     × ListedWithout results paths files folders (searched_texts words.0 words.1) (modulepath e) listings
     × (text ≡ available_text terminal words.0.lines (loaded_or_none e) (chosen words.0 words.1 listings) paths)
 
--- The text is this with the options and texts that the given words are, in each pair of maps that agrees. The numbers
--- are those of the device's failures before and after: in between it has failed where there are such paths, and these
--- are no more than its failures.
+-- The text is this with the options and texts that the given words are, in each pair of maps that agrees. At each of the
+-- paths the device has failed. The numbers are those of its failures before and after: in between it has failed where
+-- there are such paths, and these are no more than its failures.
 pub record ReportsAvailable (results : Text → Text → Option DefaultFileResult → Type 0)
-    (agrees : Files → Listings → Type 0) (before now : ℕ) (terminal : Option Terminal) (e : Environment)
-    (given : List Text) (text : Text) : Type 0 where
+    (agrees : Files → Listings → Type 0) (HasFailed : Text → Type 0) (before now : ℕ) (terminal : Option Terminal)
+    (e : Environment) (given : List Text) (text : Text) : Type 0 where
   pub words : Words
   pub meaning : avail_words no_options given ≡ Ok words
   pub unreadable : List Text
+  pub failed : All HasFailed unreadable
   pub cause : (unreadable ≡ []) ⊎ (before < now)
   pub counted : length unreadable ≤ now
   pub reports : InEachPair agrees (λ files folders.

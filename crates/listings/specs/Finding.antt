@@ -1,5 +1,6 @@
 -- Whether the search finds a module for one of some names (module(1), is-avail).
 use Rattle.std.specs.Prelude.{◌≡◌, ◌⊎◌, ◌<◌, ◌≤◌, ℕ, Bool, true, false, List, [], ◌∷◌, length, Option, Ok, Err}
+use Rattle.std.specs.List.{All}
 use Rattle.message.specs.Messages.{Text}
 use Rattle.filetree.specs.Agreement.{Files, Listings, InEachPair}
 use Rattle.hidingtree.specs.Hidden.{without}
@@ -33,24 +34,27 @@ SearchesLookAt results files folders modulepath (name ∷ names) at =
     ⊎ (IsFound results files folders modulepath name false
     × SearchesLookAt results files folders modulepath names at)
 
--- A module is found for one of the names, or for none, elsewhere than at some paths, in each pair of maps that agrees.
--- There are such paths only where one is found. The numbers are those of the device's failures before and after: in
--- between it has failed where there are such paths, and these are no more than its failures.
-pub record FindsReadable (results : Text → Text → Option DefaultFileResult → Type 0)
-    (agrees : Files → Listings → Type 0) (before now : ℕ) (modulepath : Text) (names : List Text) (answer : Bool)
-    : Type 0 where
+-- A module is found for one of the names, or for none, elsewhere than at some paths, in each pair of maps that agrees. At
+-- each of these the device has failed, and they are no more than its failures.
+pub record FindsWithout (results : Text → Text → Option DefaultFileResult → Type 0)
+    (agrees : Files → Listings → Type 0) (HasFailed : Text → Type 0) (now : ℕ) (modulepath : Text) (names : List Text)
+    (answer : Bool) : Type 0 where
   pub unreadable : List Text
-  pub found : (unreadable ≡ []) ⊎ (answer ≡ true)
-  pub cause : (unreadable ≡ []) ⊎ (before < now)
+  pub failed : All HasFailed unreadable
   pub counted : length unreadable ≤ now
   pub finds : InEachPair agrees (λ files folders.
       IsOneFound results (without unreadable files) (without unreadable folders) modulepath names answer)
 
--- No module is found for one of the names elsewhere than at some paths, which are no more than the device's failures, in
--- each pair of maps that agrees; or these are a thousand.
-abbrev pub FindsNothingReadable : (Text → Text → Option DefaultFileResult → Type 0) → (Files → Listings → Type 0) → ℕ
-    → Text → List Text → Type 0
-FindsNothingReadable results agrees now modulepath names =
-    ((unreadable : List Text) × (length unreadable ≤ now) × InEachPair agrees (λ files folders.
-    IsOneFound results (without unreadable files) (without unreadable folders) modulepath names false))
-    ⊎ (1000 ≤ now)
+-- The same, where there are such paths only if a module is found, and if the device has failed more often than before.
+pub record FindsReadable (results : Text → Text → Option DefaultFileResult → Type 0)
+    (agrees : Files → Listings → Type 0) (HasFailed : Text → Type 0) (before now : ℕ) (modulepath : Text)
+    (names : List Text) (answer : Bool) : Type 0 where
+  pub finds : FindsWithout results agrees HasFailed now modulepath names answer
+  pub found : (finds.unreadable ≡ []) ⊎ (answer ≡ true)
+  pub cause : (finds.unreadable ≡ []) ⊎ (before < now)
+
+-- No module is found so for one of the names, in each pair of maps that agrees; or the device has failed a thousand times.
+abbrev pub FindsNothingReadable : (Text → Text → Option DefaultFileResult → Type 0) → (Files → Listings → Type 0)
+    → (Text → Type 0) → ℕ → Text → List Text → Type 0
+FindsNothingReadable results agrees HasFailed now modulepath names =
+    FindsWithout results agrees HasFailed now modulepath names false ⊎ (1000 ≤ now)

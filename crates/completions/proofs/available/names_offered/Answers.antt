@@ -23,6 +23,7 @@ returns-clause-offered g c =
       available,
       λ asked. record {
         unreadable = paths;
+        failed = c.in_ok-readable.ensures.failed;
         cause = c.in_ok-readable.ensures.left_out;
         counted = omega (arith, length-map readable.unreadable.items (λ (s : String Global). string_bytes s), c.in_ok-readable.ensures.counted);
         listed = λ files folders a.

@@ -12,6 +12,7 @@ returns-in-Ok-clause-described g c =
     let texts : List (String Global) → List Text = λ l. map (λ (s : String Global). string_bytes s) l in
     let left = string_bytes c.in-Ok.description.left_out in (
       texts tree.hidden.items,
+      tree.failed,
       omega (arith, length-map tree.hidden.items (λ (s : String Global). string_bytes s), tree.counted),
       record {
         left = left;

@@ -9,6 +9,6 @@ returns g c =
     both_ok c.answer.result _ _ _ c.answer.ensures.some c.answer.ensures.none (λ o s n. (
       seen.tree,
       c.run_changes-outcome.ensures.reads.narrows,
-      answered (g.T.Tree.agrees seen.tree) (g.T.Tree.failures c.args.tree < g.T.Tree.failures seen.tree) c.args.limits c.args.request.now.shell c.args.env.now (action_view c.args.request.now.action)
-          c.run_changes-outcome.result seen.failed _ _ (λ p. refl) (λ p. refl) c.run_changes-outcome.ensures.failed c.run_changes-outcome.ensures.over_tree o s n,
+      answered (g.T.Tree.agrees seen.tree) (g.T.Tree.failures c.args.tree < g.T.Tree.failures seen.tree) (g.T.Tree.failed seen.tree) c.args.limits c.args.request.now.shell c.args.env.now (action_view c.args.request.now.action)
+          c.run_changes-outcome.result seen.failed _ _ (λ p. refl) (λ p. refl) c.run_changes-outcome.ensures.failed c.run_changes-outcome.ensures.over_tree seen.failed_there o s n,
     ))

@@ -44,6 +44,7 @@ returns-clause-report g c =
       words = (options, texts);
       meaning = meaning;
       unreadable = paths;
+      failed = c.in_ok-readable.ensures.failed;
       cause = c.in_ok-readable.ensures.left_out;
       counted = omega (arith, length-map readable.unreadable.items (λ (s : String Global). string_bytes s), c.in_ok-readable.ensures.counted);
       reports = λ files folders a.

@@ -1,7 +1,7 @@
 use Rattle.std.proofs.Common.{◌≡◌, Some, ap, sym, subst, map, string_bytes, vec_items, String, Global}
 use Rattle.std.specs.declared.vec.Vec.{Vec}
 use Rattle.filetree.specs.Agreement.{InEachPair, Narrows, file_answer}
-use Rattle.hidingtree.proofs.HidingLemmas.{file_seen, file_hidden, fewer_left}
+use Rattle.hidingtree.proofs.HidingLemmas.{all_failed_before, some_failed_before, file_seen, file_hidden, fewer_left}
 use Rattle.hidingtree.proofs.hiding.HidingTreeTree.read.Goals as goal
 
 pub returns-in_ok-keep_seen-in-Ok-Some-clause-answer : goal.returns-in_ok-keep_seen-in-Ok-Some-clause-answer
@@ -24,3 +24,13 @@ pub returns-in_ok-hide-in-Err-clause-answer : goal.returns-in_ok-hide-in-Err-cla
 returns-in_ok-hide-in-Err-clause-answer g c =
     let tree = c.hide.new.self in
     file_hidden (map (λ (s : String Global). string_bytes s) c.args.self.now.hidden.items) (map (λ (s : String Global). string_bytes s) tree.hidden.items) (map (λ (s : String Global). string_bytes s) tree.seen.items) (g.T.Tree.agrees tree.tree) c.args.path.now c.in_ok-hide-in-Err.ensures.hidden
+
+pub invariant_of-self-clause-failed : goal.invariant_of-self-clause-failed
+invariant_of-self-clause-failed g c =
+    all_failed_before g.T.Tree.agrees g.T.Tree.failures g.T.Tree.failed c.args.self.now.tree c.read.new.self (record { narrows = c.read.ensures.narrows; counts_failures = c.read.ensures.cause.counts_failures })
+    (map (λ (s : String Global). string_bytes s) c.args.self.now.hidden.items) c.args.self.now.failed
+
+pub invariant_of-self-clause-failed_there : goal.invariant_of-self-clause-failed_there
+invariant_of-self-clause-failed_there g c =
+    some_failed_before g.T.Tree.agrees g.T.Tree.failures g.T.Tree.failed c.args.self.now.tree c.read.new.self (record { narrows = c.read.ensures.narrows; counts_failures = c.read.ensures.cause.counts_failures })
+    c.args.self.now.failed_at c.args.self.now.failed_there
