@@ -10,7 +10,7 @@ use Rattle.tclscript.specs.Tree.{Command, Commands}
 use Rattle.portforms.specs.Words.{commands_in}
 use Rattle.filetext.specs.FileTexts.{Writing}
 use Rattle.shownrecords.specs.Flattened.{flattened}
-use Rattle.shownrecords.specs.Owners.{Owner}
+use Rattle.shownrecords.specs.People.{Person}
 use Rattle.translation.specs.Notes.{Note}
 use Rattle.translation.specs.TranslationViews.{HasTranslation}
 use Rattle.modport.specs.Flattening.{DoesNotServe, without_scripts, flattened_lines, IsFlat, IsFlatSo, IsFlattenedSo, IsPut, IsRefused, IsWritten, serves}
@@ -19,55 +19,55 @@ use Rattle.modport.specs.declared.status.Status.{Status}
 use Rattle.modport.specs.declared.status.Status.TheVariants as statuses
 
 -- a translation that was judged
-abbrev WasJudged : Owner → Text → List Note → Bool → Type 0
-WasJudged owner translated notes serving = (t : Commands) × IsWithin translated t × (serving ≡ serves owner notes (commands_in t))
+abbrev WasJudged : Person → Text → List Note → Bool → Type 0
+WasJudged person translated notes serving = (t : Commands) × IsWithin translated t × (serving ≡ serves person notes (commands_in t))
 
-pub refused_so : (port : Porting) (owner : Owner) (flat translated : Text) (notes : List Note) (serving : Bool)
-    → HasTranslation (without_scripts port.home) port.left_out flat translated notes → WasJudged owner translated notes serving → serving ≡ false → IsRefused port owner flat
-refused_so port owner flat translated notes serving h j e =
-    (translated, notes, (h, subst (WasJudged owner translated notes) e j))
+pub refused_so : (port : Porting) (person : Person) (flat translated : Text) (notes : List Note) (serving : Bool)
+    → HasTranslation (without_scripts port.home) port.left_out flat translated notes → WasJudged person translated notes serving → serving ≡ false → IsRefused port person flat
+refused_so port person flat translated notes serving h j e =
+    (translated, notes, (h, subst (WasJudged person translated notes) e j))
 
-pub flat_so : (port : Porting) (owner : Owner) (json : Bool) (path : Text) (how : Writing) (given : Text) (cs : List Command) (flat translated written said : Text)
-    (notes : List Note) (serving : Bool) → HasTranslation (without_scripts port.home) port.left_out flat translated notes → WasJudged owner translated notes serving → serving ≡ true
-    → IsPut port.name json path how given cs translated notes written said → IsFlatSo port owner json path how given cs flat written said
-flat_so port owner json path how given cs flat translated written said notes serving h j e (added, a, s) = (
+pub flat_so : (port : Porting) (person : Person) (json : Bool) (path : Text) (how : Writing) (given : Text) (cs : List Command) (flat translated written said : Text)
+    (notes : List Note) (serving : Bool) → HasTranslation (without_scripts port.home) port.left_out flat translated notes → WasJudged person translated notes serving → serving ≡ true
+    → IsPut port.name json path how given cs translated notes written said → IsFlatSo port person json path how given cs flat written said
+flat_so port person json path how given cs flat translated written said notes serving h j e (added, a, s) = (
   flattened_lines how given cs notes added,
-  (translated, notes, added, record { is_judged = (h, subst (WasJudged owner translated notes) e j); adds = a; says = refl }),
+  (translated, notes, added, record { is_judged = (h, subst (WasJudged person translated notes) e j); adds = a; says = refl }),
   s,
 )
 
 -- what was found of a script, for each tree of it
-abbrev WasFlattened : Owner → Text → Text → Option Text → Type 0
-WasFlattened owner shown given found = (s : Commands) × IsWithin given s × (found ≡ flattened owner given (commands_in s) shown)
+abbrev WasFlattened : Person → Text → Text → Option Text → Type 0
+WasFlattened person shown given found = (s : Commands) × IsWithin given s × (found ≡ flattened person given (commands_in s) shown)
 
-pub unread_so : (port : Porting) (owner : Owner) (shown given : Text) (found : Option (String Global)) → WasFlattened owner shown given (option_map string_bytes found)
-    → found ≡ None → DoesNotServe port owner shown given
-unread_so port owner shown given found (s, within, e) n =
-    (s, within, inl (subst (λ (f : Option (String Global)). option_map string_bytes f ≡ flattened owner given (commands_in s) shown) n e))
+pub unread_so : (port : Porting) (person : Person) (shown given : Text) (found : Option (String Global)) → WasFlattened person shown given (option_map string_bytes found)
+    → found ≡ None → DoesNotServe port person shown given
+unread_so port person shown given found (s, within, e) n =
+    (s, within, inl (subst (λ (f : Option (String Global)). option_map string_bytes f ≡ flattened person given (commands_in s) shown) n e))
 
-pub unserving_so : (port : Porting) (owner : Owner) (shown given flat : Text) → WasFlattened owner shown given (Some flat) → IsRefused port owner flat
-    → DoesNotServe port owner shown given
-unserving_so port owner shown given flat (s, within, e) r = (s, within, inr (flat, e, r))
+pub unserving_so : (port : Porting) (person : Person) (shown given flat : Text) → WasFlattened person shown given (Some flat) → IsRefused port person flat
+    → DoesNotServe port person shown given
+unserving_so port person shown given flat (s, within, e) r = (s, within, inr (flat, e, r))
 
-pub flattened_so : (port : Porting) (owner : Owner) (shown : Text) (json : Bool) (path : Text) (how : Writing) (given flat written said : Text) (tree : Commands)
-    → WasFlattened owner shown given (Some flat) → ((s : Commands) → IsWithin given s → tree ≡ s)
-    → IsFlatSo port owner json path how given (commands_in tree) flat written said → IsFlattenedSo port owner shown json path how given written said
-flattened_so port owner shown json path how given flat written said tree (s, within, e) one (lines, steps, r) =
-    (lines, (s, within, (flat, e, subst (λ (t : Commands). IsFlat port owner how given (commands_in t) flat written lines) (one s within) steps)), r)
+pub flattened_so : (port : Porting) (person : Person) (shown : Text) (json : Bool) (path : Text) (how : Writing) (given flat written said : Text) (tree : Commands)
+    → WasFlattened person shown given (Some flat) → ((s : Commands) → IsWithin given s → tree ≡ s)
+    → IsFlatSo port person json path how given (commands_in tree) flat written said → IsFlattenedSo port person shown json path how given written said
+flattened_so port person shown json path how given flat written said tree (s, within, e) one (lines, steps, r) =
+    (lines, (s, within, (flat, e, subst (λ (t : Commands). IsFlat port person how given (commands_in t) flat written lines) (one s within) steps)), r)
 
 -- the whole
 
-pub kept_so : (port : Porting) (owner : Owner) (shown : Text) (json : Bool) (path : Text) (how : Writing) (given written said : Text) (status : Status)
-    → IsReported port json path how given written said status → (status ≡ statuses.Left → DoesNotServe port owner shown given)
-    → IsWritten port owner (Some shown) json path how given written said status
-kept_so port owner shown json path how given written said status r h = inl (r, h)
+pub kept_so : (port : Porting) (person : Person) (shown : Text) (json : Bool) (path : Text) (how : Writing) (given written said : Text) (status : Status)
+    → IsReported port json path how given written said status → (status ≡ statuses.Left → DoesNotServe port person shown given)
+    → IsWritten port person (Some shown) json path how given written said status
+kept_so port person shown json path how given written said status r h = inl (r, h)
 
-pub within_so : (port : Porting) (owner : Owner) (shown given : Text) (status : Status) → status ≡ statuses.Within → status ≡ statuses.Left
-    → DoesNotServe port owner shown given
-within_so port owner shown given status w l = let never : statuses.Within ≡ statuses.Left = sym w ∙ l in cc
+pub within_so : (port : Porting) (person : Person) (shown given : Text) (status : Status) → status ≡ statuses.Within → status ≡ statuses.Left
+    → DoesNotServe port person shown given
+within_so port person shown given status w l = let never : statuses.Within ≡ statuses.Left = sym w ∙ l in cc
 
-pub taken_so : (port : Porting) (owner : Owner) (shown : Text) (json : Bool) (path : Text) (how : Writing) (given other more written said : Text) (was status : Status)
-    → IsReported port json path how given other more was → was ≡ statuses.Left → IsFlattenedSo port owner shown json path how given written said
-    → status ≡ statuses.Within → IsWritten port owner (Some shown) json path how given written said status
-taken_so port owner shown json path how given other more written said was status r l f w =
+pub taken_so : (port : Porting) (person : Person) (shown : Text) (json : Bool) (path : Text) (how : Writing) (given other more written said : Text) (was status : Status)
+    → IsReported port json path how given other more was → was ≡ statuses.Left → IsFlattenedSo port person shown json path how given written said
+    → status ≡ statuses.Within → IsWritten port person (Some shown) json path how given written said status
+taken_so port person shown json path how given other more written said was status r l f w =
     inr (other, more, subst (λ (s : Status). IsReported port json path how given other more s) l r, f, w)

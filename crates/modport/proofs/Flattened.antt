@@ -10,7 +10,7 @@ use Rattle.portforms.specs.Words.{commands_in}
 use Rattle.filetext.specs.FileTexts.{Writing}
 use Rattle.scripttext.specs.ScriptTexts.{is_script}
 use Rattle.shownrecords.specs.Flattened.{flattened, if_says, saying, says}
-use Rattle.shownrecords.specs.Owners.{Owner}
+use Rattle.shownrecords.specs.People.{Person}
 use Rattle.shownrecords.specs.Shown.{shown_commands}
 use Rattle.shownrecords.specs.Writing.{commands_text}
 use Rattle.modport.specs.Accounts.{Accounts, Stretch, StayUnsaid}
@@ -28,28 +28,28 @@ some_of : (b : Bool) (flat text : Text) → Some flat ≡ (if b then Some text e
 some_of true flat text h = cc
 some_of false flat text h = let never : Some flat ≡ None = h in cc
 
-said_of : (owner : Owner) (commands : List (List Text)) (flat text : Text) (b : Bool) → Some flat ≡ option_and_then (if_says owner commands) (if b then Some text else None)
+said_of : (person : Person) (commands : List (List Text)) (flat text : Text) (b : Bool) → Some flat ≡ option_and_then (if_says person commands) (if b then Some text else None)
     → flat ≡ text
-said_of owner commands flat text true h = some_of (says owner commands (script_of text)) flat text h
-said_of owner commands flat text false h = let never : Some flat ≡ None = h in cc
+said_of person commands flat text true h = some_of (says person commands (script_of text)) flat text h
+said_of person commands flat text false h = let never : Some flat ≡ None = h in cc
 
-saying_front : (owner : Owner) (text flat : Text) (cs : List Command) (commands : List (List Text)) → Some flat ≡ saying owner text cs commands → HasFront text cs flat
-saying_front owner text flat [] commands h = let never : Some flat ≡ None = h in cc
-saying_front owner text flat (c ∷ cs) commands h = (
+saying_front : (person : Person) (text flat : Text) (cs : List Command) (commands : List (List Text)) → Some flat ≡ saying person text cs commands → HasFront text cs flat
+saying_front person text flat [] commands h = let never : Some flat ≡ None = h in cc
+saying_front person text flat (c ∷ cs) commands h = (
   c,
   cs,
-  commands_text owner commands,
+  commands_text person commands,
   refl,
-  said_of owner commands flat (take c.offset text ++ commands_text owner commands) (is_script (take c.offset text ++ commands_text owner commands)) h,
+  said_of person commands flat (take c.offset text ++ commands_text person commands) (is_script (take c.offset text ++ commands_text person commands)) h,
 )
 
-shown_front : (owner : Owner) (text flat : Text) (cs : List Command) (commands : Option (List (List Text))) → Some flat ≡ option_and_then (saying owner text cs) commands
+shown_front : (person : Person) (text flat : Text) (cs : List Command) (commands : Option (List (List Text))) → Some flat ≡ option_and_then (saying person text cs) commands
     → HasFront text cs flat
-shown_front owner text flat cs None h = let never : Some flat ≡ None = h in cc
-shown_front owner text flat cs (Some commands) h = saying_front owner text flat cs commands h
+shown_front person text flat cs None h = let never : Some flat ≡ None = h in cc
+shown_front person text flat cs (Some commands) h = saying_front person text flat cs commands h
 
-front : (owner : Owner) (shown text flat : Text) (cs : List Command) → Some flat ≡ flattened owner text cs shown → HasFront text cs flat
-front owner shown text flat cs h = shown_front owner text flat cs (shown_commands shown) h
+front : (person : Person) (shown text flat : Text) (cs : List Command) → Some flat ≡ flattened person text cs shown → HasFront text cs flat
+front person shown text flat cs h = shown_front person text flat cs (shown_commands shown) h
 
 -- ---- the account
 
@@ -105,9 +105,9 @@ of_front given flat cs (c, rest, more, e, f) =
     subst (λ (t : Text). Accounts given t (map (command_line given) cs)) (sym f)
     (subst (λ (ds : List Command). Accounts given (take c.offset given ++ more) (map (command_line given) ds)) (sym e) (of_commands given more c rest))
 
-pub accounted : (owner : Owner) (shown given flat : Text) (cs : List Command) → Some flat ≡ flattened owner given cs shown
+pub accounted : (person : Person) (shown given flat : Text) (cs : List Command) → Some flat ≡ flattened person given cs shown
     → Accounts given flat (map (command_line given) cs)
-accounted owner shown given flat cs h = of_front given flat cs (front owner shown given flat cs h)
+accounted person shown given flat cs h = of_front given flat cs (front person shown given flat cs h)
 
 -- ---- something is said
 
@@ -117,7 +117,7 @@ unempty given [] after cs c rest e h =
     let never : [] ≡ command_line given c ∷ (map (command_line given) rest ++ after) = subst (λ (ds : List Command). [] ≡ map (command_line given) ds ++ after) e h in cc
 unempty given (l ∷ ls) after cs c rest e h = cc
 
-pub is_said : (port : Porting) (owner : Owner) (shown : Text) (how : Writing) (given written : Text) → IsFlattened port owner shown how given written [] → ⊥
-is_said port owner shown how given written (s, within, (flat, e, (translated, notes, added, steps))) =
-    let h = front owner shown given flat (commands_in s) e in
+pub is_said : (port : Porting) (person : Person) (shown : Text) (how : Writing) (given written : Text) → IsFlattened port person shown how given written [] → ⊥
+is_said port person shown how given written (s, within, (flat, e, (translated, notes, added, steps))) =
+    let h = front person shown given flat (commands_in s) e in
     unempty given _ _ (commands_in s) h.0 h.1 h.3 steps.says

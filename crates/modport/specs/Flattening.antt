@@ -9,7 +9,7 @@ use Rattle.portforms.specs.Words.{commands_in}
 use Rattle.filetext.specs.FileTexts.{Writing}
 use Rattle.families.specs.Families.{Home}
 use Rattle.shownrecords.specs.Flattened.{flattened}
-use Rattle.shownrecords.specs.Owners.{Owner}
+use Rattle.shownrecords.specs.People.{Person}
 use Rattle.shownrecords.specs.Saying.{are_records}
 use Rattle.translation.specs.Notes.{Note}
 use Rattle.translation.specs.Translations.{line_at}
@@ -49,33 +49,33 @@ without_scripts None = None
 without_scripts (Some h) = Some (record
     { members = h.members; symbols = h.symbols; name = h.name; scripts_folder = None })
 
--- nothing is left, and each of the commands of the translation is a record, for the owner
-abbrev pub serves : Owner → List Note → List Command → Bool
-serves owner notes cs = not (list_any (λ n. is_left n.outcome) notes) && are_records owner cs
+-- nothing is left, and each of the commands of the translation is a record, for the person
+abbrev pub serves : Person → List Note → List Command → Bool
+serves person notes cs = not (list_any (λ n. is_left n.outcome) notes) && are_records person cs
 
 -- a flattened text and its translation, by whether that serves
-abbrev pub IsJudged : Porting → Owner → Text → Bool → Text → List Note → Type 0
-IsJudged port owner flat serving translated notes =
+abbrev pub IsJudged : Porting → Person → Text → Bool → Text → List Note → Type 0
+IsJudged port person flat serving translated notes =
     HasTranslation (without_scripts port.home) port.left_out flat translated notes
-    × ((t : Commands) × IsWithin translated t × (serving ≡ serves owner notes (commands_in t)))
+    × ((t : Commands) × IsWithin translated t × (serving ≡ serves person notes (commands_in t)))
 
-abbrev pub IsRefused : Porting → Owner → Text → Type 0
-IsRefused port owner flat =
-    (translated : Text) × (notes : List Note) × IsJudged port owner flat false translated notes
+abbrev pub IsRefused : Porting → Person → Text → Type 0
+IsRefused port person flat =
+    (translated : Text) × (notes : List Note) × IsJudged port person flat false translated notes
 
 -- what was shown can't be read, or it doesn't serve
-abbrev pub DoesNotServe : Porting → Owner → Text → Text → Type 0
-DoesNotServe port owner shown given =
+abbrev pub DoesNotServe : Porting → Person → Text → Text → Type 0
+DoesNotServe port person shown given =
     (s : Commands) × IsWithin given s
-    × ((None ≡ flattened owner given (commands_in s) shown)
-    ⊎ ((flat : Text) × (Some flat ≡ flattened owner given (commands_in s) shown) × IsRefused port owner flat))
+    × ((None ≡ flattened person given (commands_in s) shown)
+    ⊎ ((flat : Text) × (Some flat ≡ flattened person given (commands_in s) shown) × IsRefused port person flat))
 
 -- The whole
 
 -- the steps from a flattened text to what is written, and what is said of a file of these commands
-pub record FlatSteps (port : Porting) (owner : Owner) (how : Writing) (given : Text) (cs : List Command)
+pub record FlatSteps (port : Porting) (person : Person) (how : Writing) (given : Text) (cs : List Command)
     (flat translated written : Text) (notes : List Note) (added : Option Text) (lines : List Line) : Type 0 where
-  pub is_judged : IsJudged port owner flat true translated notes
+  pub is_judged : IsJudged port person flat true translated notes
   pub adds : IsOneVersion port.name translated written added
   pub says : lines ≡ flattened_lines how given cs notes added
 
@@ -85,34 +85,34 @@ IsPut name json path how given cs translated notes written said =
     (added : Option Text) × IsOneVersion name translated written added
     × (said ≡ report json path (flattened_lines how given cs notes added))
 
-abbrev pub IsFlat : Porting → Owner → Writing → Text → List Command → Text → Text → List Line → Type 0
-IsFlat port owner how given cs flat written lines =
+abbrev pub IsFlat : Porting → Person → Writing → Text → List Command → Text → Text → List Line → Type 0
+IsFlat port person how given cs flat written lines =
     (translated : Text) × (notes : List Note) × (added : Option Text)
-    × FlatSteps port owner how given cs flat translated written notes added lines
+    × FlatSteps port person how given cs flat translated written notes added lines
 
-abbrev pub IsFlatSo : Porting → Owner → Bool → Text → Writing → Text → List Command → Text → Text → Text → Type 0
-IsFlatSo port owner json path how given cs flat written said =
-    (lines : List Line) × IsFlat port owner how given cs flat written lines × (said ≡ report json path lines)
+abbrev pub IsFlatSo : Porting → Person → Bool → Text → Writing → Text → List Command → Text → Text → Text → Type 0
+IsFlatSo port person json path how given cs flat written said =
+    (lines : List Line) × IsFlat port person how given cs flat written lines × (said ≡ report json path lines)
 
 -- what is written for a file in whose place this is shown, and what is said
-abbrev pub IsFlattened : Porting → Owner → Text → Writing → Text → Text → List Line → Type 0
-IsFlattened port owner shown how given written lines =
+abbrev pub IsFlattened : Porting → Person → Text → Writing → Text → Text → List Line → Type 0
+IsFlattened port person shown how given written lines =
     (s : Commands) × IsWithin given s
-    × ((flat : Text) × (Some flat ≡ flattened owner given (commands_in s) shown)
-    × IsFlat port owner how given (commands_in s) flat written lines)
+    × ((flat : Text) × (Some flat ≡ flattened person given (commands_in s) shown)
+    × IsFlat port person how given (commands_in s) flat written lines)
 
 -- the same, with the report on the file of this path
-abbrev pub IsFlattenedSo : Porting → Owner → Text → Bool → Text → Writing → Text → Text → Text → Type 0
-IsFlattenedSo port owner shown json path how given written said =
-    (lines : List Line) × IsFlattened port owner shown how given written lines × (said ≡ report json path lines)
+abbrev pub IsFlattenedSo : Porting → Person → Text → Bool → Text → Writing → Text → Text → Text → Type 0
+IsFlattenedSo port person shown json path how given written said =
+    (lines : List Line) × IsFlattened port person shown how given written lines × (said ≡ report json path lines)
 
 -- what is written for a file of which this is shown, where something is: its translation, where of that nothing is left
 -- or what is shown doesn't serve; else it is flattened
-abbrev pub IsWritten : Porting → Owner → Option Text → Bool → Text → Writing → Text → Text → Text → Status → Type 0
-IsWritten port owner None json path how given written said status =
+abbrev pub IsWritten : Porting → Person → Option Text → Bool → Text → Writing → Text → Text → Text → Status → Type 0
+IsWritten port person None json path how given written said status =
     IsReported port json path how given written said status
-IsWritten port owner (Some shown) json path how given written said status =
+IsWritten port person (Some shown) json path how given written said status =
     (IsReported port json path how given written said status
-    × (status ≡ Left → DoesNotServe port owner shown given))
+    × (status ≡ Left → DoesNotServe port person shown given))
     ⊎ ((other more : Text) × IsReported port json path how given other more Left
-    × IsFlattenedSo port owner shown json path how given written said × (status ≡ Within))
+    × IsFlattenedSo port person shown json path how given written said × (status ≡ Within))

@@ -8,7 +8,7 @@ ghost use Rattle.tclscript.specs.Tree.{Commands};
 ghost use Rattle.tclscript.specs.View.{script_view};
 ghost use Rattle.portforms.specs.Words.{commands_in, texts};
 ghost use Rattle.scripttext.specs.ScriptTexts.{Parses};
-ghost use Rattle.shownrecords.specs.Views.{owner_view};
+ghost use Rattle.shownrecords.specs.Views.{person_view};
 ghost use Rattle.translation.specs.TranslationViews.{HasTranslation, notes_view};
 ghost use Rattle.modport.specs.Flattening as spec;
 ghost use Rattle.modport.specs.Flattening.{DoesNotServe, IsFlattenedSo, IsWritten};
@@ -23,7 +23,7 @@ use crate::reporting::push_report;
 use crate::saying::{Coming, added_lines, command_lines, shown_lines, writing_lines};
 use crate::status::{Status, has_left};
 use families::Home;
-use shownrecords::{Owner, are_records, flattened};
+use shownrecords::{Person, are_records, flattened};
 use std::alloc::{AllocError, Global};
 use tclscript::{Script, parse_script};
 use translation::{Note, Translation, translate};
@@ -57,12 +57,12 @@ fn without_scripts(home: Option<Home<'_>>) -> Option<Home<'_>>
     }
 }
 
-/// Whether a translation serves: nothing is left of it, and each of its commands is a record, for the owner.
-fn serves(alloc: Global, owner: Owner, translation: &Translation) -> Result<bool, PortFault>
+/// Whether a translation serves: nothing is left of it, and each of its commands is a record, for the person.
+fn serves(alloc: Global, person: Person, translation: &Translation) -> Result<bool, PortFault>
     ensures { IfOk result (λ serves. (t : Commands) × IsWithin (string_bytes translation.now.text) t
-        × (serves ≡ spec.serves (owner_view owner.entry) (notes_view translation.now.notes.items) (commands_in t))) }
+        × (serves ≡ spec.serves (person_view person.entry) (notes_view translation.now.notes.items) (commands_in t))) }
 {
-    let records = are_records(alloc, owner, translation.text.as_str())?;
+    let records = are_records(alloc, person, translation.text.as_str())?;
     Ok(!has_left(translation.notes.as_slice()) && records)
 }
 
@@ -152,15 +152,15 @@ fn of_flat(
     ensures parses { IfOk result (λ p. IfSome p (λ w. Parses (string_bytes w.text))) }
     ensures written { IfOk result (λ p. MatchOption p
         (spec.IsRefused (porting_view manner.entry given.entry.home given.entry.name)
-        (owner_view manner.entry.owner) flat.now)
+        (person_view manner.entry.person) flat.now)
         (λ w. spec.IsFlatSo (porting_view manner.entry given.entry.home given.entry.name)
-        (owner_view manner.entry.owner) manner.entry.json given.entry.path.now (coming_view given.entry.coming)
+        (person_view manner.entry.person) manner.entry.json given.entry.path.now (coming_view given.entry.coming)
         given.entry.text.now (commands_in (script_view (λ piece. piece.now) script.now)) flat.now
         (string_bytes w.text) w.report.items)) }
     ensures status { IfOk result (λ p. IfSome p (λ w. w.status ≡ Within)) }
 {
     let translation = flat_translation(alloc, manner, given.home, flat)?;
-    if serves(alloc, manner.owner, &translation)? {
+    if serves(alloc, manner.person, &translation)? {
         Ok(Some(written_flat(alloc, manner.json, given, script, translation)?))
     } else {
         Ok(None)
@@ -176,14 +176,14 @@ fn flattened_file(
 ) -> Result<Option<Ported>, PortFault>
     ensures parses { IfOk result (λ p. IfSome p (λ w. Parses (string_bytes w.text))) }
     ensures written { IfOk result (λ p. MatchOption p
-        (DoesNotServe (porting_view manner.entry given.entry.home given.entry.name) (owner_view manner.entry.owner)
+        (DoesNotServe (porting_view manner.entry given.entry.home given.entry.name) (person_view manner.entry.person)
         shown.now given.entry.text.now)
         (λ w. IsFlattenedSo (porting_view manner.entry given.entry.home given.entry.name)
-        (owner_view manner.entry.owner) shown.now manner.entry.json given.entry.path.now
+        (person_view manner.entry.person) shown.now manner.entry.json given.entry.path.now
         (coming_view given.entry.coming) given.entry.text.now (string_bytes w.text) w.report.items)) }
     ensures status { IfOk result (λ p. IfSome p (λ w. w.status ≡ Within)) }
 {
-    let Some(flat) = flattened(alloc, manner.owner, given.text, shown)? else {
+    let Some(flat) = flattened(alloc, manner.person, given.text, shown)? else {
         return Ok(None);
     };
     let script = parse_script(alloc, given.text)?;
@@ -209,7 +209,7 @@ pub(crate) fn or_flattened(
         (shell_scripts_view ported.scripts.items) }
     ensures parses { IfOk result (λ p. Parses (string_bytes p.text)) }
     ensures written { IfOk result (λ p. IsWritten (porting_view manner.entry given.entry.home given.entry.name)
-        (owner_view manner.entry.owner) (Some shown.now) manner.entry.json given.entry.path.now
+        (person_view manner.entry.person) (Some shown.now) manner.entry.json given.entry.path.now
         (coming_view given.entry.coming) given.entry.text.now (string_bytes p.text) p.report.items p.status) }
     ensures scripts { IfOk result (λ p. HasScriptsOf (porting_view manner.entry given.entry.home given.entry.name)
         given.entry.text.now (shell_scripts_view p.scripts.items)) }

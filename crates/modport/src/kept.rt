@@ -1,7 +1,7 @@
 //! What is kept of whose environment modulefiles were shown in.
 
 use crate::fault::PortFault;
-use shownrecords::Owner;
+use shownrecords::Person;
 use std::alloc::Global;
 
 /// The values of HOME and USER in that environment.
@@ -55,8 +55,8 @@ impl Kept {
     }
 
     /// In whose environment modulefiles were shown.
-    pub fn owner(&self) -> Owner<'_> {
-        Owner {
+    pub fn person(&self) -> Person<'_> {
+        Person {
             home: self.home.as_deref(),
             user: self.user.as_deref(),
         }

@@ -7,7 +7,7 @@ ghost use Rattle.computedwords.specs.Walks.{Edit};
 ghost use Rattle.translation.specs.Notes.{Note};
 ghost use Rattle.modport.specs.Accounts.{Accounts, AccountsForCommands};
 ghost use Rattle.shownrecords.specs.Flattened.{flattened};
-ghost use Rattle.shownrecords.specs.Owners.{Owner};
+ghost use Rattle.shownrecords.specs.People.{Person};
 ghost use Rattle.modport.specs.FileAccounts.{AccountsForFile};
 ghost use Rattle.modport.specs.Flattening.{command_line, IsFlattened};
 ghost use Rattle.modport.specs.Lines.{Line};
@@ -51,8 +51,8 @@ pub fn unsaid_is_same()
 /// What is flattened accounts for each command of the file: its text is cut where these begin, and each has a line. So
 /// something is said of each file that is flattened.
 pub fn flattened_accounted_for()
-    ensures commands { (owner : Owner) (shown given flat : Text) (cs : List Command)
-        → Some flat ≡ flattened owner given cs shown → Accounts given flat (map (command_line given) cs) }
-    ensures said { (port : Porting) (owner : Owner) (shown : Text) (how : Writing) (given written : Text)
-        → IsFlattened port owner shown how given written [] → ⊥ }
+    ensures commands { (person : Person) (shown given flat : Text) (cs : List Command)
+        → Some flat ≡ flattened person given cs shown → Accounts given flat (map (command_line given) cs) }
+    ensures said { (port : Porting) (person : Person) (shown : Text) (how : Writing) (given written : Text)
+        → IsFlattened port person shown how given written [] → ⊥ }
 {}

@@ -75,12 +75,12 @@ fn help(rt: &HostRuntime) -> Result<Status, PortFault> {
 
 /// How modulefiles are translated, by what is known of the host, and of whose environment they were shown in.
 fn manner_of<'h>(json: bool, host: &'h [Binding<'h>], kept: &'h Kept) -> Manner<'h> {
-    let owner = kept.owner();
+    let person = kept.person();
     Manner {
         json,
         host,
         left_out: &LEFT_OUT,
-        owner,
+        person,
     }
 }
 

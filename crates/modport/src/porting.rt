@@ -11,7 +11,7 @@ ghost use Rattle.modport.specs.Ported as spec;
 ghost use Rattle.modport.specs.Ported.{HasScriptsOf, IsReported};
 ghost use Rattle.modport.specs.LineViews.{coming_view, now, porting_view};
 ghost use Rattle.modport.specs.Flattening.{IsWritten};
-ghost use Rattle.shownrecords.specs.Views.{owner_view};
+ghost use Rattle.shownrecords.specs.Views.{person_view};
 
 use crate::fault::PortFault;
 use crate::flattening::{Given, or_flattened};
@@ -23,7 +23,7 @@ use computedwords::{Binding, Computed, Edit, compute};
 use families::Home;
 use filetext::FileText;
 use oneversion::with_one_version;
-use shownrecords::Owner;
+use shownrecords::Person;
 use std::alloc::{AllocError, Global};
 use translation::{Note, Translation, translate};
 
@@ -37,7 +37,7 @@ pub struct Manner<'h> {
     /// The names of commands that the profile leaves out.
     pub left_out: &'h [&'h str],
     /// In whose environment modulefiles were shown.
-    pub owner: Owner<'h>,
+    pub person: Person<'h>,
 }
 
 /// What is written for a modulefile.
@@ -215,7 +215,7 @@ fn port_given(
 ) -> Result<Ported, PortFault>
     ensures parses { IfOk result (λ p. Parses (string_bytes p.text)) }
     ensures written { IfOk result (λ p. IsWritten (porting_view manner.entry given.entry.home given.entry.name)
-        (owner_view manner.entry.owner) (now shown.entry) manner.entry.json given.entry.path.now
+        (person_view manner.entry.person) (now shown.entry) manner.entry.json given.entry.path.now
         (coming_view given.entry.coming) given.entry.text.now (string_bytes p.text) p.report.items p.status) }
     ensures scripts { IfOk result (λ p. HasScriptsOf (porting_view manner.entry given.entry.home given.entry.name)
         given.entry.text.now (shell_scripts_view p.scripts.items)) }
@@ -254,7 +254,7 @@ pub fn port_file(
 
     // What is written, and what the report says, is what each step has, one after the other.
     ensures reported { IfOk result (λ p. IsWritten (porting_view manner.entry home.entry name.entry)
-        (owner_view manner.entry.owner) (now shown.entry) manner.entry.json path.now
+        (person_view manner.entry.person) (now shown.entry) manner.entry.json path.now
         (record { mark = file.mark; latin = file.latin; returns = file.returns }) file.text.items (string_bytes p.text)
         p.report.items p.status) }
 

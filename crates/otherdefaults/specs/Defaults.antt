@@ -39,6 +39,11 @@ pub data Taken : Type 0 where
   takes : (version : Text) → Taken
   unclear : Taken
 
+-- another program
+pub data Program : Type 0 where
+  environment_modules : Program
+  lmod : Program
+
 -- Names
 
 -- the name of a version of a folder
@@ -114,20 +119,23 @@ one_of names name = find (bytes_eq name) names
 unfoldable pub is_hidden : Text → Bool
 is_hidden name = begins (codes ".") name
 
--- Environment Modules
-
--- a backup of an editor or of RCS
-unfoldable pub is_backup : Text → Bool
-is_backup name =
+-- what is no modulefile for the program: backups of editors and of RCS, and for Lmod other names with their marks
+unfoldable pub passes_over : Program → Text → Bool
+passes_over environment_modules name =
     ends (codes "~") name || (ends (codes ",v") name || (begins (codes "#") name && ends (codes "#") name))
+passes_over lmod name =
+    ends (codes "~") name || (begins (codes "#") name || (ends (codes "#") name || (begins (codes ".#") name
+    || begins (codes "__") name)))
 
--- a file that can be a modulefile
-unfoldable pub modules_reads : Text → Bool
-modules_reads name = not (is_backup name)
+-- the names that are of modulefiles for the program
+unfoldable pub modulefiles : Program → List Text → List Text
+modulefiles program names = filter (λ name. not (passes_over program name)) names
 
--- what can be the greatest
-unfoldable pub modules_shows : Text → Bool
-modules_shows name = not (is_backup name) && not (is_hidden name)
+-- those of these that can be the greatest
+unfoldable pub visible : Program → List Text → List Text
+visible program names = filter (λ name. not (is_hidden name)) (modulefiles program names)
+
+-- Environment Modules
 
 abbrev pub single : Text → Option Text
 single version = if has_slash version then None else Some version
@@ -173,22 +181,10 @@ modules_greatest versions (name ∷ names) =
     taken_version (option_and_then (one_of versions) (greatest dictionary_order (name ∷ names)))
 
 unfoldable pub modules_takes : Folder → Option Text → Taken
-modules_takes f None = modules_greatest f.versions (filter modules_shows (f.versions ++ f.folders))
-modules_takes f (Some version) = taken_version (one_of (filter modules_reads f.versions) version)
+modules_takes f None = modules_greatest f.versions (visible environment_modules (f.versions ++ f.folders))
+modules_takes f (Some version) = taken_version (one_of (modulefiles environment_modules f.versions) version)
 
 -- Lmod
-
--- a file that it passes over
-unfoldable pub is_left_out : Text → Bool
-is_left_out name =
-    ends (codes "~") name || (begins (codes "#") name || (ends (codes "#") name || (begins (codes ".#") name
-    || begins (codes "__") name)))
-
-unfoldable pub lmod_reads : Text → Bool
-lmod_reads name = not (is_left_out name)
-
-unfoldable pub lmod_shows : Text → Bool
-lmod_shows name = not (is_left_out name) && not (is_hidden name)
 
 -- a name that begins with a slash is of the folder
 unfoldable pub lmod_full : Text → Text → Text
@@ -223,17 +219,18 @@ lmod_greatest (name ∷ names) = taken_version (greatest lmod_order (name ∷ na
 
 -- Where there are folders in it, and no default file, it is a part of other names, and none itself.
 unfoldable pub lmod_unnamed : Folder → List Text → Taken
-lmod_unnamed f [] = lmod_greatest (filter lmod_shows f.versions)
+lmod_unnamed f [] = lmod_greatest (visible lmod f.versions)
 lmod_unnamed f (folder ∷ folders) = if has_default_file f then unclear else nothing
 
 unfoldable pub lmod_takes : Folder → Option Text → Taken
 lmod_takes f None = lmod_unnamed f f.folders
-lmod_takes f (Some value) = taken_version (find (is_meant f.name value) (filter lmod_reads f.versions))
+lmod_takes f (Some value) = taken_version (find (is_meant f.name value) (modulefiles lmod f.versions))
 
 -- This tool
 
-unfoldable pub is_candidate : Text → Text → Bool
-is_candidate folder version = is_module_name (full folder version)
+-- a version that this tool has
+unfoldable pub is_own : Text → Text → Bool
+is_own folder version = is_module_name (full folder version)
 
 unfoldable pub own_version : Text → Text → Option Text
 own_version folder name = option_or (in_folder folder name) (in_this name)
@@ -243,22 +240,17 @@ own_named_in folder None = None
 own_named_in folder (Some file) = last_named (own_version folder) file.statements
 
 unfoldable pub own_named : Folder → List Text → Option Text
-own_named f candidates =
-    option_or (option_and_then (one_of candidates) (own_named_in f.name f.modulerc))
-    (option_and_then (one_of candidates) (set_in f.version))
+own_named f versions =
+    option_or (option_and_then (one_of versions) (own_named_in f.name f.modulerc))
+    (option_and_then (one_of versions) (set_in f.version))
 
 unfoldable pub own_among : Folder → List Text → Option Text
-own_among f candidates = option_or (own_named f candidates) (greatest version_order candidates)
+own_among f versions = option_or (own_named f versions) (greatest version_order versions)
 
 unfoldable pub own_default : Folder → Option Text
-own_default f = own_among f (filter (is_candidate f.name) f.versions)
+own_default f = own_among f (filter (is_own f.name) f.versions)
 
 -- What is to be named
-
--- another program
-pub data Program : Type 0 where
-  environment_modules : Program
-  lmod : Program
 
 unfoldable pub taken_by : Program → Folder → Taken
 taken_by environment_modules f = modules_takes f (modules_named f)

@@ -6,6 +6,7 @@ pub mod PartViews
 pub mod Said
 pub mod SaidViews
 pub mod Defaults
+pub mod ProgramViews
 pub mod FolderViews
 pub mod FindingViews
 pub mod Written

@@ -100,14 +100,14 @@ is_word [] = false
 is_word (c ∷ cs) = c == 42
 
 -- Zeros at the end of a series of numbers don't count, nor does a dash before a word, nor one at the end.
-unfoldable pub settled : List Text → Text → List Text
-settled parts next =
+unfoldable pub that_count : List Text → Text → List Text
+that_count parts next =
     if bytes_eq next end_part then without_end patch_part (without_end zero_part parts)
     else if is_word next then without_end zero_part (without_end patch_part parts)
     else parts
 
 unfoldable pub with_part : List Text → Text → List Text
-with_part parts next = settled parts next ++ next ∷ []
+with_part parts next = that_count parts next ++ next ∷ []
 
 -- these parts, and others behind them
 abbrev pub canonical_parts : List Text → List Text → List Text

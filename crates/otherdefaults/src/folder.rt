@@ -52,9 +52,8 @@ pub(crate) fn last_set(statements: &[Statement]) -> Option<&[u8]>
 {
     let mut last = None;
     for statement in statements {
-        match statement {
-            Statement::Version(version) => last = Some(version.as_slice()),
-            Statement::Default(_) | Statement::Symbols => {}
+        if let Statement::Version(version) = statement {
+            last = Some(version.as_slice());
         }
     }
     last

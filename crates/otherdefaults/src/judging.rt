@@ -3,8 +3,9 @@ ghost use Rattle.std.specs.Prelude.{◌≡◌, filter, option_and_then, IfOk};
 ghost use Rattle.std.specs.Option.{option_map};
 ghost use Rattle.portforms.specs.Words.{texts};
 ghost use Rattle.otherdefaults.specs.Defaults as spec;
-ghost use Rattle.otherdefaults.specs.FindingViews.{finding_view, program_view};
+ghost use Rattle.otherdefaults.specs.FindingViews.{finding_view};
 ghost use Rattle.otherdefaults.specs.FolderViews.{file_view, folder_view, taken_view};
+ghost use Rattle.otherdefaults.specs.ProgramViews.{program_view};
 ghost use Rattle.otherdefaults.specs.SaidViews.{statements_view};
 
 use crate::folder::{DefaultFile, Folder, Taken, set_in};
@@ -12,18 +13,10 @@ use crate::greatest::{Order, greatest, one_of};
 use crate::lmod::lmod_takes;
 use crate::modules::modules_take;
 use crate::names::{can_be_named, full, in_folder, in_this};
+use crate::programs::Program;
 use crate::said::Statement;
 use modulename::is_module_name;
 use std::alloc::{AllocError, Global};
-
-/// Another program.
-#[derive(Clone, Copy, Debug, PartialEq, Eq)]
-pub enum Program {
-    /// Environment Modules.
-    EnvironmentModules,
-    /// Lmod.
-    Lmod,
-}
 
 /// What is to be done in a folder, so that this tool loads what the other program does.
 #[derive(Clone, Copy, Debug)]
@@ -88,73 +81,73 @@ fn named_in<'f>(
     }
 }
 
-/// The name, where it is one of these.
-fn candidate<'f>(candidates: &[&'f str], name: Option<&[u8]>) -> Option<&'f str>
+/// The version of this name, where it is one of these.
+fn version_of<'f>(versions: &[&'f str], name: Option<&[u8]>) -> Option<&'f str>
     ensures { option_map (λ v. v.now) result
-        ≡ option_and_then (spec.one_of (texts candidates.now)) (option_map (λ t. t.now) name.entry) }
+        ≡ option_and_then (spec.one_of (texts versions.now)) (option_map (λ t. t.now) name.entry) }
 {
     match name {
-        Some(name) => one_of(candidates, name),
+        Some(name) => one_of(versions, name),
         None => None,
     }
 }
 
-/// The candidate that default files name.
+/// The version of these that default files name.
 #[tactic(auto, unfolding(crate::specs::Defaults::own_named))]
 fn named<'f>(
     alloc: Global,
     folder: Folder<'f>,
-    candidates: &[&'f str],
+    versions: &[&'f str],
 ) -> Result<Option<&'f str>, AllocError>
     ensures { IfOk result (λ version. option_map (λ v. v.now) version
-        ≡ spec.own_named (folder_view folder.entry) (texts candidates.now)) }
+        ≡ spec.own_named (folder_view folder.entry) (texts versions.now)) }
 {
     let named = named_in(alloc, folder.name.as_bytes(), folder.modulerc)?;
-    if let Some(version) = candidate(candidates, named) {
+    if let Some(version) = version_of(versions, named) {
         return Ok(Some(version));
     }
-    Ok(candidate(candidates, set_in(folder.version)))
+    Ok(version_of(versions, set_in(folder.version)))
 }
 
 /// Whether this tool has the version of the folder.
-#[tactic(auto, unfolding(crate::specs::Defaults::is_candidate))]
-fn is_candidate(alloc: Global, folder: &str, version: &str) -> Result<bool, AllocError>
-    ensures { IfOk result (λ is. is ≡ spec.is_candidate folder.now version.now) }
+#[tactic(auto, unfolding(crate::specs::Defaults::is_own))]
+fn is_own(alloc: Global, folder: &str, version: &str) -> Result<bool, AllocError>
+    ensures { IfOk result (λ is. is ≡ spec.is_own folder.now version.now) }
 {
     let name = full(alloc, folder, version)?;
     Ok(is_module_name(name.as_str()))
 }
 
 /// Those of the versions of the folder that this tool has.
-fn candidates<'f>(
+fn own_versions<'f>(
     alloc: Global,
     folder: &str,
     versions: &[&'f str],
 ) -> Result<Vec<&'f str>, AllocError>
-    ensures { IfOk result (λ vs. texts vs.items ≡ filter (spec.is_candidate folder.now) (texts versions.now)) }
+    ensures { IfOk result (λ vs. texts vs.items ≡ filter (spec.is_own folder.now) (texts versions.now)) }
 {
     let mut found = Vec::new(alloc);
     for version in versions {
-        if is_candidate(alloc, folder, version)? {
+        if is_own(alloc, folder, version)? {
             found.push(*version)?;
         }
     }
     Ok(found)
 }
 
-/// The candidate that is loaded.
+/// The version of these that is loaded.
 #[tactic(auto, unfolding(crate::specs::Defaults::own_among))]
 fn own_among<'f>(
     alloc: Global,
     folder: Folder<'f>,
-    candidates: &[&'f str],
+    versions: &[&'f str],
 ) -> Result<Option<&'f str>, AllocError>
     ensures { IfOk result (λ version. option_map (λ v. v.now) version
-        ≡ spec.own_among (folder_view folder.entry) (texts candidates.now)) }
+        ≡ spec.own_among (folder_view folder.entry) (texts versions.now)) }
 {
-    match named(alloc, folder, candidates)? {
+    match named(alloc, folder, versions)? {
         Some(version) => Ok(Some(version)),
-        None => greatest(alloc, Order::Own, candidates),
+        None => greatest(alloc, Order::Own, versions),
     }
 }
 
@@ -163,8 +156,8 @@ fn own_among<'f>(
 fn own_default<'f>(alloc: Global, folder: Folder<'f>) -> Result<Option<&'f str>, AllocError>
     ensures { IfOk result (λ version. option_map (λ v. v.now) version ≡ spec.own_default (folder_view folder.entry)) }
 {
-    let candidates = candidates(alloc, folder.name, folder.versions)?;
-    own_among(alloc, folder, candidates.as_slice())
+    let versions = own_versions(alloc, folder.name, folder.versions)?;
+    own_among(alloc, folder, versions.as_slice())
 }
 
 /// Whether this is the version.

@@ -11,10 +11,12 @@ mod lmod_versions;
 mod modules;
 mod names;
 mod pieces;
+mod programs;
 mod said;
 mod written;
 
 pub use folder::{DefaultFile, Folder};
-pub use judging::{Finding, Program, judge};
+pub use judging::{Finding, judge};
+pub use programs::Program;
 pub use said::{Statement, statements_said};
 pub use written::with_default;

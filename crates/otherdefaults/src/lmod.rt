@@ -1,5 +1,5 @@
 //! Which version Lmod loads.
-ghost use Rattle.std.specs.Prelude.{◌≡◌, filter, find, Some, IfOk};
+ghost use Rattle.std.specs.Prelude.{◌≡◌, find, Some, IfOk};
 ghost use Rattle.std.specs.Option.{option_map};
 ghost use Rattle.portforms.specs.Words.{texts};
 ghost use Rattle.otherdefaults.specs.Defaults as spec;
@@ -8,65 +8,10 @@ ghost use Rattle.otherdefaults.specs.SaidViews.{statements_view};
 
 use crate::folder::{DefaultFile, Folder, Taken, last_set, taken_version};
 use crate::greatest::{Order, greatest, one_of};
-use crate::modules::is_hidden;
 use crate::names::full;
-use crate::said::{Statement, begins, ends};
+use crate::programs::{Program, modulefiles, visible};
+use crate::said::{Statement, begins};
 use std::alloc::{AllocError, Global};
-
-/// Whether the file is passed over.
-#[tactic(auto, unfolding(crate::specs::Defaults::is_left_out))]
-fn is_left_out(name: &str) -> bool
-    ensures { result ≡ spec.is_left_out name.now }
-{
-    let name = name.as_bytes();
-    ends(b"~", name)
-        || begins(b"#", name)
-        || ends(b"#", name)
-        || begins(b".#", name)
-        || begins(b"__", name)
-}
-
-/// Whether the file can be a modulefile.
-#[tactic(auto, unfolding(crate::specs::Defaults::lmod_reads))]
-fn is_read(name: &str) -> bool
-    ensures { result ≡ spec.lmod_reads name.now }
-{
-    !is_left_out(name)
-}
-
-/// Whether the file can be the greatest.
-#[tactic(auto, unfolding(crate::specs::Defaults::lmod_shows))]
-fn is_shown(name: &str) -> bool
-    ensures { result ≡ spec.lmod_shows name.now }
-{
-    !is_left_out(name) && !is_hidden(name)
-}
-
-/// Those of the names that can be modulefiles.
-fn read_among<'f>(alloc: Global, names: &[&'f str]) -> Result<Vec<&'f str>, AllocError>
-    ensures { IfOk result (λ ns. texts ns.items ≡ filter spec.lmod_reads (texts names.now)) }
-{
-    let mut found = Vec::new(alloc);
-    for name in names {
-        if is_read(name) {
-            found.push(*name)?;
-        }
-    }
-    Ok(found)
-}
-
-/// Those of the names that can be the greatest.
-fn shown_among<'f>(alloc: Global, names: &[&'f str]) -> Result<Vec<&'f str>, AllocError>
-    ensures { IfOk result (λ ns. texts ns.items ≡ filter spec.lmod_shows (texts names.now)) }
-{
-    let mut found = Vec::new(alloc);
-    for name in names {
-        if is_shown(name) {
-            found.push(*name)?;
-        }
-    }
-    Ok(found)
-}
 
 /// A name of a default file in full, where it begins with a slash; else it is as it is.
 #[tactic(auto, unfolding(crate::specs::Defaults::lmod_full))]
@@ -87,9 +32,8 @@ fn last_named(statements: &[Statement]) -> Option<&[u8]>
 {
     let mut last = None;
     for statement in statements {
-        match statement {
-            Statement::Default(name) => last = Some(name.as_slice()),
-            Statement::Version(_) | Statement::Symbols => {}
+        if let Statement::Default(name) = statement {
+            last = Some(name.as_slice());
         }
     }
     last
@@ -222,8 +166,8 @@ fn unnamed<'f>(alloc: Global, folder: Folder<'f>) -> Result<Taken<'f>, AllocErro
 {
     match folder.folders {
         [] => {
-            let shown = shown_among(alloc, folder.versions)?;
-            greatest_among(alloc, shown.as_slice())
+            let names = visible(alloc, Program::Lmod, folder.versions)?;
+            greatest_among(alloc, names.as_slice())
         }
         [_, ..] => {
             if has_default_file(folder) {
@@ -247,8 +191,8 @@ fn taken<'f>(
 {
     match value {
         Some(value) => {
-            let read = read_among(alloc, folder.versions)?;
-            let found = meant_among(alloc, folder.name, value.as_slice(), read.as_slice())?;
+            let names = modulefiles(alloc, Program::Lmod, folder.versions)?;
+            let found = meant_among(alloc, folder.name, value.as_slice(), names.as_slice())?;
             Ok(taken_version(found))
         }
         None => unnamed(alloc, folder),

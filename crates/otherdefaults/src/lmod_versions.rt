@@ -207,9 +207,9 @@ fn is_word(part: &[u8]) -> bool
 }
 
 /// Takes the parts at the end away that don't count before this one.
-#[tactic(auto, unfolding(crate::specs::LmodVersions::settled))]
-fn settle(parts: &mut Vec<Vec<u8>>, next: &[u8])
-    ensures { contents parts.new.items ≡ spec.settled (contents parts.old.items) next.now }
+#[tactic(auto, unfolding(crate::specs::LmodVersions::that_count))]
+fn drop_others(parts: &mut Vec<Vec<u8>>, next: &[u8])
+    ensures { contents parts.new.items ≡ spec.that_count (contents parts.old.items) next.now }
 {
     if next == END {
         drop_end(parts, ZERO);
@@ -225,7 +225,7 @@ fn settle(parts: &mut Vec<Vec<u8>>, next: &[u8])
 fn add_part(alloc: Global, parts: &mut Vec<Vec<u8>>, next: &[u8]) -> Result<(), AllocError>
     ensures { OnOk result (contents parts.new.items ≡ spec.with_part (contents parts.old.items) next.now) }
 {
-    settle(parts, next);
+    drop_others(parts, next);
     Ok(parts.push(Vec::from_slice(alloc, next)?)?)
 }
 

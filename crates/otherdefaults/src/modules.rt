@@ -1,5 +1,5 @@
 //! Which version Environment Modules loads.
-ghost use Rattle.std.specs.Prelude.{◌≡◌, ◌++◌, filter, IfOk};
+ghost use Rattle.std.specs.Prelude.{◌≡◌, ◌++◌, IfOk};
 ghost use Rattle.std.specs.Option.{option_map};
 ghost use Rattle.portforms.specs.Words.{texts};
 ghost use Rattle.otherdefaults.specs.Defaults as spec;
@@ -9,67 +9,9 @@ ghost use Rattle.otherdefaults.specs.SaidViews.{statements_view};
 use crate::folder::{DefaultFile, Folder, Taken, set_in, taken_version};
 use crate::greatest::{Order, greatest, one_of};
 use crate::names::{in_folder, in_this, last_part, single};
-use crate::said::{Statement, begins, ends};
+use crate::programs::{Program, modulefiles, visible};
+use crate::said::Statement;
 use std::alloc::{AllocError, Global};
-
-/// Whether the file is hidden.
-#[tactic(auto, unfolding(crate::specs::Defaults::is_hidden))]
-pub(crate) fn is_hidden(name: &str) -> bool
-    ensures { result ≡ spec.is_hidden name.now }
-{
-    begins(b".", name.as_bytes())
-}
-
-/// Whether the file is a backup of an editor or of RCS.
-#[tactic(auto, unfolding(crate::specs::Defaults::is_backup))]
-fn is_backup(name: &str) -> bool
-    ensures { result ≡ spec.is_backup name.now }
-{
-    let name = name.as_bytes();
-    ends(b"~", name) || ends(b",v", name) || (begins(b"#", name) && ends(b"#", name))
-}
-
-/// Whether the file can be a modulefile.
-#[tactic(auto, unfolding(crate::specs::Defaults::modules_reads))]
-fn is_read(name: &str) -> bool
-    ensures { result ≡ spec.modules_reads name.now }
-{
-    !is_backup(name)
-}
-
-/// Whether the file can be the greatest.
-#[tactic(auto, unfolding(crate::specs::Defaults::modules_shows))]
-fn is_shown(name: &str) -> bool
-    ensures { result ≡ spec.modules_shows name.now }
-{
-    !is_backup(name) && !is_hidden(name)
-}
-
-/// Those of the names that can be modulefiles.
-fn read_among<'f>(alloc: Global, names: &[&'f str]) -> Result<Vec<&'f str>, AllocError>
-    ensures { IfOk result (λ ns. texts ns.items ≡ filter spec.modules_reads (texts names.now)) }
-{
-    let mut found = Vec::new(alloc);
-    for name in names {
-        if is_read(name) {
-            found.push(*name)?;
-        }
-    }
-    Ok(found)
-}
-
-/// Those of the names that can be the greatest.
-fn shown_among<'f>(alloc: Global, names: &[&'f str]) -> Result<Vec<&'f str>, AllocError>
-    ensures { IfOk result (λ ns. texts ns.items ≡ filter spec.modules_shows (texts names.now)) }
-{
-    let mut found = Vec::new(alloc);
-    for name in names {
-        if is_shown(name) {
-            found.push(*name)?;
-        }
-    }
-    Ok(found)
-}
 
 /// The version of a name in a default file of the folder itself.
 #[tactic(auto, unfolding(crate::specs::Defaults::named_inside))]
@@ -245,13 +187,13 @@ fn taken<'f>(
 {
     match named {
         Some(version) => {
-            let read = read_among(alloc, folder.versions)?;
-            Ok(taken_version(one_of(read.as_slice(), version)))
+            let found = modulefiles(alloc, Program::EnvironmentModules, folder.versions)?;
+            Ok(taken_version(one_of(found.as_slice(), version)))
         }
         None => {
             let all = both(alloc, folder.versions, folder.folders)?;
-            let shown = shown_among(alloc, all.as_slice())?;
-            greatest_among(alloc, folder.versions, shown.as_slice())
+            let names = visible(alloc, Program::EnvironmentModules, all.as_slice())?;
+            greatest_among(alloc, folder.versions, names.as_slice())
         }
     }
 }

@@ -176,6 +176,7 @@ fn statement_in(alloc: Global, command: &Command<&str>) -> Result<Option<Stateme
 }
 
 /// What commands say.
+#[tactic(auto, using(crate::proofs::Turns::onto_none, crate::proofs::Turns::turn, crate::proofs::Turns::ended))]
 fn statements_among(
     alloc: Global,
     commands: &[Command<&str>],
@@ -194,7 +195,10 @@ fn statements_among(
 }
 
 /// What the commands of a script say.
-fn statements_of(alloc: Global, script: &Script<&str>) -> Result<Option<Vec<Statement>>, AllocError>
+pub(crate) fn statements_of(
+    alloc: Global,
+    script: &Script<&str>,
+) -> Result<Option<Vec<Statement>>, AllocError>
     ensures { IfOk result (λ said. option_map (λ ss. statements_view ss.items) said
         ≡ spec.statements_of (commands_in (script_view (λ piece. piece.now) script.now))) }
 {

@@ -1,60 +1,61 @@
 //! A default file that names a version.
 ghost use Rattle.std.specs.Prelude.{◌≡◌, ◌++◌, true, IfOk, IfSome, OnOk, string_bytes};
 ghost use Rattle.std.specs.Option.{option_map};
-ghost use Rattle.tclscript.specs.Text.{IsWithin};
+ghost use Rattle.tclscript.specs.Text.{IsWithin, script_of};
 ghost use Rattle.tclscript.specs.Tree.{Commands};
+ghost use Rattle.tclscript.specs.View.{script_view};
 ghost use Rattle.portforms.specs.Words.{commands_in};
-ghost use Rattle.scripttext.specs.ScriptTexts.{Parses};
 ghost use Rattle.otherdefaults.specs.Defaults.{full};
 ghost use Rattle.otherdefaults.specs.Said.{statements_of};
 ghost use Rattle.otherdefaults.specs.SaidViews.{statements_view};
 ghost use Rattle.otherdefaults.specs.Written as spec;
 
 use crate::judging::last_named;
-use crate::said::{Statement, ends, statements_said};
-use scripttext::script_text;
+use crate::said::{Statement, ends, statements_of};
+use portforms::judged;
 use std::alloc::{AllocError, Global};
-use tclchars::TextFault;
+use tclscript::{Script, parse_script};
 
 /// Ends the last line of a text, where it isn't ended.
-fn end_line(text: &mut Vec<u8>) -> Result<(), AllocError>
-    ensures { OnOk result (text.new.items ≡ spec.in_lines text.old.items) }
+fn end_line(text: &mut String) -> Result<(), AllocError>
+    ensures { OnOk result (string_bytes text.new ≡ spec.in_lines (string_bytes text.old)) }
 {
-    if text.is_empty() || ends(b"\n", text.as_slice()) {
+    if text.is_empty() || ends(b"\n", text.as_bytes()) {
         Ok(())
     } else {
-        Ok(text.push(b'\n')?)
+        text.push_str("\n")
     }
+}
+
+/// Adds the name of a version of a folder.
+fn push_full(text: &mut String, folder: &str, version: &str) -> Result<(), AllocError>
+    ensures { OnOk result (string_bytes text.new ≡ string_bytes text.old ++ full folder.now version.now) }
+{
+    text.push_str(folder)?;
+    text.push_str("/")?;
+    text.push_str(version)
 }
 
 /// Adds the name of the command.
 #[tactic(auto, unfolding(crate::specs::Written::command))]
-fn push_name(text: &mut Vec<u8>) -> Result<(), AllocError>
-    ensures { OnOk result (text.new.items ≡ text.old.items ++ spec.command) }
+fn push_name(text: &mut String) -> Result<(), AllocError>
+    ensures { OnOk result (string_bytes text.new ≡ string_bytes text.old ++ spec.command) }
 {
-    text.extend_from_slice(b"module-version ")
+    text.push_str("module-version ")
 }
 
 /// Adds the version symbol.
 #[tactic(auto, unfolding(crate::specs::Written::symbol))]
-fn push_symbol(text: &mut Vec<u8>) -> Result<(), AllocError>
-    ensures { OnOk result (text.new.items ≡ text.old.items ++ spec.symbol) }
+fn push_symbol(text: &mut String) -> Result<(), AllocError>
+    ensures { OnOk result (string_bytes text.new ≡ string_bytes text.old ++ spec.symbol) }
 {
-    text.extend_from_slice(b" default\n")
-}
-
-/// Adds the name of a version of a folder.
-fn push_full(text: &mut Vec<u8>, folder: &str, version: &str) -> Result<(), AllocError>
-    ensures { OnOk result (text.new.items ≡ text.old.items ++ full folder.now version.now) }
-{
-    text.extend_from_slice(folder.as_bytes())?;
-    text.push(b'/')?;
-    text.extend_from_slice(version.as_bytes())
+    text.push_str(" default\n")
 }
 
 /// Adds a command that names the version of the folder.
-fn push_command(text: &mut Vec<u8>, folder: &str, version: &str) -> Result<(), AllocError>
-    ensures { OnOk result (text.new.items ≡ text.old.items ++ spec.command_of folder.now version.now) }
+fn push_command(text: &mut String, folder: &str, version: &str) -> Result<(), AllocError>
+    ensures { OnOk result (string_bytes text.new
+        ≡ string_bytes text.old ++ spec.command_of folder.now version.now) }
 {
     push_name(text)?;
     push_full(text, folder, version)?;
@@ -62,10 +63,10 @@ fn push_command(text: &mut Vec<u8>, folder: &str, version: &str) -> Result<(), A
 }
 
 /// The text with a command behind it that names the version of the folder.
-fn text_with(alloc: Global, text: &str, folder: &str, version: &str) -> Result<Vec<u8>, AllocError>
-    ensures { IfOk result (λ t. t.items ≡ spec.with_default text.now folder.now version.now) }
+fn text_with(alloc: Global, text: &str, folder: &str, version: &str) -> Result<String, AllocError>
+    ensures { IfOk result (λ t. string_bytes t ≡ spec.text_with folder.now version.now text.now) }
 {
-    let mut whole = Vec::from_slice(alloc, text.as_bytes())?;
+    let mut whole = String::from_str(alloc, text)?;
     end_line(&mut whole)?;
     push_command(&mut whole, folder, version)?;
     Ok(whole)
@@ -100,48 +101,57 @@ fn names_version(
     }
 }
 
-/// Whether the text is a default file that names the version of the folder.
-fn says(alloc: Global, text: &str, folder: &str, version: &str) -> Result<bool, AllocError>
-    ensures { IfOk result (λ is. is ≡ true → (s : Commands) × IsWithin text.now s
-        × (spec.names_version folder.now version.now (statements_of (commands_in s)) ≡ true)) }
+/// Whether the script is a default file that names the version of the folder.
+fn script_says(
+    alloc: Global,
+    folder: &str,
+    version: &str,
+    script: &Script<&str>,
+) -> Result<bool, AllocError>
+    ensures { IfOk result (λ is. is ≡ spec.names_version folder.now version.now
+        (statements_of (commands_in (script_view (λ piece. piece.now) script.now)))) }
 {
-    match statements_said(alloc, text) {
-        Ok(said) => names_version(alloc, folder, version, said),
-        Err(TextFault::OutOfMemory) => Err(AllocError),
-        Err(_) => Ok(false),
+    let statements = statements_of(alloc, script)?;
+    names_version(alloc, folder, version, statements)
+}
+
+/// Whether the text is a default file that names the version of the folder.
+#[tactic(auto, using(portforms::proofs::Refused::refused))]
+fn says(alloc: Global, folder: &str, version: &str, text: &str) -> Result<bool, AllocError>
+    ensures { IfOk result (λ is. is ≡ spec.says folder.now version.now (script_of text.now)) }
+{
+    match parse_script(alloc, text) {
+        Ok(script) => script_says(alloc, folder, version, &script),
+        Err(fault) => {
+            judged(&fault)?;
+            Ok(false)
+        }
     }
 }
 
-/// A default file with a command behind it that names a version of a folder; none where that would be no default file
-/// that names it.
+/// A default file with a command behind it that names a version of a folder; none where that is no default file that
+/// names it.
 ///
 /// The error: want of memory.
+#[tactic(auto, using(crate::proofs::WrittenNames::names))]
 pub fn with_default(
     alloc: Global,
     text: &str,
     folder: &str,
     version: &str,
 ) -> Result<Option<String>, AllocError>
-    // It is the text and the command.
-    ensures written { IfOk result (λ t. IfSome t (λ w. string_bytes w
-        ≡ spec.with_default text.now folder.now version.now)) }
+    // It is the text and the command, where these name the version, and nothing elsewhere.
+    ensures found { IfOk result (λ t. option_map string_bytes t
+        ≡ spec.with_default folder.now version.now text.now) }
 
-    // It parses.
-    ensures parses { IfOk result (λ t. IfSome t (λ w. Parses (string_bytes w))) }
-
-    // It names the version.
+    // It parses, and its statements name the version.
     ensures names { IfOk result (λ t. IfSome t (λ w. (s : Commands) × IsWithin (string_bytes w) s
         × (spec.names_version folder.now version.now (statements_of (commands_in s)) ≡ true))) }
 {
-    let bytes = text_with(alloc, text, folder, version)?;
-    match script_text(alloc, bytes)? {
-        Some(written) => {
-            if says(alloc, written.as_str(), folder, version)? {
-                Ok(Some(written))
-            } else {
-                Ok(None)
-            }
-        }
-        None => Ok(None),
+    let whole = text_with(alloc, text, folder, version)?;
+    if says(alloc, folder, version, whole.as_str())? {
+        Ok(Some(whole))
+    } else {
+        Ok(None)
     }
 }

@@ -3,7 +3,7 @@ use Rattle.std.proofs.Common.{◌≡◌, ◌==◌, ℕ, suc, false, List, [], �
 use Rattle.std.proofs.lemmas.Bool.Decides.{nat_tests}
 use Rattle.tclchars.specs.Runs.{Text}
 use Rattle.shownrecords.specs.Flattened.{same_texts, say}
-use Rattle.shownrecords.specs.Owners.{Owner}
+use Rattle.shownrecords.specs.People.{Person}
 
 more : (n : ℕ) → (suc n == 0) ≡ false
 more n = grind (arith, nat_tests)
@@ -12,6 +12,6 @@ pub no_text : {A : Type 0} (view : A → Text) (xs : List A) → (length xs == 0
 no_text view [] = refl
 no_text view (x ∷ xs) = more (length xs)
 
-pub no_command : {A : Type 0} (view : A → List Text) (owner : Owner) (xs : List A) → (length xs == 0) ≡ say owner [] (map view xs)
-no_command view owner [] = refl
-no_command view owner (x ∷ xs) = more (length xs)
+pub no_command : {A : Type 0} (view : A → List Text) (person : Person) (xs : List A) → (length xs == 0) ≡ say person [] (map view xs)
+no_command view person [] = refl
+no_command view person (x ∷ xs) = more (length xs)

@@ -5,21 +5,21 @@ use Rattle.std.specs.declared.alloc.Global.{Global}
 use Rattle.std.specs.declared.string.String.{String}
 use Rattle.tclchars.specs.Runs.{Text}
 use Rattle.tcllist.specs.Lists.{list_text}
-use Rattle.shownrecords.specs.Owners.{Owner}
+use Rattle.shownrecords.specs.People.{Person}
 use Rattle.shownrecords.specs.Writing.{command_text, values_at, values_text}
 
-abbrev line_at : Owner → ℕ → List Text → Text
-line_at owner n words = list_text (take n words) ++ (values_text owner (drop n words) ++ 10 ∷ [])
+abbrev line_at : Person → ℕ → List Text → Text
+line_at person n words = list_text (take n words) ++ (values_text person (drop n words) ++ 10 ∷ [])
 
-pub command_is : (owner : Owner) (words front values : List (String Global)) (n : ℕ) (old listed valued ended : Text)
+pub command_is : (person : Person) (words front values : List (String Global)) (n : ℕ) (old listed valued ended : Text)
     → n ≡ values_at (map string_bytes words) → front ≡ take n words → values ≡ drop n words → listed ≡ old ++ list_text (map string_bytes front)
-    → valued ≡ listed ++ values_text owner (map string_bytes values) → ended ≡ valued ++ 10 ∷ [] → ended ≡ old ++ command_text owner (map string_bytes words)
-command_is owner words front values n old listed valued ended k f v a b d =
-    d ∙ (ap (λ (t : Text). t ++ 10 ∷ []) (b ∙ ap (λ (t : Text). t ++ values_text owner (map string_bytes values)) a)
-    ∙ (append_assoc (old ++ list_text (map string_bytes front)) (values_text owner (map string_bytes values)) (10 ∷ [])
-    ∙ (append_assoc old (list_text (map string_bytes front)) (values_text owner (map string_bytes values) ++ 10 ∷ [])
-    ∙ (ap (λ (ws : List Text). old ++ (list_text ws ++ (values_text owner (map string_bytes values) ++ 10 ∷ [])))
+    → valued ≡ listed ++ values_text person (map string_bytes values) → ended ≡ valued ++ 10 ∷ [] → ended ≡ old ++ command_text person (map string_bytes words)
+command_is person words front values n old listed valued ended k f v a b d =
+    d ∙ (ap (λ (t : Text). t ++ 10 ∷ []) (b ∙ ap (λ (t : Text). t ++ values_text person (map string_bytes values)) a)
+    ∙ (append_assoc (old ++ list_text (map string_bytes front)) (values_text person (map string_bytes values)) (10 ∷ [])
+    ∙ (append_assoc old (list_text (map string_bytes front)) (values_text person (map string_bytes values) ++ 10 ∷ [])
+    ∙ (ap (λ (ws : List Text). old ++ (list_text ws ++ (values_text person (map string_bytes values) ++ 10 ∷ [])))
     (ap (map string_bytes) f ∙ sym (take-map string_bytes n words))
-    ∙ (ap (λ (ws : List Text). old ++ (list_text (take n (map string_bytes words)) ++ (values_text owner ws ++ 10 ∷ [])))
+    ∙ (ap (λ (ws : List Text). old ++ (list_text (take n (map string_bytes words)) ++ (values_text person ws ++ 10 ∷ [])))
     (ap (map string_bytes) v ∙ sym (drop-map string_bytes n words))
-    ∙ ap (λ (m : ℕ). old ++ line_at owner m (map string_bytes words)) k)))))
+    ∙ ap (λ (m : ℕ). old ++ line_at person m (map string_bytes words)) k)))))

@@ -12,7 +12,7 @@ use Rattle.tclscript.specs.Tree.{Command, Commands}
 use Rattle.tclscript.proofs.Whole.{tree_is}
 use Rattle.portforms.specs.Words.{commands_in}
 use Rattle.shownrecords.specs.Flattened.{flattened, if_says, in_place, is_same, same_texts, say, saying, says, SaysShown}
-use Rattle.shownrecords.specs.Owners.{Owner}
+use Rattle.shownrecords.specs.People.{Person}
 use Rattle.shownrecords.specs.Saying.{said}
 use Rattle.shownrecords.specs.Shown.{shown_commands}
 
@@ -32,44 +32,44 @@ words_are : (words : List Text) (said_ : Option (List Text)) → is_same words s
 words_are words None h = let never : false ≡ true = h in cc
 words_are words (Some others) h = ap (λ (ts : List Text). Some ts) (texts_are others words h)
 
-all_are : (owner : Owner) (cs : List Command) (commands : List (List Text)) → say owner cs commands ≡ true
-    → map (said owner) cs ≡ map (λ words. Some words) commands
-all_are owner [] [] h = refl
-all_are owner [] (words ∷ others) h = let never : false ≡ true = h in cc
-all_are owner (c ∷ cs) [] h = let never : false ≡ true = h in cc
-all_are owner (c ∷ cs) (words ∷ others) h =
-    let k = both (is_same words (said owner c)) (say owner cs others) h in
-    ap (λ (o : Option (List Text)). o ∷ map (said owner) cs) (words_are words (said owner c) k.0)
-    ∙ ap (λ (os : List (Option (List Text))). Some words ∷ os) (all_are owner cs others k.1)
+all_are : (person : Person) (cs : List Command) (commands : List (List Text)) → say person cs commands ≡ true
+    → map (said person) cs ≡ map (λ words. Some words) commands
+all_are person [] [] h = refl
+all_are person [] (words ∷ others) h = let never : false ≡ true = h in cc
+all_are person (c ∷ cs) [] h = let never : false ≡ true = h in cc
+all_are person (c ∷ cs) (words ∷ others) h =
+    let k = both (is_same words (said person c)) (say person cs others) h in
+    ap (λ (o : Option (List Text)). o ∷ map (said person) cs) (words_are words (said person c) k.0)
+    ∙ ap (λ (os : List (Option (List Text))). Some words ∷ os) (all_are person cs others k.1)
 
-module _ (owner : Owner) (shown : Text) (commands : List (List Text)) (s : shown_commands shown ≡ Some commands) where
-  read_so : (text : Text) (read : Result Commands TextFault) → script_of text ≡ read → says owner commands read ≡ true → SaysShown owner shown text
+module _ (person : Person) (shown : Text) (commands : List (List Text)) (s : shown_commands shown ≡ Some commands) where
+  read_so : (text : Text) (read : Result Commands TextFault) → script_of text ≡ read → says person commands read ≡ true → SaysShown person shown text
   read_so text (Ok script) e h = record {
     script = script;
     commands = commands;
     is_script = tree_is text script e;
     are_shown = s;
-    are_said = all_are owner (commands_in script) commands h;
+    are_said = all_are person (commands_in script) commands h;
   }
   read_so text (Err fault) e h = let never : false ≡ true = h in cc
 
-  judged_so : (text written : Text) (b : Bool) → says owner commands (script_of text) ≡ b → (if b then Some text else None) ≡ Some written → SaysShown owner shown written
-  judged_so text written true e h = subst (SaysShown owner shown) (let same : Some text ≡ Some written = h in cc) (read_so text (script_of text) refl e)
+  judged_so : (text written : Text) (b : Bool) → says person commands (script_of text) ≡ b → (if b then Some text else None) ≡ Some written → SaysShown person shown written
+  judged_so text written true e h = subst (SaysShown person shown) (let same : Some text ≡ Some written = h in cc) (read_so text (script_of text) refl e)
   judged_so text written false e h = let never : None ≡ Some written = h in cc
 
-  placed_so : (written : Text) (placed : Option Text) → option_and_then (if_says owner commands) placed ≡ Some written → SaysShown owner shown written
+  placed_so : (written : Text) (placed : Option Text) → option_and_then (if_says person commands) placed ≡ Some written → SaysShown person shown written
   placed_so written None h = let never : None ≡ Some written = h in cc
-  placed_so written (Some text) h = judged_so text written (says owner commands (script_of text)) refl h
+  placed_so written (Some text) h = judged_so text written (says person commands (script_of text)) refl h
 
-shown_so : (owner : Owner) (text shown written : Text) (cs : List Command) (commands : Option (List (List Text))) → shown_commands shown ≡ commands
-    → option_and_then (saying owner text cs) commands ≡ Some written → SaysShown owner shown written
-shown_so owner text shown written cs None e h = let never : None ≡ Some written = h in cc
-shown_so owner text shown written cs (Some commands) e h = placed_so owner shown commands e written (in_place owner text cs commands) h
+shown_so : (person : Person) (text shown written : Text) (cs : List Command) (commands : Option (List (List Text))) → shown_commands shown ≡ commands
+    → option_and_then (saying person text cs) commands ≡ Some written → SaysShown person shown written
+shown_so person text shown written cs None e h = let never : None ≡ Some written = h in cc
+shown_so person text shown written cs (Some commands) e h = placed_so person shown commands e written (in_place person text cs commands) h
 
-pub flattened_so : (owner : Owner) (text shown written : Text) (cs : List Command) → flattened owner text cs shown ≡ Some written → SaysShown owner shown written
-flattened_so owner text shown written cs h = shown_so owner text shown written cs (shown_commands shown) refl h
+pub flattened_so : (person : Person) (text shown written : Text) (cs : List Command) → flattened person text cs shown ≡ Some written → SaysShown person shown written
+flattened_so person text shown written cs h = shown_so person text shown written cs (shown_commands shown) refl h
 
-pub found_so : (owner : Owner) (text shown : Text) (cs : List Command) (found : Option (String Global)) → option_map string_bytes found ≡ flattened owner text cs shown
-    → IfSome found (λ w. SaysShown owner shown (string_bytes w))
-found_so owner text shown cs None h = tt
-found_so owner text shown cs (Some w) h = flattened_so owner text shown (string_bytes w) cs (sym h)
+pub found_so : (person : Person) (text shown : Text) (cs : List Command) (found : Option (String Global)) → option_map string_bytes found ≡ flattened person text cs shown
+    → IfSome found (λ w. SaysShown person shown (string_bytes w))
+found_so person text shown cs None h = tt
+found_so person text shown cs (Some w) h = flattened_so person text shown (string_bytes w) cs (sym h)

@@ -8,7 +8,7 @@ use Rattle.tclscript.specs.Text.{IsWithin, script_of}
 use Rattle.tclscript.specs.Tree.{Command, Commands}
 use Rattle.portforms.specs.Words.{commands_in}
 use Rattle.scripttext.specs.ScriptTexts.{script_in}
-use Rattle.shownrecords.specs.Owners.{Owner}
+use Rattle.shownrecords.specs.People.{Person}
 use Rattle.shownrecords.specs.Saying.{said}
 use Rattle.shownrecords.specs.Shown.{shown_commands}
 use Rattle.shownrecords.specs.Writing.{commands_text}
@@ -24,36 +24,36 @@ is_same words None = false
 is_same words (Some others) = same_texts others words
 
 -- the commands say these words, one for one
-abbrev pub say : Owner → List Command → List (List Text) → Bool
-say owner [] [] = true
-say owner [] (words ∷ others) = false
-say owner (c ∷ cs) [] = false
-say owner (c ∷ cs) (words ∷ others) = is_same words (said owner c) && say owner cs others
+abbrev pub say : Person → List Command → List (List Text) → Bool
+say person [] [] = true
+say person [] (words ∷ others) = false
+say person (c ∷ cs) [] = false
+say person (c ∷ cs) (words ∷ others) = is_same words (said person c) && say person cs others
 
-abbrev pub says : Owner → List (List Text) → Result Commands TextFault → Bool
-says owner commands (Ok s) = say owner (commands_in s) commands
-says owner commands (Err fault) = false
+abbrev pub says : Person → List (List Text) → Result Commands TextFault → Bool
+says person commands (Ok s) = say person (commands_in s) commands
+says person commands (Err fault) = false
 
-abbrev pub if_says : Owner → List (List Text) → Text → Option Text
-if_says owner commands text = if says owner commands (script_of text) then Some text else None
+abbrev pub if_says : Person → List (List Text) → Text → Option Text
+if_says person commands text = if says person commands (script_of text) then Some text else None
 
 -- these commands in place of those of a text, where that is a script
-abbrev pub in_place : Owner → Text → List Command → List (List Text) → Option Text
-in_place owner text [] commands = None
-in_place owner text (c ∷ cs) commands = script_in (take c.offset text ++ commands_text owner commands)
+abbrev pub in_place : Person → Text → List Command → List (List Text) → Option Text
+in_place person text [] commands = None
+in_place person text (c ∷ cs) commands = script_in (take c.offset text ++ commands_text person commands)
 
 -- the same, where what is written says them
-abbrev pub saying : Owner → Text → List Command → List (List Text) → Option Text
-saying owner text cs commands = option_and_then (if_says owner commands) (in_place owner text cs commands)
+abbrev pub saying : Person → Text → List Command → List (List Text) → Option Text
+saying person text cs commands = option_and_then (if_says person commands) (in_place person text cs commands)
 
 -- a text of these commands, flattened by what was shown
-abbrev pub flattened : Owner → Text → List Command → Text → Option Text
-flattened owner text cs shown = option_and_then (saying owner text cs) (shown_commands shown)
+abbrev pub flattened : Person → Text → List Command → Text → Option Text
+flattened person text cs shown = option_and_then (saying person text cs) (shown_commands shown)
 
 -- a text is a script that says, command for command, what was shown
-pub record SaysShown (owner : Owner) (shown text : Text) : Type 0 where
+pub record SaysShown (person : Person) (shown text : Text) : Type 0 where
   pub script : Commands
   pub commands : List (List Text)
   pub is_script : IsWithin text script
   pub are_shown : shown_commands shown ≡ Some commands
-  pub are_said : map (said owner) (commands_in script) ≡ map (λ words. Some words) commands
+  pub are_said : map (said person) (commands_in script) ≡ map (λ words. Some words) commands

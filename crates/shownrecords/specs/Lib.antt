@@ -1,5 +1,5 @@
 pub mod Flattened
-pub mod Owners
+pub mod People
 pub mod Saying
 pub mod Shown
 pub mod Views

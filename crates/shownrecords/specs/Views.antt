@@ -5,11 +5,11 @@ use Rattle.std.specs.declared.alloc.Global.{Global}
 use Rattle.std.specs.declared.string.String.{String}
 use Rattle.std.specs.declared.vec.Vec.{Vec}
 use Rattle.tclchars.specs.Runs.{Text}
-use Rattle.shownrecords.specs.Owners as owners
-use Rattle.shownrecords.specs.declared.owner.Owner.{Owner}
+use Rattle.shownrecords.specs.People as people
+use Rattle.shownrecords.specs.declared.person.Person.{Person}
 
-abbrev pub owner_view : Owner → owners.Owner
-owner_view o = record { home = option_map (λ t. t.now) o.home; user = option_map (λ t. t.now) o.user }
+abbrev pub person_view : Person → people.Person
+person_view o = record { home = option_map (λ t. t.now) o.home; user = option_map (λ t. t.now) o.user }
 
 abbrev pub commands_view : List (Vec (String Global) Global) → List (List Text)
 commands_view commands = map (λ words. map string_bytes words.items) commands

@@ -1,5 +1,5 @@
 -- What is written for commands that were shown (own): a line each, whose words are spelled as those of a list (list(n)).
--- In the values of a command that changes a variable or MODULEPATH the owner's directory and name are asked for where
+-- In the values of a command that changes a variable or MODULEPATH the person's directory and name are asked for where
 -- they stand: a directory at the beginning of an element of a path, up to a slash or the end; a name as the whole of
 -- what is between slashes, colons and the ends.
 use Rattle.std.specs.Prelude.{ℕ, ◌+◌, suc, List, [], ◌∷◌, ◌++◌, Bool, false, ◌&&◌, ◌||◌, ◌==◌, codes, bytes_eq}
@@ -9,7 +9,7 @@ use Rattle.tclchars.specs.Bytes.{colon, newline, quote, space}
 use Rattle.tclchars.specs.Runs.{Text, begins}
 use Rattle.tcllist.specs.Lists.{element_text, list_text}
 use Rattle.tclvalue.specs.Indexes.{after_prefix}
-use Rattle.shownrecords.specs.Owners.{Owner}
+use Rattle.shownrecords.specs.People.{Person}
 
 abbrev pub slash : ℕ
 slash = 47
@@ -21,11 +21,11 @@ is_text text None = false
 is_text text (Some other) = bytes_eq other text
 
 -- what is between slashes
-abbrev pub part_text : Owner → Text → Text
-part_text owner part = if is_text part owner.user then codes "[getenv USER]" else part
+abbrev pub part_text : Person → Text → Text
+part_text person part = if is_text part person.user then codes "[getenv USER]" else part
 
-abbrev pub parts_text : Owner → Text → Text
-parts_text owner path = join_with_byte slash (map (part_text owner) (slice_split (λ b. b == slash) path))
+abbrev pub parts_text : Person → Text → Text
+parts_text person path = join_with_byte slash (map (part_text person) (slice_split (λ b. b == slash) path))
 
 -- the text, where it is empty or begins with a slash
 abbrev pub if_below : Text → Option Text
@@ -37,22 +37,22 @@ abbrev pub below : Option Text → Text → Option Text
 below None path = None
 below (Some directory) path = option_and_then if_below (after_prefix directory path)
 
-abbrev pub behind_home : Owner → Text → Option Text → Text
-behind_home owner path None = parts_text owner path
-behind_home owner path (Some rest) = codes "[getenv HOME]" ++ parts_text owner rest
+abbrev pub behind_home : Person → Text → Option Text → Text
+behind_home person path None = parts_text person path
+behind_home person path (Some rest) = codes "[getenv HOME]" ++ parts_text person rest
 
 -- an element of a path
-abbrev pub path_text : Owner → Text → Text
-path_text owner path = behind_home owner path (below owner.home path)
+abbrev pub path_text : Person → Text → Text
+path_text person path = behind_home person path (below person.home path)
 
-abbrev pub asking : Owner → Text → Text
-asking owner value = join_with_byte colon (map (path_text owner) (slice_split (λ b. b == colon) value))
+abbrev pub asking : Person → Text → Text
+asking person value = join_with_byte colon (map (path_text person) (slice_split (λ b. b == colon) value))
 
 -- a value: as a list has it where nothing of it is asked for, and else in quotes
-abbrev pub value_text : Owner → Text → Text
-value_text owner value =
-    if bytes_eq (asking owner value) value then element_text value
-    else quote ∷ (asking owner value ++ quote ∷ [])
+abbrev pub value_text : Person → Text → Text
+value_text person value =
+    if bytes_eq (asking person value) value then element_text value
+    else quote ∷ (asking person value ++ quote ∷ [])
 
 -- Commands
 
@@ -78,13 +78,13 @@ abbrev pub values_at : List Text → ℕ
 values_at [] = 0
 values_at (name ∷ words) = if changes name words then 2 + option_words words else suc (length words)
 
-abbrev pub values_text : Owner → List Text → Text
-values_text owner values = flat_map (λ value. space ∷ value_text owner value) values
+abbrev pub values_text : Person → List Text → Text
+values_text person values = flat_map (λ value. space ∷ value_text person value) values
 
 -- the line of a command of these words
-abbrev pub command_text : Owner → List Text → Text
-command_text owner words =
-    list_text (take (values_at words) words) ++ (values_text owner (drop (values_at words) words) ++ newline ∷ [])
+abbrev pub command_text : Person → List Text → Text
+command_text person words =
+    list_text (take (values_at words) words) ++ (values_text person (drop (values_at words) words) ++ newline ∷ [])
 
-abbrev pub commands_text : Owner → List (List Text) → Text
-commands_text owner commands = flat_map (command_text owner) commands
+abbrev pub commands_text : Person → List (List Text) → Text
+commands_text person commands = flat_map (command_text person) commands

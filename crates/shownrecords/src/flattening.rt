@@ -10,10 +10,10 @@ ghost use Rattle.portforms.specs.Words.{commands_in};
 ghost use Rattle.shownrecords.specs.Flattened as spec;
 ghost use Rattle.shownrecords.specs.Flattened.{SaysShown};
 ghost use Rattle.scripttext.specs.ScriptTexts.{script_in};
-ghost use Rattle.shownrecords.specs.Views.{commands_view, owner_view};
+ghost use Rattle.shownrecords.specs.Views.{commands_view, person_view};
 ghost use Rattle.shownrecords.specs.Writing.{commands_text};
 
-use crate::owner::Owner;
+use crate::person::Person;
 use crate::saying::said;
 use crate::shown::shown_commands;
 use crate::writing::push_commands;
@@ -55,11 +55,11 @@ fn is_same(words: &[String], texts: Option<Vec<String>>) -> bool
 #[tactic(auto, using(crate::proofs::Ends::no_command))]
 fn say(
     alloc: Global,
-    owner: Owner,
+    person: Person,
     commands: &[Command<&str>],
     words: &[Vec<String>],
 ) -> Result<bool, AllocError>
-    ensures { IfOk result (λ same. same ≡ spec.say (owner_view owner.entry)
+    ensures { IfOk result (λ same. same ≡ spec.say (person_view person.entry)
         (map (command_view (λ piece. piece.now)) commands.now) (commands_view words.now)) }
 {
     let mut rest = words;
@@ -67,7 +67,7 @@ fn say(
         let [first, more @ ..] = rest else {
             return Ok(false);
         };
-        if !is_same(first.as_slice(), said(alloc, owner, command)?) {
+        if !is_same(first.as_slice(), said(alloc, person, command)?) {
             return Ok(false);
         }
         rest = more;
@@ -78,24 +78,29 @@ fn say(
 /// Whether the commands of a script say these words, one for one.
 fn script_says(
     alloc: Global,
-    owner: Owner,
+    person: Person,
     script: &Script<&str>,
     words: &[Vec<String>],
 ) -> Result<bool, AllocError>
-    ensures { IfOk result (λ same. same ≡ spec.say (owner_view owner.entry)
+    ensures { IfOk result (λ same. same ≡ spec.say (person_view person.entry)
         (commands_in (script_view (λ piece. piece.now) script.now)) (commands_view words.now)) }
 {
-    say(alloc, owner, script.commands.as_slice(), words)
+    say(alloc, person, script.commands.as_slice(), words)
 }
 
 /// Whether the text is a script whose commands say these words, one for one.
 #[tactic(auto, using(portforms::proofs::Refused::refused))]
-fn says(alloc: Global, owner: Owner, text: &str, words: &[Vec<String>]) -> Result<bool, AllocError>
+fn says(
+    alloc: Global,
+    person: Person,
+    text: &str,
+    words: &[Vec<String>],
+) -> Result<bool, AllocError>
     ensures { IfOk result (λ same. same
-        ≡ spec.says (owner_view owner.entry) (commands_view words.now) (script_of text.now)) }
+        ≡ spec.says (person_view person.entry) (commands_view words.now) (script_of text.now)) }
 {
     match parse_script(alloc, text) {
-        Ok(script) => script_says(alloc, owner, &script, words),
+        Ok(script) => script_says(alloc, person, &script, words),
         Err(fault) => {
             judged(&fault)?;
             Ok(false)
@@ -106,14 +111,14 @@ fn says(alloc: Global, owner: Owner, text: &str, words: &[Vec<String>]) -> Resul
 /// The text, where it is a script whose commands say these words, one for one.
 fn if_says(
     alloc: Global,
-    owner: Owner,
+    person: Person,
     words: &[Vec<String>],
     text: String,
 ) -> Result<Option<String>, AllocError>
     ensures { IfOk result (λ t. option_map string_bytes t
-        ≡ spec.if_says (owner_view owner.entry) (commands_view words.now) (string_bytes text)) }
+        ≡ spec.if_says (person_view person.entry) (commands_view words.now) (string_bytes text)) }
 {
-    if says(alloc, owner, text.as_str(), words)? {
+    if says(alloc, person, text.as_str(), words)? {
         Ok(Some(text))
     } else {
         Ok(None)
@@ -134,16 +139,16 @@ fn front_of(text: &[u8], length: usize) -> &[u8]
 /// The bytes of these commands behind the first bytes of a text.
 fn bytes_of(
     alloc: Global,
-    owner: Owner,
+    person: Person,
     text: &[u8],
     offset: usize,
     words: &[Vec<String>],
 ) -> Result<Vec<u8>, AllocError>
     ensures { IfOk result (λ bytes. bytes.items
-        ≡ take offset text.now ++ commands_text (owner_view owner.entry) (commands_view words.now)) }
+        ≡ take offset text.now ++ commands_text (person_view person.entry) (commands_view words.now)) }
 {
     let mut written = String::new(alloc);
-    push_commands(alloc, owner, &mut written, words)?;
+    push_commands(alloc, person, &mut written, words)?;
     let mut bytes = Vec::from_slice(alloc, front_of(text, offset))?;
     bytes.extend_from_slice(written.as_bytes())?;
     Ok(bytes)
@@ -161,18 +166,18 @@ fn script_in(alloc: Global, bytes: Vec<u8>) -> Result<Option<String>, AllocError
 #[tactic(auto, using(portforms::proofs::Trees::command_place))]
 fn in_place(
     alloc: Global,
-    owner: Owner,
+    person: Person,
     text: &[u8],
     commands: &[Command<&str>],
     words: &[Vec<String>],
 ) -> Result<Option<String>, AllocError>
-    ensures { IfOk result (λ t. option_map string_bytes t ≡ spec.in_place (owner_view owner.entry) text.now
+    ensures { IfOk result (λ t. option_map string_bytes t ≡ spec.in_place (person_view person.entry) text.now
         (map (command_view (λ piece. piece.now)) commands.now) (commands_view words.now)) }
 {
     match commands {
         [] => Ok(None),
         [first, ..] => {
-            let bytes = bytes_of(alloc, owner, text, first.offset, words)?;
+            let bytes = bytes_of(alloc, person, text, first.offset, words)?;
             script_in(alloc, bytes)
         }
     }
@@ -181,16 +186,16 @@ fn in_place(
 /// The same, where what is written says them.
 fn saying(
     alloc: Global,
-    owner: Owner,
+    person: Person,
     text: &[u8],
     commands: &[Command<&str>],
     words: &[Vec<String>],
 ) -> Result<Option<String>, AllocError>
-    ensures { IfOk result (λ t. option_map string_bytes t ≡ spec.saying (owner_view owner.entry) text.now
+    ensures { IfOk result (λ t. option_map string_bytes t ≡ spec.saying (person_view person.entry) text.now
         (map (command_view (λ piece. piece.now)) commands.now) (commands_view words.now)) }
 {
-    match in_place(alloc, owner, text, commands, words)? {
-        Some(written) => if_says(alloc, owner, words, written),
+    match in_place(alloc, person, text, commands, words)? {
+        Some(written) => if_says(alloc, person, words, written),
         None => Ok(None),
     }
 }
@@ -198,16 +203,16 @@ fn saying(
 /// A text of these commands, flattened by what was shown.
 fn of_commands(
     alloc: Global,
-    owner: Owner,
+    person: Person,
     text: &[u8],
     commands: &[Command<&str>],
     shown: &str,
 ) -> Result<Option<String>, AllocError>
-    ensures { IfOk result (λ t. option_map string_bytes t ≡ spec.flattened (owner_view owner.entry) text.now
+    ensures { IfOk result (λ t. option_map string_bytes t ≡ spec.flattened (person_view person.entry) text.now
         (map (command_view (λ piece. piece.now)) commands.now) shown.now) }
 {
     match shown_commands(alloc, shown)? {
-        Some(words) => saying(alloc, owner, text, commands, words.as_slice()),
+        Some(words) => saying(alloc, person, text, commands, words.as_slice()),
         None => Ok(None),
     }
 }
@@ -215,38 +220,38 @@ fn of_commands(
 /// A text that is this script, flattened by what was shown.
 fn of_script(
     alloc: Global,
-    owner: Owner,
+    person: Person,
     text: &[u8],
     script: &Script<&str>,
     shown: &str,
 ) -> Result<Option<String>, AllocError>
-    ensures { IfOk result (λ t. option_map string_bytes t ≡ spec.flattened (owner_view owner.entry) text.now
+    ensures { IfOk result (λ t. option_map string_bytes t ≡ spec.flattened (person_view person.entry) text.now
         (commands_in (script_view (λ piece. piece.now) script.now)) shown.now) }
 {
-    of_commands(alloc, owner, text, script.commands.as_slice(), shown)
+    of_commands(alloc, person, text, script.commands.as_slice(), shown)
 }
 
 /// A modulefile, flattened: behind what stands before its first command, the commands that `module show` has shown of
-/// it. In values the directory and the name of the owner, in whose environment it was shown, are asked for. None where
+/// it. In values the directory and the name of the person, in whose environment it was shown, are asked for. None where
 /// the text that was shown can't be read, or what would be written doesn't say the same.
 ///
 /// The error: the modulefile is no script, or memory ran out.
 pub fn flattened(
     alloc: Global,
-    owner: Owner,
+    person: Person,
     text: &str,
     shown: &str,
 ) -> Result<Option<String>, TextFault>
     // What is written is what the definition has.
     ensures found { IfOk result (λ t. (s : Commands) × IsWithin text.now s × (option_map string_bytes t
-        ≡ spec.flattened (owner_view owner.entry) text.now (commands_in s) shown.now)) }
+        ≡ spec.flattened (person_view person.entry) text.now (commands_in s) shown.now)) }
 
     // What is written parses, and says what was shown.
-    ensures says { IfOk result (λ t. IfSome t (λ w. SaysShown (owner_view owner.entry) shown.now (string_bytes w))) }
+    ensures says { IfOk result (λ t. IfSome t (λ w. SaysShown (person_view person.entry) shown.now (string_bytes w))) }
     ensures fault { IfErr result (IsTextFault text.now) }
 {
     let script = parse_script(alloc, text)?;
-    match of_script(alloc, owner, text.as_bytes(), &script, shown) {
+    match of_script(alloc, person, text.as_bytes(), &script, shown) {
         Ok(written) => Ok(written),
         Err(_) => Err(TextFault::OutOfMemory),
     }

@@ -4,7 +4,7 @@
 
 mod flattening;
 mod laws;
-mod owner;
+mod person;
 mod records;
 mod saying;
 mod shown;
@@ -12,5 +12,5 @@ mod writing;
 
 pub use flattening::flattened;
 pub use laws::flattened_says;
-pub use owner::Owner;
+pub use person::Person;
 pub use records::are_records;

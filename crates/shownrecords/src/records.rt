@@ -11,9 +11,9 @@ ghost use Rattle.tclscript.specs.Tree.{Commands};
 ghost use Rattle.tclscript.specs.View.{command_view, script_view};
 ghost use Rattle.portforms.specs.Words.{commands_in};
 ghost use Rattle.shownrecords.specs.Saying as spec;
-ghost use Rattle.shownrecords.specs.Views.{owner_view};
+ghost use Rattle.shownrecords.specs.Views.{person_view};
 
-use crate::owner::Owner;
+use crate::person::Person;
 use crate::saying::said;
 use modulefile::{Call, CallFault};
 use std::alloc::{AllocError, Global};
@@ -60,21 +60,25 @@ fn is_record_of(alloc: Global, words: Option<Vec<String>>) -> Result<bool, Alloc
 }
 
 /// Whether the words that a command says leave a record.
-fn is_record(alloc: Global, owner: Owner, command: &Command<&str>) -> Result<bool, AllocError>
+fn is_record(alloc: Global, person: Person, command: &Command<&str>) -> Result<bool, AllocError>
     ensures { IfOk result (λ is. is
-        ≡ spec.is_record (owner_view owner.entry) (command_view (λ piece. piece.now) command.now)) }
+        ≡ spec.is_record (person_view person.entry) (command_view (λ piece. piece.now) command.now)) }
 {
-    let words = said(alloc, owner, command)?;
+    let words = said(alloc, person, command)?;
     is_record_of(alloc, words)
 }
 
 /// Whether each of the commands leaves a record.
-fn all_records(alloc: Global, owner: Owner, commands: &[Command<&str>]) -> Result<bool, AllocError>
-    ensures { IfOk result (λ are. are ≡ list_all (spec.is_record (owner_view owner.entry))
+fn all_records(
+    alloc: Global,
+    person: Person,
+    commands: &[Command<&str>],
+) -> Result<bool, AllocError>
+    ensures { IfOk result (λ are. are ≡ list_all (spec.is_record (person_view person.entry))
         (map (command_view (λ piece. piece.now)) commands.now)) }
 {
     for command in commands {
-        if !is_record(alloc, owner, command)? {
+        if !is_record(alloc, person, command)? {
             return Ok(false);
         }
     }
@@ -82,23 +86,23 @@ fn all_records(alloc: Global, owner: Owner, commands: &[Command<&str>]) -> Resul
 }
 
 /// Whether each of the commands of a script leaves a record.
-fn of_script(alloc: Global, owner: Owner, script: &Script<&str>) -> Result<bool, AllocError>
-    ensures { IfOk result (λ are. are ≡ spec.are_records (owner_view owner.entry)
+fn of_script(alloc: Global, person: Person, script: &Script<&str>) -> Result<bool, AllocError>
+    ensures { IfOk result (λ are. are ≡ spec.are_records (person_view person.entry)
         (commands_in (script_view (λ piece. piece.now) script.now))) }
 {
-    all_records(alloc, owner, script.commands.as_slice())
+    all_records(alloc, person, script.commands.as_slice())
 }
 
-/// Whether a text is a script of records of the profile alone, in the words that its commands say for this owner.
+/// Whether a text is a script of records of the profile alone, in the words that its commands say for this person.
 ///
 /// The error: it is no script, or memory ran out.
-pub fn are_records(alloc: Global, owner: Owner, text: &str) -> Result<bool, TextFault>
+pub fn are_records(alloc: Global, person: Person, text: &str) -> Result<bool, TextFault>
     ensures found { IfOk result (λ are. (s : Commands) × IsWithin text.now s
-        × (are ≡ spec.are_records (owner_view owner.entry) (commands_in s))) }
+        × (are ≡ spec.are_records (person_view person.entry) (commands_in s))) }
     ensures fault { IfErr result (IsTextFault text.now) }
 {
     let script = parse_script(alloc, text)?;
-    match of_script(alloc, owner, &script) {
+    match of_script(alloc, person, &script) {
         Ok(are) => Ok(are),
         Err(_) => Err(TextFault::OutOfMemory),
     }

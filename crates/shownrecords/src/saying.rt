@@ -1,4 +1,4 @@
-//! The words that commands say, where nothing is substituted in them but what is known of their owner.
+//! The words that commands say, where nothing is substituted in them but what is known of their person.
 ghost use Rattle.std.specs.Prelude.{◌≡◌, ◌==◌, ◌++◌, ◌∷◌, [], map, encode_utf8, IfOk, string_bytes};
 ghost use Rattle.std.specs.List.{list_any};
 ghost use Rattle.std.specs.Option.{option_map};
@@ -9,36 +9,36 @@ ghost use Rattle.portforms.specs.Words.{commands_in, texts};
 ghost use Rattle.portforms.specs.WordViews.{words_view};
 ghost use Rattle.shownrecords.specs.Saying as spec;
 ghost use Rattle.shownrecords.specs.Shown.{run};
-ghost use Rattle.shownrecords.specs.Views.{owner_view};
+ghost use Rattle.shownrecords.specs.Views.{person_view};
 
-use crate::owner::Owner;
+use crate::person::Person;
 use portforms::{is_text, words_of_command};
 use std::alloc::{AllocError, Global};
 use tclscript::{Command, Part, Script, Word, WordContent};
 
-/// The owner's value of a variable, where it is known.
-fn value_of<'o>(owner: Owner<'o>, name: &[u8]) -> Option<&'o str>
-    ensures { option_map (λ t. t.now) result ≡ spec.value_of (owner_view owner.entry) name.now }
+/// The person's value of a variable, where it is known.
+fn value_of<'p>(person: Person<'p>, name: &[u8]) -> Option<&'p str>
+    ensures { option_map (λ t. t.now) result ≡ spec.value_of (person_view person.entry) name.now }
 {
     if is_text(name, "HOME") {
-        owner.home
+        person.home
     } else if is_text(name, "USER") {
-        owner.user
+        person.user
     } else {
         None
     }
 }
 
 /// The answer to a command of these words.
-fn answer<'o>(owner: Owner<'o>, words: &[&[u8]]) -> Option<&'o str>
-    ensures { option_map (λ t. t.now) result ≡ spec.answer (owner_view owner.entry) (texts words.now) }
+fn answer<'p>(person: Person<'p>, words: &[&[u8]]) -> Option<&'p str>
+    ensures { option_map (λ t. t.now) result ≡ spec.answer (person_view person.entry) (texts words.now) }
 {
     match words {
         [] => None,
         [_] => None,
         [command, name] => {
             if is_text(command, "getenv") {
-                value_of(owner, name)
+                value_of(person, name)
             } else {
                 None
             }
@@ -86,14 +86,14 @@ fn copy(alloc: Global, text: Option<&str>) -> Result<Option<String>, AllocError>
 /// The answer to the one command of a script.
 fn said_script(
     alloc: Global,
-    owner: Owner,
+    person: Person,
     script: &Script<&str>,
 ) -> Result<Option<String>, AllocError>
     ensures { IfOk result (λ text. option_map string_bytes text
-        ≡ spec.said_script (owner_view owner.entry) (script_view (λ piece. piece.now) script.now)) }
+        ≡ spec.said_script (person_view person.entry) (script_view (λ piece. piece.now) script.now)) }
 {
     match words_of_script(alloc, script)? {
-        Some(words) => copy(alloc, answer(owner, words.as_slice())),
+        Some(words) => copy(alloc, answer(person, words.as_slice())),
         None => Ok(None),
     }
 }
@@ -108,16 +108,16 @@ fn text_of(alloc: Global, character: char) -> Result<String, AllocError>
 }
 
 /// What a part of a word says.
-fn said_part(alloc: Global, owner: Owner, part: &Part<&str>) -> Result<Option<String>, AllocError>
+fn said_part(alloc: Global, person: Person, part: &Part<&str>) -> Result<Option<String>, AllocError>
     ensures { IfOk result (λ text. option_map string_bytes text
-        ≡ spec.said_part (owner_view owner.entry) (part_view (λ piece. piece.now) part.now)) }
+        ≡ spec.said_part (person_view person.entry) (part_view (λ piece. piece.now) part.now)) }
 {
     match part {
         Part::Literal(text) => Ok(Some(String::from_str(alloc, text)?)),
         Part::Backslash(character) => Ok(Some(text_of(alloc, *character)?)),
         Part::Variable(_) => Ok(None),
         Part::Indexed(_, _) => Ok(None),
-        Part::Bracket(script) => said_script(alloc, owner, script),
+        Part::Bracket(script) => said_script(alloc, person, script),
     }
 }
 
@@ -137,13 +137,13 @@ fn with_text(text: String, more: Option<String>) -> Result<Option<String>, Alloc
 }
 
 /// What parts say, joined.
-fn joined(alloc: Global, owner: Owner, parts: &[Part<&str>]) -> Result<Option<String>, AllocError>
+fn joined(alloc: Global, person: Person, parts: &[Part<&str>]) -> Result<Option<String>, AllocError>
     ensures { IfOk result (λ text. option_map string_bytes text
-        ≡ run (spec.with_part (owner_view owner.entry)) [] (map (part_view (λ piece. piece.now)) parts.now)) }
+        ≡ run (spec.with_part (person_view person.entry)) [] (map (part_view (λ piece. piece.now)) parts.now)) }
 {
     let mut text = String::new(alloc);
     for part in parts {
-        match with_text(text, said_part(alloc, owner, part)?)? {
+        match with_text(text, said_part(alloc, person, part)?)? {
             Some(whole) => text = whole,
             None => return Ok(None),
         }
@@ -154,13 +154,13 @@ fn joined(alloc: Global, owner: Owner, parts: &[Part<&str>]) -> Result<Option<St
 /// What parts say.
 fn said_parts(
     alloc: Global,
-    owner: Owner,
+    person: Person,
     parts: &[Part<&str>],
 ) -> Result<Option<String>, AllocError>
     ensures { IfOk result (λ text. option_map string_bytes text
-        ≡ spec.said_parts (owner_view owner.entry) (parts_view (λ piece. piece.now) parts.now)) }
+        ≡ spec.said_parts (person_view person.entry) (parts_view (λ piece. piece.now) parts.now)) }
 {
-    joined(alloc, owner, parts)
+    joined(alloc, person, parts)
 }
 
 /// Whether one of the bytes is a backslash.
@@ -184,28 +184,28 @@ fn in_braces(alloc: Global, text: &str) -> Result<Option<String>, AllocError>
 /// What the content of a word says.
 fn said_content(
     alloc: Global,
-    owner: Owner,
+    person: Person,
     content: &WordContent<&str>,
 ) -> Result<Option<String>, AllocError>
     ensures { IfOk result (λ text. option_map string_bytes text
-        ≡ spec.said_parts (owner_view owner.entry) (content_view (λ piece. piece.now) content.now)) }
+        ≡ spec.said_parts (person_view person.entry) (content_view (λ piece. piece.now) content.now)) }
 {
     match content {
         WordContent::Bare(text) => Ok(Some(String::from_str(alloc, text)?)),
         WordContent::Braced(text) => in_braces(alloc, text),
-        WordContent::Parts(parts) => said_parts(alloc, owner, parts.as_slice()),
+        WordContent::Parts(parts) => said_parts(alloc, person, parts.as_slice()),
     }
 }
 
 /// What a word says.
-fn said_word(alloc: Global, owner: Owner, word: &Word<&str>) -> Result<Option<String>, AllocError>
+fn said_word(alloc: Global, person: Person, word: &Word<&str>) -> Result<Option<String>, AllocError>
     ensures { IfOk result (λ text. option_map string_bytes text
-        ≡ spec.said_word (owner_view owner.entry) (word_view (λ piece. piece.now) word.now)) }
+        ≡ spec.said_word (person_view person.entry) (word_view (λ piece. piece.now) word.now)) }
 {
     if word.expands {
         Ok(None)
     } else {
-        said_content(alloc, owner, &word.content)
+        said_content(alloc, person, &word.content)
     }
 }
 
@@ -227,15 +227,15 @@ fn with_word(texts: Vec<String>, text: Option<String>) -> Result<Option<Vec<Stri
 /// What words say.
 fn said_words(
     alloc: Global,
-    owner: Owner,
+    person: Person,
     words: &[Word<&str>],
 ) -> Result<Option<Vec<String>>, AllocError>
     ensures { IfOk result (λ said. option_map texts_in said
-        ≡ run (spec.with_word (owner_view owner.entry)) [] (words_view words.now)) }
+        ≡ run (spec.with_word (person_view person.entry)) [] (words_view words.now)) }
 {
     let mut texts = Vec::new(alloc);
     for word in words {
-        match with_word(texts, said_word(alloc, owner, word)?)? {
+        match with_word(texts, said_word(alloc, person, word)?)? {
             Some(all) => texts = all,
             None => return Ok(None),
         }
@@ -248,11 +248,11 @@ fn said_words(
 /// The error: want of memory.
 pub(crate) fn said(
     alloc: Global,
-    owner: Owner,
+    person: Person,
     command: &Command<&str>,
 ) -> Result<Option<Vec<String>>, AllocError>
     ensures { IfOk result (λ said. option_map texts_in said
-        ≡ spec.said (owner_view owner.entry) (command_view (λ piece. piece.now) command.now)) }
+        ≡ spec.said (person_view person.entry) (command_view (λ piece. piece.now) command.now)) }
 {
-    said_words(alloc, owner, command.words.as_slice())
+    said_words(alloc, person, command.words.as_slice())
 }

@@ -6,9 +6,9 @@ ghost use Rattle.tclchars.specs.Runs.{begins};
 ghost use Rattle.tcllist.specs.Lists.{list_text};
 ghost use Rattle.tclvalue.specs.Indexes.{after_prefix};
 ghost use Rattle.shownrecords.specs.Writing as spec;
-ghost use Rattle.shownrecords.specs.Views.{commands_view, owner_view};
+ghost use Rattle.shownrecords.specs.Views.{commands_view, person_view};
 
-use crate::owner::Owner;
+use crate::person::Person;
 use envvars::fields::{join, parts, slices};
 use std::alloc::{AllocError, Global};
 use tcllist::write_list;
@@ -24,10 +24,10 @@ fn is_text(text: &str, other: Option<&str>) -> bool
 }
 
 /// What is written for what is between slashes.
-fn part_text(alloc: Global, owner: Owner, part: &str) -> Result<String, AllocError>
-    ensures { IfOk result (λ text. string_bytes text ≡ spec.part_text (owner_view owner.entry) part.now) }
+fn part_text(alloc: Global, person: Person, part: &str) -> Result<String, AllocError>
+    ensures { IfOk result (λ text. string_bytes text ≡ spec.part_text (person_view person.entry) part.now) }
 {
-    if is_text(part, owner.user) {
+    if is_text(part, person.user) {
         String::from_str(alloc, "[getenv USER]")
     } else {
         String::from_str(alloc, part)
@@ -35,22 +35,22 @@ fn part_text(alloc: Global, owner: Owner, part: &str) -> Result<String, AllocErr
 }
 
 /// The same for each of some.
-fn part_texts(alloc: Global, owner: Owner, parts: &[&str]) -> Result<Vec<String>, AllocError>
-    ensures { IfOk result (λ texts. texts_in texts ≡ map (spec.part_text (owner_view owner.entry)) (slice_texts parts.now)) }
+fn part_texts(alloc: Global, person: Person, parts: &[&str]) -> Result<Vec<String>, AllocError>
+    ensures { IfOk result (λ texts. texts_in texts ≡ map (spec.part_text (person_view person.entry)) (slice_texts parts.now)) }
 {
     let mut texts = Vec::new(alloc);
     for part in parts {
-        texts.push(part_text(alloc, owner, part)?)?;
+        texts.push(part_text(alloc, person, part)?)?;
     }
     Ok(texts)
 }
 
 /// What is written for what is between colons, behind a directory that is asked for.
-fn parts_text(alloc: Global, owner: Owner, path: &str) -> Result<String, AllocError>
-    ensures { IfOk result (λ text. string_bytes text ≡ spec.parts_text (owner_view owner.entry) path.now) }
+fn parts_text(alloc: Global, person: Person, path: &str) -> Result<String, AllocError>
+    ensures { IfOk result (λ text. string_bytes text ≡ spec.parts_text (person_view person.entry) path.now) }
 {
     let parts = parts(alloc, path, '/')?;
-    let texts = part_texts(alloc, owner, parts.as_slice())?;
+    let texts = part_texts(alloc, person, parts.as_slice())?;
     let slices = slices(alloc, texts.as_slice())?;
     join(alloc, slices.as_slice(), '/')
 }
@@ -87,45 +87,45 @@ fn below<'p>(directory: Option<&str>, path: &'p str) -> Option<&'p str>
 }
 
 /// What is written for an element of a path.
-fn path_text(alloc: Global, owner: Owner, path: &str) -> Result<String, AllocError>
-    ensures { IfOk result (λ text. string_bytes text ≡ spec.path_text (owner_view owner.entry) path.now) }
+fn path_text(alloc: Global, person: Person, path: &str) -> Result<String, AllocError>
+    ensures { IfOk result (λ text. string_bytes text ≡ spec.path_text (person_view person.entry) path.now) }
 {
-    match below(owner.home, path) {
+    match below(person.home, path) {
         Some(rest) => {
             let mut text = String::from_str(alloc, "[getenv HOME]")?;
-            text.push_str(parts_text(alloc, owner, rest)?.as_str())?;
+            text.push_str(parts_text(alloc, person, rest)?.as_str())?;
             Ok(text)
         }
-        None => parts_text(alloc, owner, path),
+        None => parts_text(alloc, person, path),
     }
 }
 
 /// The same for each of some.
-fn path_texts(alloc: Global, owner: Owner, paths: &[&str]) -> Result<Vec<String>, AllocError>
-    ensures { IfOk result (λ texts. texts_in texts ≡ map (spec.path_text (owner_view owner.entry)) (slice_texts paths.now)) }
+fn path_texts(alloc: Global, person: Person, paths: &[&str]) -> Result<Vec<String>, AllocError>
+    ensures { IfOk result (λ texts. texts_in texts ≡ map (spec.path_text (person_view person.entry)) (slice_texts paths.now)) }
 {
     let mut texts = Vec::new(alloc);
     for path in paths {
-        texts.push(path_text(alloc, owner, path)?)?;
+        texts.push(path_text(alloc, person, path)?)?;
     }
     Ok(texts)
 }
 
-/// A value in which the owner's directory and name are asked for.
-fn asking(alloc: Global, owner: Owner, value: &str) -> Result<String, AllocError>
-    ensures { IfOk result (λ text. string_bytes text ≡ spec.asking (owner_view owner.entry) value.now) }
+/// A value in which the person's directory and name are asked for.
+fn asking(alloc: Global, person: Person, value: &str) -> Result<String, AllocError>
+    ensures { IfOk result (λ text. string_bytes text ≡ spec.asking (person_view person.entry) value.now) }
 {
     let paths = parts(alloc, value, ':')?;
-    let texts = path_texts(alloc, owner, paths.as_slice())?;
+    let texts = path_texts(alloc, person, paths.as_slice())?;
     let slices = slices(alloc, texts.as_slice())?;
     join(alloc, slices.as_slice(), ':')
 }
 
 /// What is written for a value.
-fn value_text(alloc: Global, owner: Owner, value: &str) -> Result<String, AllocError>
-    ensures { IfOk result (λ text. string_bytes text ≡ spec.value_text (owner_view owner.entry) value.now) }
+fn value_text(alloc: Global, person: Person, value: &str) -> Result<String, AllocError>
+    ensures { IfOk result (λ text. string_bytes text ≡ spec.value_text (person_view person.entry) value.now) }
 {
-    let asking = asking(alloc, owner, value)?;
+    let asking = asking(alloc, person, value)?;
     if asking.as_str() == value {
         return write_list(alloc, &[value]);
     }
@@ -215,16 +215,16 @@ fn split_within(words: &[String], length: usize) -> (&[String], &[String])
 /// Adds values, each behind a space.
 fn push_values(
     alloc: Global,
-    owner: Owner,
+    person: Person,
     text: &mut String,
     values: &[String],
 ) -> Result<(), AllocError>
     ensures { OnOk result (string_bytes text.new ≡ string_bytes text.old
-        ++ spec.values_text (owner_view owner.entry) (map string_bytes values.now)) }
+        ++ spec.values_text (person_view person.entry) (map string_bytes values.now)) }
 {
     for value in values {
         text.push(' ')?;
-        text.push_str(value_text(alloc, owner, value.as_str())?.as_str())?;
+        text.push_str(value_text(alloc, person, value.as_str())?.as_str())?;
     }
     Ok(())
 }
@@ -242,16 +242,16 @@ fn push_list(alloc: Global, text: &mut String, words: &[String]) -> Result<(), A
 #[tactic(auto, using(crate::proofs::Lines::command_is))]
 fn push_command(
     alloc: Global,
-    owner: Owner,
+    person: Person,
     text: &mut String,
     words: &[String],
 ) -> Result<(), AllocError>
     ensures { OnOk result (string_bytes text.new ≡ string_bytes text.old
-        ++ spec.command_text (owner_view owner.entry) (map string_bytes words.now)) }
+        ++ spec.command_text (person_view person.entry) (map string_bytes words.now)) }
 {
     let (front, values) = split_within(words, values_at(words));
     push_list(alloc, text, front)?;
-    push_values(alloc, owner, text, values)?;
+    push_values(alloc, person, text, values)?;
     text.push('\n')
 }
 
@@ -260,15 +260,15 @@ fn push_command(
 /// The error: want of memory.
 pub(crate) fn push_commands(
     alloc: Global,
-    owner: Owner,
+    person: Person,
     text: &mut String,
     commands: &[Vec<String>],
 ) -> Result<(), AllocError>
     ensures { OnOk result (string_bytes text.new ≡ string_bytes text.old
-        ++ spec.commands_text (owner_view owner.entry) (commands_view commands.now)) }
+        ++ spec.commands_text (person_view person.entry) (commands_view commands.now)) }
 {
     for words in commands {
-        push_command(alloc, owner, text, words.as_slice())?;
+        push_command(alloc, person, text, words.as_slice())?;
     }
     Ok(())
 }

@@ -1,7 +1,7 @@
 use Rattle.std.proofs.Common.{List, ℕ, Bor, string_bytes}
 use Rattle.tclscript.specs.View.{script_view}
 use Rattle.portforms.specs.Words.{commands_in}
-use Rattle.shownrecords.specs.Views.{owner_view}
+use Rattle.shownrecords.specs.Views.{person_view}
 use Rattle.translation.specs.TranslationViews.{notes_view}
 use Rattle.modport.specs.LineViews.{coming_view, porting_view}
 use Rattle.modport.proofs.Flat.{flat_so}
@@ -9,7 +9,7 @@ use Rattle.modport.proofs.flattening.of_flat.Goals as goal
 
 pub returns-in_ok-written_flat-clause-written : goal.returns-in_ok-written_flat-clause-written
 returns-in_ok-written_flat-clause-written c =
-    flat_so (porting_view c.args.manner c.args.given.home c.args.given.name) (owner_view c.args.manner.owner)
+    flat_so (porting_view c.args.manner c.args.given.home c.args.given.name) (person_view c.args.manner.person)
     c.args.manner.json c.args.given.path.now (coming_view c.args.given.coming) c.args.given.text.now
     (commands_in (script_view (λ (piece : Bor (List ℕ)). piece.now) c.args.script.now)) c.args.flat.now
     (string_bytes c.in_ok-translation.translation.text) (string_bytes c.in_ok-written_flat.field-0.text)

@@ -11,5 +11,5 @@ pub returns : goal.returns
 unfolding own_default
 returns c =
     subst (λ (cs : List Text). IfOk c.own_among.result (λ version. option_map (λ v. v.now) version ≡ own_among (folder_view c.args.folder) cs))
-    (ap texts c.as_slice.ensures.value ∙ c.in_ok-candidates.ensures)
+    (ap texts c.as_slice.ensures.value ∙ c.in_ok-versions.ensures)
     c.own_among.ensures

@@ -5,11 +5,11 @@ use Rattle.tclscript.specs.Tree.{Command}
 use Rattle.tclscript.specs.View.{command_view}
 use Rattle.portforms.proofs.Trees.{commands_of_script}
 use Rattle.shownrecords.specs.Flattened.{flattened}
-use Rattle.shownrecords.specs.Views.{owner_view}
+use Rattle.shownrecords.specs.Views.{person_view}
 use Rattle.shownrecords.proofs.flattening.of_script.Goals as goal
 
 pub returns : goal.returns
 returns c =
-    subst (λ (cs : List Command). IfOk c.of_commands.result (λ t. option_map string_bytes t ≡ flattened (owner_view c.args.owner) c.args.text.now cs c.args.shown.now))
+    subst (λ (cs : List Command). IfOk c.of_commands.result (λ t. option_map string_bytes t ≡ flattened (person_view c.args.person) c.args.text.now cs c.args.shown.now))
     (ap (map (command_view (λ piece. piece.now))) c.as_slice.ensures.value ∙ sym (commands_of_script (λ piece. piece.now) c.args.script.now))
     c.of_commands.ensures

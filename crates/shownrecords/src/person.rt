@@ -2,9 +2,9 @@
 
 /// The values of HOME and USER where a modulefile was shown.
 #[derive(Clone, Copy, Debug)]
-pub struct Owner<'o> {
+pub struct Person<'p> {
     /// The value of HOME, where it is known.
-    pub home: Option<&'o str>,
+    pub home: Option<&'p str>,
     /// The value of USER, where it is known.
-    pub user: Option<&'o str>,
+    pub user: Option<&'p str>,
 }

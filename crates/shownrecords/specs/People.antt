@@ -2,6 +2,6 @@
 use Rattle.std.specs.Prelude.{Option}
 use Rattle.tclchars.specs.Runs.{Text}
 
-pub record Owner : Type 0 where
+pub record Person : Type 0 where
   pub home : Option Text
   pub user : Option Text
