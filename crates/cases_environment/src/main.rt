@@ -29,9 +29,10 @@
 //! `requests` asks calls of `modules` and `sessions` over files in memory and variables, which its lines share; each is
 //! shown after `> `. `module PATH TEXT` puts a modulefile behind its cookie, `folder PATH NAME...` a directory, `from
 //! NAME=VALUE...` are the variables from there on, and `vars` shows them. `ask SHELL WORD...` answers what a request
-//! changes, and below that its report; `nameless KIND` what one without names does, as no words make one; `verdict NAME`
-//! what is said of a module; `rehearse SHELL REQUEST, SHELL REQUEST...` for each request `accepted` and the text that it
-//! prints, or `none`, and then the variables at the end. Behind `!` stand the number and the text of a refusal.
+//! changes, and below that its report; `nameless KIND` what one without names does, as no words make one; `verdict
+//! NAME` what is said of a module; `trial NAME PATH` what its load and its unload do; `rehearse SHELL REQUEST, SHELL
+//! REQUEST...` for each request `accepted` and the text that it prints, or `none`, and then the variables at the end.
+//! Behind `!` stand the number and the text of a refusal.
 //!
 //! `names` takes the public names that no call of these lines has: each fault of the environment, with its number.
 //!

@@ -1,4 +1,4 @@
-//! Requests and verdicts over a tree in memory, with the number and the text of each refusal.
+//! Requests, verdicts and trials over a tree in memory, with the number and the text of each refusal.
 
 use crate::shown::{listed, shown};
 use crate::texts::{bytes_of, first_word, meant, push_all, words};
@@ -11,6 +11,7 @@ use modules::{
 use sessions::rehearse;
 use std::alloc::{AllocError, Global};
 use std::io;
+use trials::{Trial, try_module};
 
 /// What the lines share: files, and variables.
 #[derive(Drop)]
@@ -36,6 +37,29 @@ fn verdict_line(verdict: Verdict) -> &'static str {
         Verdict::Plain => "Plain\n",
         Verdict::Asked => "Asked\n",
         Verdict::OneWay => "OneWay\n",
+    }
+}
+
+/// What was found, and by which number and text a refusal is.
+fn trial_line(alloc: Global, trial: &Trial) -> Result<String, AllocError> {
+    match trial {
+        Trial::Returns => String::from_str(alloc, "returns\n"),
+        Trial::Leaves(names) => {
+            let mut text = String::from_str(alloc, "leaves")?;
+            for name in names {
+                push_all(&mut text, &[" ", name.as_str()])?;
+            }
+            text.push_str("\n")?;
+            Ok(text)
+        }
+        Trial::LoadRefused(refusal) => {
+            format!(in alloc; "load !{} {refusal}\n", refusal.number())
+        }
+        Trial::UnloadRefused(refusal) => {
+            format!(in alloc; "unload !{} {refusal}\n", refusal.number())
+        }
+        Trial::AlreadyLoaded => String::from_str(alloc, "already loaded\n"),
+        Trial::LoadsAnother { name, path } => format!(in alloc; "loads {name} {path}\n"),
     }
 }
 
@@ -142,6 +166,20 @@ impl Place {
         Ok(String::from_str(self.alloc, verdict_line(judged))?)
     }
 
+    /// What the load and the unload of a module do.
+    fn try_one(&mut self, rest: &str) -> Result<String, Refusal> {
+        let (name, path) = first_word(rest);
+        let trial = try_module(
+            self.alloc,
+            &self.env,
+            &mut self.tree,
+            STANDARD_LIMITS,
+            name,
+            path,
+        )?;
+        Ok(trial_line(self.alloc, &trial)?)
+    }
+
     fn variables(&self) -> Result<String, Refusal> {
         let variables = shown(self.alloc, &self.env)?;
         Ok(format!(in self.alloc; "{variables}\n")?)
@@ -158,6 +196,7 @@ impl Place {
             "rehearse" => self.rehearse(rest),
             "nameless" => self.ask_nameless(rest),
             "verdict" => self.judge(rest),
+            "trial" => self.try_one(rest),
             _ => self.variables(),
         }
     }

@@ -1,0 +1,135 @@
+-- Trials, by what their two requests answered.
+use Rattle.std.proofs.Common.{◌≡◌, ℕ, Bool, true, false, ◌&&◌, inr, List, [], ◌∷◌, Result, Ok, Err}
+use Rattle.std.proofs.Common.{Some, IfOk, string_bytes, refl, sym, subst, ap, ◌∙◌}
+use Rattle.std.specs.Prelude.{bytes_eq}
+use Rattle.std.proofs.lemmas.Bool.{and_from, and_parts}
+use Rattle.std.proofs.lemmas.Slice.Eq.{bytes_eq-Decides}
+use Rattle.envvars.specs.Texts.{Text, texts_in}
+use Rattle.envvars.specs.Environment.{Environment}
+use Rattle.envvars.specs.Changes.{NewValue, AreChanges, applied}
+use Rattle.envvars.proofs.TextLemmas.{same_text}
+use Rattle.filetree.specs.Agreement.{FailsIf, Files, InEachPair, Listings, Narrows}
+use Rattle.filetree.proofs.FailedPaths.{fails_then}
+use Rattle.envloaded.specs.LoadedEntries.{entry_view}
+use Rattle.envloaded.specs.LoadedLaws.{AddMakes}
+use Rattle.envloaded.specs.declared.entry.Loaded.{Loaded}
+use Rattle.modulefile.specs.Moves.{loaded_names}
+use Rattle.modules.specs.MoveViews.{moves_of}
+use Rattle.modules.specs.Views.{done_view}
+use Rattle.modules.specs.declared.done.RequestResults.{RequestResults}
+use Rattle.modules.specs.declared.refusal.Refusal.{Refusal}
+use Rattle.requests.specs.Laws.{StepsReach}
+use Rattle.requests.specs.Looked.{RequestLooksAt}
+use Rattle.requests.specs.Requests.{RequestedAction, load, unload}
+use Rattle.requests.specs.Steps.{RequestContext, Done, RequestStep}
+use Rattle.trials.specs.Parts.{EndsTrial, IsDifference, IsJoined, IsOutcome}
+use Rattle.trials.specs.Trials.{Trial, returns, leaves, load_refused, unload_refused, already_loaded, loads_another}
+use Rattle.trials.specs.Trials.{HasTrial, LoadStep, LoadsModule, TrialLooksAt, UnloadStep}
+use Rattle.trials.specs.Views.{trial_view}
+use Rattle.trials.specs.declared.trial.Trial as code
+use Rattle.trials.proofs.LoadLemmas.{one_joined}
+
+-- what differs, written over the old environment, gives the new one
+abbrev pub DifferenceApplies : Type 0
+DifferenceApplies = (old new : Environment) (cs : List NewValue) → AreChanges old new cs → applied cs old ≡ new
+
+-- the trial ends as the difference says
+pub ends_so : DifferenceApplies → (s : RequestContext) (start e : Environment) (name : Text) (back : Done)
+    (cs : List NewValue) (t : Trial) → UnloadStep s e name (Ok back) → AreChanges start back.env cs → IsDifference cs t
+    → EndsTrial s start e name t
+ends_so law s start e name back cs returns step exact h =
+    (back, step, sym (law start back.env cs exact) ∙ ap (λ (l : List NewValue). applied l start) h)
+ends_so law s start e name back cs (leaves names) step exact h =
+    (back, step, record { some = h.0; changes = cs; exact = exact; named = h.1 })
+ends_so law s start e name back cs (load_refused cause) step exact h = absurd h
+ends_so law s start e name back cs (unload_refused cause) step exact h = absurd h
+ends_so law s start e name back cs already_loaded step exact h = absurd h
+ends_so law s start e name back cs (loads_another other at) step exact h = absurd h
+
+-- the end of a trial, after the load of the module
+pub tried_so : (s : RequestContext) (start e : Environment) (name path : Text) (d : Done) (t : Trial)
+    → LoadsModule s start name name path d → d.env ≡ e → EndsTrial s start e name t → HasTrial s start name path t
+tried_so s start e name path d returns loads same (back, step, is) =
+    (d, back, loads, subst (λ (x : Environment). UnloadStep s x name (Ok back)) (sym same) step, is)
+tried_so s start e name path d (leaves names) loads same (back, step, left) =
+    (d, back, loads, subst (λ (x : Environment). UnloadStep s x name (Ok back)) (sym same) step, left)
+tried_so s start e name path d (load_refused cause) loads same h = absurd h
+tried_so s start e name path d (unload_refused cause) loads same h =
+    (d, loads, subst (λ (x : Environment). EndsTrial s start x name (unload_refused cause)) (sym same) h)
+tried_so s start e name path d already_loaded loads same h = absurd h
+tried_so s start e name path d (loads_another other at) loads same h = absurd h
+
+-- ---- the module that was loaded
+
+-- the test whether it is this one
+pub is_this : (n m p q : Text) → true ≡ (bytes_eq n m && bytes_eq p q) → (n ≡ m) × (p ≡ q)
+is_this n m p q h = let k = and_parts (bytes_eq n m) (bytes_eq p q) (sym h) in (same_text n m k.0, same_text p q k.1)
+
+pub is_another : (n m p q : Text) → false ≡ (bytes_eq n m && bytes_eq p q) → (n ≡ m) × (p ≡ q) → ⊥
+is_another n m p q h (named, placed) =
+    let k : (bytes_eq n m && bytes_eq p q) ≡ true =
+    and_from (bytes_eq n m) (bytes_eq p q) ((bytes_eq-Decides n m).1 named) ((bytes_eq-Decides p q).1 placed) in
+    absurd (cc)
+
+pub loads_this : (s : RequestContext) (e : Environment) (typed n p name path : Text) (d : Done) → n ≡ name → p ≡ path
+    → LoadsModule s e typed n p d → LoadsModule s e typed name path d
+loads_this s e typed n p name path d named placed h =
+    subst (λ (x : Text). LoadsModule s e typed name x d) placed (subst (λ (x : Text). LoadsModule s e typed x p d) named h)
+
+-- ---- over a tree
+
+-- in each pair the load has loaded the module, and made this environment
+abbrev pub IsLoaded : (Files → Listings → RequestContext) → (Files → Listings → Type 0) → Environment → Environment
+    → Text → Text → Type 0
+IsLoaded context agrees start e name path = InEachPair agrees (λ files listings.
+    (d : Done) × LoadsModule (context files listings) start name name path d × (d.env ≡ e))
+
+-- the outcome of the load, where it was accepted
+pub load_accepted : (context : Files → Listings → RequestContext) (agrees : Files → Listings → Type 0)
+    (start e was : Environment) (name : Text) (done : RequestResults) (asked : RequestedAction)
+    (outcome : Result RequestResults Refusal) → was ≡ start → asked ≡ load (name ∷ []) → outcome ≡ Ok done
+    → InEachPair agrees (λ files listings. IsOutcome (RequestStep (context files listings) was asked) e outcome)
+    → InEachPair agrees (λ files listings. LoadStep (context files listings) start name (Ok (done_view done e)))
+load_accepted context agrees start e was name done asked outcome same is made h files listings agreed =
+    rw (same, is, made) at (h files listings agreed)
+
+-- so it is where what the load put into the loaded list is this module
+pub loaded_over : StepsReach → AddMakes → (context : Files → Listings → RequestContext)
+    (agrees : Files → Listings → Type 0) (start e : Environment) (name path : Text) (done : RequestResults) (entry : Loaded)
+    → texts_in done.loaded ≡ loaded_names (moves_of done.moves)
+    → IsJoined (texts_in done.loaded) e (Some (entry_view entry))
+    → true ≡ (bytes_eq (string_bytes entry.name) name && bytes_eq (string_bytes entry.path) path)
+    → InEachPair agrees (λ files listings. LoadStep (context files listings) start name (Ok (done_view done e)))
+    → IsLoaded context agrees start e name path
+loaded_over reach add context agrees start e name path done entry named joins this step files listings agreed =
+    let s = context files listings in
+    let d = done_view done e in
+    let same = is_this (string_bytes entry.name) name (string_bytes entry.path) path this in
+    let loads = one_joined reach add s start name d (step files listings agreed) (texts_in done.loaded) (entry_view entry) named joins in
+    (d, loads_this s start name (string_bytes entry.name) (string_bytes entry.path) name path d same.0 same.1 loads, refl)
+
+module _ (context : Files → Listings → RequestContext) (agrees agrees' : Files → Listings → Type 0)
+    (narrows : Narrows agrees agrees') (start e : Environment) (name path : Text)
+    (loaded : IsLoaded context agrees start e name path) where
+  -- the trial of the module is what its unload makes of it
+  pub tried_over : (result : Result code.Trial Refusal)
+      → IfOk result (λ trial. InEachPair agrees' (λ files listings. EndsTrial (context files listings) start e name (trial_view trial)))
+      → IfOk result (λ trial. InEachPair agrees' (λ files listings. HasTrial (context files listings) start name path (trial_view trial)))
+  tried_over (Ok trial) h = λ files listings agreed.
+      let l = loaded files listings (narrows files listings agreed) in
+      tried_so (context files listings) start e name path l.0 (trial_view trial) l.1 l.2 (h files listings agreed)
+  tried_over (Err refusal) h = tt
+
+  -- and where the unload failed the trial looks
+  pub failed_over : (fails : Bool) (first before now : List ℕ → Bool) → before ≡ first
+      → FailsIf fails before now (λ at. InEachPair agrees' (λ files listings. RequestLooksAt (context files listings) e (unload (name ∷ [])) at))
+      → FailsIf fails first now (λ at. InEachPair agrees' (λ files listings. TrialLooksAt (context files listings) start name path at))
+  failed_over fails first before now same h =
+      fails_then fails fails first before now _ _ same refl (λ at looks files listings agreed.
+      let l = loaded files listings (narrows files listings agreed) in
+      inr (
+        l.0,
+        l.1,
+        subst (λ (x : Environment). RequestLooksAt (context files listings) x (unload (name ∷ [])) at)
+            (sym l.2) (looks files listings agreed),
+      )) h

@@ -1,0 +1,74 @@
+-- Trials (own): what the load of a module and then its unload do in an environment.
+use Rattle.std.specs.Prelude.{◌≡◌, ◌<◌, length, List, [], ◌∷◌, map, Result, Ok, Err}
+use Rattle.envvars.specs.Texts.{Text}
+use Rattle.envvars.specs.Environment.{Environment}
+use Rattle.envvars.specs.Changes.{NewValue, AreChanges}
+use Rattle.filetree.specs.Causes.{Cause, memory, device, because}
+use Rattle.modulefile.specs.Records.{Record}
+use Rattle.modulefile.specs.Moves.{Loads}
+use Rattle.requests.specs.Looked.{LooksInTurn, RequestLooksAt}
+use Rattle.requests.specs.Reasons.{RequestReason}
+use Rattle.requests.specs.Requests.{load, unload}
+use Rattle.requests.specs.Steps.{RequestContext, Done, RequestStep}
+
+-- what a trial of a module finds
+pub data Trial : Type 0 where
+  -- after load and unload the environment is again what it was
+  returns : Trial
+  -- after both these variables are otherwise
+  leaves : (names : List Text) → Trial
+  -- the load is refused
+  load_refused : Cause RequestReason → Trial
+  -- the unload is refused
+  unload_refused : Cause RequestReason → Trial
+  -- the load changes nothing, since the module that the name means is loaded
+  already_loaded : Trial
+  -- the load is that of another module, of this name and path
+  loads_another : (name path : Text) → Trial
+
+-- the requests of a trial: the load of the name, and its unload
+abbrev pub LoadStep : RequestContext → Environment → Text → Result Done RequestReason → Type 0
+LoadStep s e name = RequestStep s e (load (name ∷ []))
+
+abbrev pub UnloadStep : RequestContext → Environment → Text → Result Done RequestReason → Type 0
+UnloadStep s e name = RequestStep s e (unload (name ∷ []))
+
+-- A request is refused: for the reason of its step, or because a device failed. Want of memory is no finding.
+abbrev pub IsRefusedBy : Cause RequestReason → (Result Done RequestReason → Type 0) → Type 0
+IsRefusedBy memory Step = ⊥
+IsRefusedBy device Step = Unit {0}
+IsRefusedBy (because reason) Step = Step (Err reason)
+
+-- The load of the typed name is accepted, and what it loads is the module of this name and path alone.
+pub record LoadsModule (s : RequestContext) (e : Environment) (typed name path : Text) (d : Done) : Type 0 where
+  pub accepted : LoadStep s e typed (Ok d)
+  pub records : List Record
+  pub alone : d.moves ≡ Loads (record { name = name; path = path; records = records }) ∷ []
+
+-- These are the variables whose values differ, each once, in the order of the bytes of names, and there are some.
+pub record AreLeft (old new : Environment) (names : List Text) : Type 0 where
+  pub some : 0 < length names
+  pub changes : List NewValue
+  pub exact : AreChanges old new changes
+  pub named : names ≡ map (λ c. c.0) changes
+
+-- The trial of the module of this name and path, in an environment: its name is loaded, and where that loads this
+-- module the name is unloaded again.
+abbrev pub HasTrial : RequestContext → Environment → Text → Text → Trial → Type 0
+HasTrial s e name path returns =
+    (d back : Done) × LoadsModule s e name name path d × UnloadStep s d.env name (Ok back) × (back.env ≡ e)
+HasTrial s e name path (leaves names) =
+    (d back : Done) × LoadsModule s e name name path d × UnloadStep s d.env name (Ok back)
+    × AreLeft e back.env names
+HasTrial s e name path (load_refused cause) = IsRefusedBy cause (LoadStep s e name)
+HasTrial s e name path (unload_refused cause) =
+    (d : Done) × LoadsModule s e name name path d × IsRefusedBy cause (UnloadStep s d.env name)
+HasTrial s e name path already_loaded = (d : Done) × LoadStep s e name (Ok d) × (d.moves ≡ [])
+HasTrial s e name path (loads_another other at) =
+    (d : Done) × LoadsModule s e name other at d × ((other ≡ name) × (at ≡ path) → ⊥)
+
+-- The trial looks at this path: the load does, or in what it made the unload.
+abbrev pub TrialLooksAt : RequestContext → Environment → Text → Text → Text → Type 0
+TrialLooksAt s e name path =
+    LooksInTurn (RequestLooksAt s e (load (name ∷ []))) (LoadsModule s e name name path)
+    (λ d. RequestLooksAt s d.env (unload (name ∷ [])))

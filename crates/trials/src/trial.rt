@@ -1,0 +1,147 @@
+//! The trial of a module: its load and then its unload, over an environment that stays as it is.
+ghost use Rattle.std.specs.Prelude.{◌≡◌, ◌≤◌, ◌+◌, ◌&&◌, [], ◌∷◌, map, IfOk, IfErr, bytes_eq, string_bytes};
+ghost use Rattle.envvars.specs.Changes.{new_values_in};
+ghost use Rattle.envvars.specs.Texts.{texts_in};
+ghost use Rattle.filetree.specs.Agreement.{FailsIf, InEachPair, ReadsOn};
+ghost use Rattle.filetree.specs.Causes.{memory};
+ghost use Rattle.modules.specs.Answers.{cause_of};
+ghost use Rattle.modules.specs.Verdicts.{in_sh};
+ghost use Rattle.requests.specs.Looked.{RequestLooksAt};
+ghost use Rattle.requests.specs.Requests.{unload};
+ghost use Rattle.trials.specs.Parts.{EndsTrial, IsDifference};
+ghost use Rattle.trials.specs.Trials.{HasTrial, TrialLooksAt};
+ghost use Rattle.trials.specs.Views.{count_failed, is_failed, trial_view};
+
+use crate::loading::joined;
+use crate::requesting::{do_in_sh, load_of, unload_of};
+use envloaded::Loaded;
+use envvars::{Change, Env, changes};
+use filetree::Tree;
+use modules::Refusal;
+use std::alloc::{AllocError, Global};
+use tclrules::Limits;
+
+/// What the load of a module and then its unload do in an environment.
+#[derive(Debug, Drop)]
+pub enum Trial {
+    /// The environment is again what it was, byte for byte.
+    Returns,
+    /// These variables are otherwise than before, each once, in the order of their bytes.
+    Leaves(Vec<String>),
+    /// The load is refused.
+    LoadRefused(Refusal),
+    /// The unload is refused.
+    UnloadRefused(Refusal),
+    /// The load changes nothing, since what the name means is loaded already; nothing is tried.
+    AlreadyLoaded,
+    /// The name means another module in this environment, which is loaded in place of this one; its unload isn't tried.
+    LoadsAnother {
+        /// The other's full name.
+        name: String,
+        /// The path of its file.
+        path: String,
+    },
+}
+
+/// The names of changed variables.
+fn names_of(alloc: Global, changes: Vec<Change>) -> Result<Vec<String>, AllocError>
+    ensures { IfOk result (λ names. texts_in names ≡ map (λ c. c.0) (new_values_in changes)) }
+{
+    let mut names = Vec::with_capacity(alloc, changes.len())?;
+    for change in changes {
+        names.push(change.name)?;
+    }
+    Ok(names)
+}
+
+/// The trial after which these changes are the difference to the environment from before.
+fn trial_of(alloc: Global, changes: Vec<Change>) -> Result<Trial, AllocError>
+    ensures { IfOk result (λ trial. IsDifference (new_values_in changes) (trial_view trial)) }
+{
+    if changes.is_empty() {
+        return Ok(Trial::Returns);
+    }
+    Ok(Trial::Leaves(names_of(alloc, changes)?))
+}
+
+/// Whether it is the module of this name and path.
+fn is_module(entry: &Loaded, name: &str, path: &str) -> bool
+    ensures { result ≡ (bytes_eq (string_bytes entry.now.name) name.now
+        && bytes_eq (string_bytes entry.now.path) path.now) }
+{
+    entry.name.as_str() == name && entry.path.as_str() == path
+}
+
+/// Unloads the name in the environment that its load made, and compares what that leaves with the environment from
+/// before the load.
+fn try_unload<T: Tree>(
+    alloc: Global,
+    name: &str,
+    start: &Env,
+    env: &mut Env,
+    tree: &mut T,
+    limits: Limits,
+) -> Result<Trial, Refusal>
+    ensures reads { ReadsOn T.agrees T.failures tree.old tree.new }
+    ensures ended { IfOk result (λ trial. InEachPair (T.agrees tree.new) (λ files listings.
+        EndsTrial (in_sh limits files listings) start.now env.old name.now (trial_view trial))) }
+    ensures failures { IfOk result (λ trial. T.failures tree.old + count_failed trial ≤ T.failures tree.new) }
+    ensures cause { IfErr result (λ refusal. cause_of refusal ≡ memory) }
+    ensures failed { FailsIf (is_failed result) (T.failed tree.old) (T.failed tree.new) (λ at.
+        InEachPair (T.agrees tree.new) (λ files listings.
+        RequestLooksAt (in_sh limits files listings) env.old (unload (name.now ∷ [])) at)) }
+{
+    envvars::laws::changes();
+    let action = unload_of(alloc, name)?;
+    if let Err(refusal) = do_in_sh(alloc, action, env, tree, limits)? {
+        return Ok(Trial::UnloadRefused(refusal));
+    }
+    let changes = changes(alloc, start, env)?;
+    Ok(trial_of(alloc, changes)?)
+}
+
+/// Tries a module in an environment, which doesn't change, over a tree of modulefiles: its full name is loaded for sh,
+/// as a request of its own, and where that loads the module of this name and path, and no other, the name is unloaded
+/// again.
+///
+/// In each pair of maps that agrees with the tree the answer is the trial of the module. A refusal in it has its reason
+/// in the step of the request; or it is by 43, where the device failed in this call, at a path that the trial looks at.
+/// So a failed device is a refusal of this trial alone, and whoever tries many modules can go on.
+///
+/// Errors: want of memory (11, 31, 41).
+pub fn try_module<T: Tree>(
+    alloc: Global,
+    env: &Env,
+    tree: &mut T,
+    limits: Limits,
+    name: &str,
+    path: &str,
+) -> Result<Trial, Refusal>
+    ensures reads { ReadsOn T.agrees T.failures tree.old tree.new }
+    ensures tried { IfOk result (λ trial. InEachPair (T.agrees tree.new) (λ files listings.
+        HasTrial (in_sh limits files listings) env.now name.now path.now (trial_view trial))) }
+    ensures failures { IfOk result (λ trial. T.failures tree.old + count_failed trial ≤ T.failures tree.new) }
+    ensures cause { IfErr result (λ refusal. cause_of refusal ≡ memory) }
+    ensures failed { FailsIf (is_failed result) (T.failed tree.old) (T.failed tree.new) (λ at.
+        InEachPair (T.agrees tree.new) (λ files listings.
+        TrialLooksAt (in_sh limits files listings) env.now name.now path.now at)) }
+{
+    requests::outcomes();
+    envloaded::laws::loaded_edits();
+    let mut after = env.copy()?;
+    let action = load_of(alloc, name)?;
+    let done = match do_in_sh(alloc, action, &mut after, tree, limits)? {
+        Ok(done) => done,
+        Err(refusal) => return Ok(Trial::LoadRefused(refusal)),
+    };
+    let Some(entry) = joined(alloc, &done, &after)? else {
+        return Ok(Trial::AlreadyLoaded);
+    };
+    if !is_module(&entry, name, path) {
+        return Ok(Trial::LoadsAnother {
+            name: entry.name,
+            path: entry.path,
+        });
+    }
+    try_unload(alloc, name, env, &mut after, tree, limits)
+}
