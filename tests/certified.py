@@ -350,6 +350,10 @@ def differs(found, site):
         "the modules": (list(map(standing_in, found["modules"])), [standing_by(one, modules) for one in modules]),
         "the certificate": (uses_in(found["certificate"]), set(site.uses)),
         "the missing directories": (found["missing_directories"], standings.missing(site.directories, os.path.isdir)),
+        "the directories that hang": (
+            [(one["name"], one["path"], one["directory"]) for one in found["hanging_directories"]],
+            [(one.name, one.path, directory) for one, directory in standings.hanging(site.modulepath, modules)],
+        ),
         "the files that are no modulefiles": (found["no_modulefiles"], []),
         "the counts": ((found["certified"], found["count"]), (len(site.certified), len(site.modules))),
     }

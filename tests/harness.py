@@ -78,12 +78,12 @@ def refuser(path, name="failing_malloc"):
     return shim
 
 
-def refuses_each(shim, run, is_refused, what):
+def refuses_each(shim, run, is_refused, what, variables=(b"FAIL_AT", b"FAIL_FROM")):
     """Refuses each growth of memory in turn, and then all from each on. `run` is given the variables that ask for it,
-    and finds what it does with ample memory, or what is refused."""
+    and finds what it does with ample memory, or what is refused. Answers how many were tried at last."""
     ample = run({})
     true(not is_refused(ample), f"{what} with ample memory: found {ample!r}")
-    for variable in (b"FAIL_AT", b"FAIL_FROM"):
+    for variable in variables:
         refused = 0
         quiet = 0
         number = 0
@@ -98,6 +98,7 @@ def refuses_each(shim, run, is_refused, what):
                 refused += 1
                 quiet = 0
         true(refused > 0, f"{what}: no growth was refused")
+    return number
 
 
 def dynamic(program):

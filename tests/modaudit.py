@@ -5,6 +5,7 @@ model in `standings.py`, which shares nothing with the program. In rows and modu
 folders that a case makes.
 """
 
+import itertools
 import json
 import os
 import pty
@@ -27,7 +28,7 @@ from tests.worked import FOLDER, real, write
 
 TOP = os.path.dirname(HERE)
 ERROR = "ERROR: {}\n"
-USAGE = "Usage: modaudit [--quiet] [--json] [DIR...]"
+USAGE = "Usage: modaudit [--quiet] [--json] [--without NAME]... [DIR...]"
 WRITING_FAILED = ERROR.format("Writing failed").encode()
 
 # How many directories a site may have (modaudit(1), Too many directories).
@@ -40,6 +41,12 @@ TWICE = 2.3
 @pytest.fixture(scope="session")
 def program(built):
     return built("modaudit")
+
+
+def without_here(lines, wanted):
+    """The lines, each without its fifth field, what happens here, where the line that is wanted in its place has none."""
+    pairs = itertools.zip_longest(lines, wanted[: len(lines)], fillvalue="")
+    return [line.rpartition("\t")[0] if (line.count("\t"), other.count("\t")) == (4, 3) else line for line, other in pairs]
 
 
 class Site:
@@ -64,7 +71,8 @@ class Site:
         done = self.run(*words)
         wanted = real(self.folder, "".join(line + "\n" for line in lines))
         what = f"of {words} over {lines}"
-        same((done.stderr, done.stdout.decode().splitlines()), (b"", wanted.decode().splitlines()), f"what is said {what}")
+        said = without_here(done.stdout.decode().splitlines(), wanted.decode().splitlines())
+        same((done.stderr, said), (b"", wanted.decode().splitlines()), f"what is said {what}")
         count = re.search(r"^# (\d+) certified of (\d+)$", wanted.decode(), re.MULTILINE)
         same(done.returncode, int(count[1] != count[2]) if status is None else status, f"the status {what}")
 
@@ -80,6 +88,9 @@ class Site:
         true(done.stdout.endswith(b"\n") and done.stdout.count(b"\n") == 1, "the document is a line")
         return json.loads(done.stdout)
 
+
+# The remark on a directory that a module adds which isn't settled.
+HANGS = "# a/1 (/m/a/1): isn't settled, and adds the directory {}"
 
 # Standings, by hand: modulefiles; of each module in turn its name, its standing and the reason; and remarks.
 
@@ -626,11 +637,13 @@ ROWS = {
     ),
     "a directory that a module adds which isn't plain": (
         {"/m/a/1": "append-path MODULEPATH /n\nremove-path W x\n", "/n/b/1": "setenv V y\n"},
-        [("a/1", "one-way", "remove-path W x")],
+        [("a/1", "one-way", "remove-path W x"), ("b/1", "certified", "")],
+        [HANGS.format("/n")],
     ),
     "a directory that a module adds which asks": (
         {"/m/a/1": "append-path MODULEPATH /n\nis-loaded\n", "/n/b/1": "setenv V y\n"},
-        [("a/1", "asks", "is-loaded")],
+        [("a/1", "asks", "is-loaded"), ("b/1", "certified", "")],
+        [HANGS.format("/n")],
     ),
     "a directory that a module adds which says something": (
         {
@@ -641,7 +654,8 @@ ROWS = {
     ),
     "a directory by the shell": (
         {"/m/a/1": "append-path MODULEPATH /n/[module-info shell]\n", "/n/sh/b/1": ""},
-        [("a/1", "asks", "module-info shell")],
+        [("a/1", "asks", "module-info shell"), ("b/1", "certified", "")],
+        [HANGS.format("/n/sh")],
     ),
     "a directory that a module adds which reads": (
         {"/m/a/1": "append-path MODULEPATH /n\ngetenv HOME\n", "/n/b/1": "setenv V y\n"},
@@ -678,11 +692,11 @@ ROWS = {
 
 def place_of(name, files):
     """Where the module of this name is, in the rows that have each name once."""
-    return next(path for path in files if path.split("/", 2)[2] == name)
+    return next(path for path in files if path.endswith(f"/{name}"))
 
 
 # The standings of which a report has the sums, in its order (modaudit(1), How modules stand).
-OTHERS = ("asks", "one-way", "reads-used", "out-of-step", "clashes", "refused")
+OTHERS = ("asks", "one-way", "reads-used", "out-of-step", "withheld", "clashes", "refused")
 
 
 def counts_of(words):
@@ -705,7 +719,8 @@ def test_the_standing_of_each_row(folder, files, rows, remarks):
 
 def test_each_standing_has_a_row():
     words = {word for _, rows, *_ in ROWS.values() for _, word, _ in rows}
-    same(sorted(words), sorted(["certified", *OTHERS]), "the standings of the rows")
+    by_rules = [word for word in ("certified", *OTHERS) if word != "withheld"]
+    same(sorted(words), sorted(by_rules), "the standings of the rows")
 
 
 @each_row
@@ -738,7 +753,239 @@ def test_two_files_of_one_name(folder):
     Site(folder, {"/n/a/1": "setenv V y\n"}, "/m:/n").says(lines)
 
 
+# What happens here: the load and the unload of each module that isn't certified, in the environment of the audit.
+
+RETURNS = {"trial": "returns"}
+
+
+def leaves(*names):
+    return {"trial": "leaves", "variables": list(names)}
+
+
+def refused(what, text):
+    return {"trial": f"{what}-refused", "refusal": text}
+
+
+def loads(name, path):
+    return {"trial": "another", "name": name, "path": path}
+
+
+# By what happens: modulefiles, the environment, and of each module that has a fifth field its place, the field, and what
+# the document has in its place.
+HERE_ROWS = {
+    "it returns": ({"/m/a/1": "is-loaded\nsetenv V x\n"}, {}, [("/m/a/1", "returns", RETURNS)]),
+    "an unload that doesn't undo the load": (
+        {"/m/a/1": "if {[module-info mode load]} {setenv GREETING hello}\n"},
+        {},
+        [("/m/a/1", "leaves GREETING", leaves("GREETING"))],
+    ),
+    "a variable that was set, and an element that is taken out": (
+        {"/m/a/1": "setenv V x\nremove-path P /b\n"},
+        {"V": "y", "P": "/a:/b"},
+        [("/m/a/1", "leaves P, V", leaves("P", "V"))],
+    ),
+    "an element that isn't there": ({"/m/a/1": "remove-path P /c\n"}, {"P": "/a"}, [("/m/a/1", "returns", RETURNS)]),
+    "an element that is there": ({"/m/a/1": "is-loaded\nappend-path P /a\n"}, {"P": "/a"}, [("/m/a/1", "returns", RETURNS)]),
+    "a path that is set and empty": (
+        {"/m/a/1": "is-loaded\nappend-path P /a\n"},
+        {"P": ""},
+        [("/m/a/1", "leaves P", leaves("P"))],
+    ),
+    "a load that is refused": (
+        {"/m/a/1": "is-loaded\nprereq gone other\n"},
+        {},
+        [("/m/a/1", "its load is refused: Missing one of 'gone other'", refused("load", "Missing one of 'gone other'"))],
+    ),
+    "a load that is in conflict with what is loaded": (
+        {"/m/a/1": "is-loaded\nconflict b\n", "/m/b/1": ""},
+        {"LOADEDMODULES": "b/1", "_LMFILES_": "/m/b/1"},
+        [("/m/a/1", "its load is refused: Conflict with 'b/1'", refused("load", "Conflict with 'b/1'"))],
+    ),
+    "an unload that is refused": (
+        {"/m/a/1": 'if {[module-info mode unload]} {error "not\\tnow"}\n'},
+        {},
+        [("/m/a/1", "its unload is refused: not\\tnow (line 2)", refused("unload", "not\tnow (line 2)"))],
+    ),
+    "a module that is loaded": (
+        {"/m/a/1": "is-loaded\n"},
+        {"LOADEDMODULES": "a/1", "_LMFILES_": "/m/a/1"},
+        [("/m/a/1", "is loaded", {"trial": "loaded"})],
+    ),
+    "another of its name": (
+        {"/m/a/1": "", "/n/a/1": "is-loaded\n"},
+        {"MODULEPATH": "/m:/n"},
+        [("/n/a/1", "a/1 (/m/a/1) is loaded in its place", loads("a/1", "/m/a/1"))],
+    ),
+    "one in a directory that a module adds": (
+        {"/m/a/1": "append-path MODULEPATH /n\n", "/n/b/1": "is-loaded\n"},
+        {},
+        [
+            (
+                "/n/b/1",
+                "its load is refused: Unable to locate a modulefile for 'b/1'",
+                refused("load", "Unable to locate a modulefile for 'b/1'"),
+            )
+        ],
+    ),
+    "each alone, and none that is refused": (
+        {
+            "/m/a/1": "prepend-path V x\nconflict c\n",
+            "/m/b/1": "pushenv V x\n",
+            "/m/c/1": "is-loaded\nprereq a\nconflict d\n",
+            "/m/d/1": "setenv D $env(V)\nis-loaded\n",
+            "/m/e/1": "is-loaded\nconflict c\nsetenv D 1\n",
+            "/m/f/1": "setenv F 1\npushenv F 2\n",
+            "/m/g/1": "getenv V\n",
+        },
+        {},
+        [
+            ("/m/b/1", "returns", RETURNS),
+            ("/m/c/1", "its load is refused: Missing one of 'a'", refused("load", "Missing one of 'a'")),
+            ("/m/e/1", "returns", RETURNS),
+            ("/m/f/1", "leaves F", leaves("F")),
+            ("/m/g/1", "returns", RETURNS),
+        ],
+    ),
+}
+
+
+@pytest.mark.parametrize("files, variables, rows", HERE_ROWS.values(), ids=HERE_ROWS)
+def test_what_happens_here(folder, files, variables, rows):
+    site = Site(folder, files, **variables)
+    for words in ((), ("--quiet",)):
+        lines = [line.split("\t") for line in site.run(*words).stdout.decode().splitlines()]
+        found = {line[3]: line[4] for line in lines if len(line) == 5}
+        wanted = real(folder, "\n".join(f"{path}\t{text}" for path, text, _ in rows)).decode()
+        same(found, dict(line.split("\t", 1) for line in wanted.splitlines()), "the fifth fields")
+        modules = site.document(*words)["modules"]
+        wanted = json.loads(real(folder, json.dumps({path: value for path, _, value in rows})))
+        same({module["path"]: module["here"] for module in modules if "here" in module}, wanted, "the document")
+
+
+def test_what_happens_in_the_directories_of_the_command(folder):
+    """A module that is withheld, and one that would be another's with the MODULEPATH of the environment."""
+    site = Site(folder, {"/m/a/1": "setenv V x\n", "/m/b/1": "is-loaded\n", "/n/b/1": "setenv V x\n"}, "/n")
+    there = os.fsdecode(real(folder, "/m"))
+    lines = ["a/1\twithheld\t--without\t/m/a/1\treturns", "b/1\tasks\tis-loaded\t/m/b/1\treturns"]
+    site.says([*lines, "# 0 certified of 2", "# 1 asks", "# 1 withheld"], "--without", "a", there)
+
+
+# Modules that are withheld by hand.
+
+
+def test_modules_that_are_withheld(folder):
+    """Of those that would be judged together those are withheld that a name means; the others are judged without them,
+    and what asks, is refused or reads what they use stands as it does with them."""
+    files = {
+        "/m/ask/1": "setenv A 1\nis-loaded\n",
+        "/m/b/1": "conflict b\nsetenv V 2\n",
+        "/m/b/2": "conflict b\nsetenv V 3\n",
+        "/m/c/1": "pushenv V 4\n",
+        "/m/d/1": "getenv V\n",
+        "/m/e/1": "setenv E 1\npushenv E 2\n",
+        "/m/f/1": "nope\n",
+    }
+    site = Site(folder, files)
+    reads = "reads-used\tV: read here, used in b/1 (/m/b/1)\t/m/d/1"
+    besides = ["e/1\tout-of-step\tE: set, and stack\t/m/e/1", 'f/1\trefused\tinvalid command name "nope" (line 2)\t/m/f/1']
+    first = "ask/1\tasks\tis-loaded\t/m/ask/1"
+    lines = [first, "b/1\tcertified\t\t/m/b/1", "b/2\tcertified\t\t/m/b/2"]
+    lines += ["c/1\tclashes\tV: stack here, set in b/1 (/m/b/1); used so by 2\t/m/c/1", f"d/1\t{reads}", *besides]
+    sums = ["# 1 asks", "# 1 reads-used", "# 1 out-of-step"]
+    site.says([*lines, "# 2 certified of 7", *sums, "# 1 clashes", "# 1 refused"])
+    left = [f"b/{number}\twithheld\t--without\t/m/b/{number}" for number in (1, 2)]
+    for words in (("--without", "b"), ("--without", "b/1", "--without", "b/2"), ("--quiet", "--without", "b", "--")):
+        kept = [] if "--quiet" in words else ["c/1\tcertified\t\t/m/c/1"]
+        site.says([first, *left, *kept, f"d/1\t{reads}", *besides, "# 1 certified of 7", *sums, "# 2 withheld", "# 1 refused"], *words)
+    clash = "c/1\tclashes\tV: stack here, set in b/2 (/m/b/2); used so by 1\t/m/c/1"
+    one = [first, left[0], "b/2\tcertified\t\t/m/b/2", clash, f"d/1\t{reads}", *besides]
+    site.says([*one, "# 1 certified of 7", *sums, "# 1 withheld", "# 1 clashes", "# 1 refused"], "--without", "b/1")
+    for words in (("--without", "bb"), ("--without", "b/"), ("--without", ""), ("--without", "--json"), ("--without", "a")):
+        site.says([*lines, "# 2 certified of 7", *sums, "# 1 clashes", "# 1 refused"], *words)
+    found = site.document("--without", "b")
+    same([module["standing"] for module in found["modules"][1:3]], ["withheld"] * 2, "the document")
+    same(found["certificate"], [{"variable": "V", "use": "stack"}], "the certificate")
+    site.refuses(f"Bad arguments\n{USAGE}", "--without")
+    site.refuses(f"Bad arguments\n{USAGE}", "--quiet", "--without", "--", "b")
+    site.refuses("Not a directory: '--without'", "--", "--without", "b")
+
+
 # Remarks.
+
+
+def test_remarks_on_directories_behind_modules_that_are_not_settled(folder):
+    """Their modules are judged. No remark is on a directory that MODULEPATH has or a settled module adds."""
+    files = {
+        "/m/a/1": "is-loaded\nappend-path MODULEPATH /n:/o\nprepend-path MODULEPATH /n:/m\n",
+        "/m/b/1": "remove-path V x\nappend-path MODULEPATH /n/in:/o\n",
+        "/m/c/1": "append-path MODULEPATH /o\n",
+        "/m/d/1": "append-path MODULEPATH /p\nnope\n",
+        "/n/in/x/1": "",
+        "/o/y/1": "",
+    }
+    site = Site(folder, files)
+    lines = ["a/1\tasks\tis-loaded\t/m/a/1", "b/1\tone-way\tremove-path V x\t/m/b/1", "c/1\tcertified\t\t/m/c/1"]
+    lines += ['d/1\trefused\tinvalid command name "nope" (line 3)\t/m/d/1', "in/x/1\tcertified\t\t/n/in/x/1"]
+    lines += ["y/1\tcertified\t\t/o/y/1", "x/1\tcertified\t\t/n/in/x/1"]
+    remarks = [
+        "# a/1 (/m/a/1): isn't settled, and adds the directory /n",
+        "# b/1 (/m/b/1): isn't settled, and adds the directory /n/in",
+    ]
+    site.says([*lines, "# 4 certified of 7", "# 1 asks", "# 1 one-way", "# 1 refused", *remarks])
+    there = [os.fsdecode(real(folder, path)) for path in ("/m/a/1", "/n", "/m/b/1", "/n/in")]
+    wanted = [
+        {"name": "a/1", "path": there[0], "directory": there[1]},
+        {"name": "b/1", "path": there[2], "directory": there[3]},
+    ]
+    same(site.document()["hanging_directories"], wanted, "the document")
+
+
+def test_remarks_on_modules_that_ask_beside_certified_ones(folder):
+    """Those that ask and clash with a certified one by what their first evaluation leaves; their own conflicts exclude."""
+    files = {
+        "/m/gcc/1": "setenv CC gcc\nis-loaded\n",
+        "/m/gcc/2": "conflict mpi\nsetenv CC gcc\nis-loaded\n",
+        "/m/gcc/3": "append-path P /a\nis-loaded\n",
+        "/m/gcc/4": "pushenv P /a\nmodule-info specified\n",
+        "/m/gcc/5": "setenv CC gcc\nremove-path P /a\n",
+        "/m/mpi/1": "setenv CC mpicc\nprepend-path P /b\n",
+        "/m/mpi/2": "setenv CC x\n",
+    }
+    site = Site(folder, files)
+    asks = {1: "is-loaded", 2: "is-loaded", 3: "is-loaded", 4: "module-info specified"}
+    lines = [f"gcc/{number}\tasks\t{why}\t/m/gcc/{number}" for number, why in asks.items()]
+    lines += ["gcc/5\tone-way\tremove-path P /a\t/m/gcc/5", "mpi/1\tcertified\t\t/m/mpi/1"]
+    lines += ["mpi/2\tclashes\tCC: set here, set in mpi/1 (/m/mpi/1); used so by 2\t/m/mpi/2"]
+    remarks = [
+        "# gcc/1 (/m/gcc/1): asks, and clashes: CC: set here, set in mpi/1 (/m/mpi/1); used so by 2",
+        "# gcc/4 (/m/gcc/4): asks, and clashes: P: stack here, path with ':' in mpi/1 (/m/mpi/1); used so by 1",
+    ]
+    site.says([*lines, "# 1 certified of 7", "# 4 asks", "# 1 one-way", "# 1 clashes", *remarks])
+    other = {"name": "mpi/1", "path": os.fsdecode(real(folder, "/m/mpi/1"))}
+    path = {"use": "path", "delimiter": ":"}
+    wanted = [
+        ("gcc/1", {"variable": "CC", "uses": [{"use": "set"}] * 2, "other": other, "alike": 2}),
+        ("gcc/4", {"variable": "P", "uses": [{"use": "stack"}, path], "other": other, "alike": 1}),
+    ]
+    wanted = [{"name": name, "path": os.fsdecode(real(folder, f"/m/{name}")), **clash} for name, clash in wanted]
+    same(site.document()["asking_clashes"], wanted, "the document")
+
+
+def test_remarks_on_default_files_that_are_not_read(folder):
+    """Those that stand in a directory of the site itself, in the order of the walk."""
+    files = {
+        "/m/.modulerc": "nope\n",
+        "/m/a/1": "append-path MODULEPATH /n:/o\n",
+        "/m/a/.modulerc": "",
+        "/n/b/.modulerc": "",
+        "/o/.modulerc": "module-version a/1 default\n",
+        "/o/.version": "nope\n",
+    }
+    site = Site(folder, files, "/m:/m/a")
+    paths = ["/m/.modulerc", "/m/a/.modulerc", "/o/.modulerc"]
+    remarks = [f"# default file that isn't read: {path}" for path in paths]
+    site.says(["a/1\tcertified\t\t/m/a/1", "1\tcertified\t\t/m/a/1", "# 2 certified of 2", *remarks])
+    same(site.document()["unread_default_files"], [os.fsdecode(real(folder, path)) for path in paths], "the document")
 
 
 def test_remarks_on_default_files_and_names(folder):
@@ -776,11 +1023,12 @@ def test_remarks_on_directories_that_are_not_there(folder):
         "/m/b/1": "append-path MODULEPATH /r\nis-loaded\n",
         "/n/c/1": "prepend-path MODULEPATH /o/p:/m/none\n",
     }
-    missing = ["/m/none", "/o", "/o/p", "/m/a/1", "/m/q"]
+    missing = ["/m/none", "/o", "/o/p", "/m/a/1", "/m/q", "/r"]
     site = Site(folder, files, "/m/none:/m:/m/b")
     lines = [f"a/{number}\tcertified\t\t/m/a/{number}" for number in (1, 2)]
     lines += ["b/1\tasks\tis-loaded\t/m/b/1", "1\tasks\tis-loaded\t/m/b/1", "c/1\tcertified\t\t/n/c/1"]
-    site.says([*lines, "# 3 certified of 5", "# 2 asks", *[f"# no directory: {path}" for path in missing]])
+    added = [f"# {name} (/m/b/1): isn't settled, and adds the directory /r" for name in ("b/1", "1")]
+    site.says([*lines, "# 3 certified of 5", "# 2 asks", *[f"# no directory: {path}" for path in missing], *added])
     same(site.document()["missing_directories"], [os.fsdecode(real(folder, path)) for path in missing], "the document")
     site.clear()
     done = Site(folder, {}, "/m:/n").run()
@@ -1047,9 +1295,15 @@ def test_the_document_says_the_same(folder):
     wanted = {
         "modules": [
             {"name": "a/1", "standing": "certified"},
-            {"name": "b/1", "standing": "asks", "question": "module-info mode load"},
-            {"name": "c/1", "standing": "one-way", "record": "remove-path V x"},
-            {"name": "d/1", "standing": "out-of-step", "variable": "D", "uses": [{"use": "set"}, {"use": "stack"}]},
+            {"name": "b/1", "standing": "asks", "question": "module-info mode load", "here": leaves("B")},
+            {"name": "c/1", "standing": "one-way", "record": "remove-path V x", "here": RETURNS},
+            {
+                "name": "d/1",
+                "standing": "out-of-step",
+                "variable": "D",
+                "uses": [{"use": "set"}, {"use": "stack"}],
+                "here": leaves("D"),
+            },
             {
                 "name": "e/1",
                 "standing": "clashes",
@@ -1057,6 +1311,7 @@ def test_the_document_says_the_same(folder):
                 "uses": [{"use": "set"}, {"use": "stack"}],
                 "other": {"name": "f/1", "path": f"{there}/f/1"},
                 "alike": 1,
+                "here": RETURNS,
             },
             {"name": "f/1", "standing": "certified"},
             {"name": "g/1", "standing": "refused", "refusal": 'invalid command name "nope" (line 2)'},
@@ -1066,8 +1321,10 @@ def test_the_document_says_the_same(folder):
                 "standing": "reads-used",
                 "variable": "E",
                 "other": {"name": "e/1", "path": f"{there}/e/1"},
+                "here": RETURNS,
             },
         ],
+        "unreadable": [],
         "certified": 3,
         "count": 9,
         "certificate": [
@@ -1081,6 +1338,9 @@ def test_the_document_says_the_same(folder):
         "missing_directories": [],
         "no_modulefiles": [],
         "bad_default_files": [f"{there}/a/.version"],
+        "unread_default_files": [],
+        "hanging_directories": [],
+        "asking_clashes": [],
         "unknown_names": [
             {"name": "a/1", "path": f"{there}/a/1", "command": "conflict", "names": ["q"]},
             {"name": "f/1", "path": f"{there}/f/1", "command": "prereq", "names": ["y", "z"]},
@@ -1135,7 +1395,7 @@ def test_help(folder):
         same((done.stderr, done.returncode), (b"", 0), f"standard error and status of {words}")
         lines = done.stdout.decode().splitlines()
         same(lines[0], USAGE, f"what {words} writes first")
-        true(all(option in lines[1] for option in ("--quiet", "--json")), f"what {words} writes then: {lines[1:]}")
+        true(all(option in lines[1] for option in ("--quiet", "--json", "--without")), f"what {words} writes then: {lines[1:]}")
         same(len(lines), 2, "how many lines")
     site.refuses("Not a directory: '--help'", "--", "--help")
     with open("/dev/full", "wb", buffering=0) as full:
@@ -1155,18 +1415,95 @@ def test_arguments_that_are_refused(folder):
     site.refuses("Not a directory: '--quiet'", "--", "--quiet")
 
 
+# What can't be read. A ring of links can't, whoever asks.
+
+
+def unreadable_line(path):
+    return f"\trefused\tReading failed\t{path}"
+
+
+def ring(folder, path):
+    os.symlink(os.path.basename(path), real(folder, path))
+
+
+def test_what_cannot_be_read_is_refused_and_the_rest_judged(folder):
+    files = {
+        "/m/a/1": "setenv V x\n",
+        "/m/b/1": "append-path MODULEPATH /n:/o\nconflict c/2\n",
+        "/m/c/1": "pushenv V y\n",
+        "/n/d/1": "nope\n",
+    }
+    site = Site(folder, files, "/m:/m/gone:/m/ring")
+    rings = ["/m/ring", "/m/c/2", "/m/a/.version", "/m/.modulerc", "/m/e", "/n/f", "/o"]
+    for path in rings:
+        ring(folder, path)
+    modules = [
+        "a/1\tclashes\tV: set here, stack in c/1 (/m/c/1); used so by 1\t/m/a/1",
+        "b/1\tcertified\t\t/m/b/1",
+        "c/1\tcertified\t\t/m/c/1",
+        "d/1\trefused\tinvalid command name \"nope\" (line 2)\t/n/d/1",
+    ]
+    done = site.run()
+    lines = done.stdout.decode().splitlines()
+    wanted = real(folder, "\n".join(modules)).decode().splitlines()
+    same(without_here(lines[:4], wanted), wanted, "the modules")
+    said = [line for line in lines if line.startswith("\trefused\t")]
+    looked = [path for path in sorted(rings) if unreadable_line(os.fsdecode(real(folder, path))) in said]
+    same(said, [unreadable_line(os.fsdecode(real(folder, path))) for path in looked], "what can't be read, in its order")
+    true({"/m/ring", "/m/c/2", "/m/a/.version", "/m/e", "/n/f", "/o"} <= set(looked), f"what is looked at: {looked}")
+    rest = lines[4 + len(said) :]
+    counts = [f"# 2 certified of {4 + len(said)}", "# 1 clashes", f"# {1 + len(said)} refused"]
+    remarks = [f"# no directory: {os.fsdecode(real(folder, '/m/gone'))}"]
+    remarks += [f"# default file that isn't read: {os.fsdecode(real(folder, '/m/.modulerc'))}"]
+    remarks += ["# conflict names no module: 'c/2' (in 1 file)"]
+    same(rest, [*counts, *remarks], "how many, and the remarks: none of a directory that can't be read")
+    same((done.stderr, done.returncode), (b"", 1), "standard error and status")
+    document = site.document()
+    same(document["unreadable"], [os.fsdecode(real(folder, path)) for path in looked], "the document")
+    same((document["certified"], document["count"]), (2, 4 + len(said)), "how many")
+    same(document["missing_directories"], [os.fsdecode(real(folder, "/m/gone"))], "the directories that aren't there")
+    quiet = site.run("--quiet").stdout.decode().splitlines()
+    same(quiet, [line for line in lines if "\tcertified\t" not in line], "the quiet report")
+
+
+def test_a_site_of_which_something_cannot_be_read_is_not_all_certified(folder):
+    site = Site(folder, {"/m/a/1": "setenv V x\n"})
+    ring(folder, "/m/a/2")
+    lines = ["a/1\tcertified\t\t/m/a/1", unreadable_line("/m/a/2"), "# 1 certified of 2", "# 1 refused"]
+    site.says(lines)
+    for path in ("/m/b", "/m/c"):
+        ring(folder, path)
+    same(site.run().returncode, 1, "the status with more")
+
+
+def test_a_file_that_no_one_may_read(folder):
+    if os.geteuid() == 0:
+        pytest.skip("root reads everything")
+    site = Site(folder, {"/m/a/1": "setenv V x\n", "/m/b/1": "setenv W x\n"})
+    path = real(folder, "/m/a/1")
+    os.chmod(path, 0)
+    site.says(["b/1\tcertified\t\t/m/b/1", unreadable_line("/m/a/1"), "# 1 certified of 2", "# 1 refused"])
+    os.chmod(path, 0o644)
+
+
+def test_how_much_may_not_be_read(folder):
+    site = Site(folder, {"/m/a/1": "setenv V x\n"})
+    for number in range(1000):
+        ring(folder, f"/m/a/x{number}")
+    done = site.run()
+    same(done.stdout.count(b"\trefused\tReading failed\t"), 1000, "a thousand lines")
+    same((done.stderr, done.returncode), (b"", 1), "standard error and status")
+    ring(folder, "/m/a/y")
+    done = site.run()
+    same((done.stdout, done.stderr, done.returncode), (b"", b"ERROR: Reading failed\n", 2), "one more")
+
+
 # Faults.
 
 
 def test_faults_of_a_whole_audit(folder):
     site = Site(folder, {"/m/a/1": ""}, LOADEDMODULES="x")
     site.refuses("Loaded modules are inconsistent")
-    del site.env[b"LOADEDMODULES"]
-    path = real(folder, "/m/b")
-    os.symlink("b", path)
-    done = site.run()
-    same((done.stdout, done.stderr, done.returncode), (b"", b"ERROR: Reading failed\n", 2), "a ring of links")
-    os.remove(path)
 
 
 def test_faults_in_their_order(folder):
@@ -1176,9 +1513,11 @@ def test_faults_in_their_order(folder):
     site.refuses(f"Not a directory: '{gone}'", m, gone, none)
     site.refuses("Loaded modules are inconsistent", m)
     del site.env[b"LOADEDMODULES"]
-    os.symlink("b", real(folder, "/m/b"))
+    ring = f"{m}/b"
+    os.symlink("b", ring)
     site.refuses(f"Not a directory: '{gone}'", m, gone, none)
-    site.refuses("Reading failed", m)
+    site.refuses("Reading failed", m, ring, gone)
+    site.refuses("Reading failed", "--json", ring)
 
 
 def test_the_most_directories_of_a_site(folder):
@@ -1220,12 +1559,14 @@ def is_lost_by(said):
         out, err, status = done
         if err == b"ERROR: " + said + b"\n":
             return (out, status) == (b"", 2)
-        return err == b"" and status == 1 and b"\trefused\t" + said in out
+        is_named = bool(json.loads(out)["unreadable"]) if out.startswith(b"{") else b"\trefused\t" + said in out
+        return err == b"" and status == 1 and is_named
 
     return is_lost
 
 
-def answers_or_loses(folder, shim, said):
+def audits(folder):
+    """Runs of an audit of a small site with modules of each kind, given variables: as lines, and as a document."""
     files = {"/m/a/1": "setenv V x\n", "/m/b/1": "setenv V y\nconflict q\n", "/m/b/.version": "nope\n", "/m/c/1": "pushenv S 1\n"}
     readers = {"d": "getenv HOME\ngetenv USER\n", "e": "getenv HOME\ngetenv V\n", "f": "getenv HOME\nis-loaded\n"}
     files.update({f"/m/{name}/1": text for name, text in readers.items()})
@@ -1238,15 +1579,24 @@ def answers_or_loses(folder, shim, said):
             return done.stdout, done.stderr, done.returncode
 
         same(run({}), (plain.stdout, b"", 1), "what is said without a loss")
-        refuses_each(shim, run, is_lost_by(said), said)
+        yield run
 
 
 def test_memory_that_is_refused(folder, shim):
-    answers_or_loses(folder, shim("failing_malloc"), b"Out of memory")
+    for run in audits(folder):
+        refuses_each(shim("failing_malloc"), run, is_lost_by(b"Out of memory"), "Out of memory")
 
 
 def test_reads_that_fail(folder, shim):
-    answers_or_loses(folder, shim("failing_calls"), b"Reading failed")
+    """One that fails once is asked again; where all fail from one on, what can't be read is named, or the audit lost."""
+    failing = shim("failing_calls")
+    for run in audits(folder):
+        is_lost = is_lost_by(b"Reading failed")
+        count = refuses_each(failing, run, is_lost, "Reading failed", [b"FAIL_FROM"])
+        ample = run({})
+        for number in range(1, count):
+            found = run({b"LD_PRELOAD": failing, b"FAIL_AT": b"%d" % number})
+            true(found == ample or is_lost(found), f"where read {number} fails: found {found!r}")
 
 
 # The model.

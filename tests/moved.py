@@ -534,7 +534,7 @@ def test_the_audit(finished, judge_rows):
     (command,) = spans("$bin/modaudit --quiet")
     said = finished.types(f"{OVER}{command}\n")
     rows = [line.split("\t") for line in said.splitlines() if not line.startswith("#")]
-    found = {path: (name, standing, why) for name, standing, why, path in rows}
+    found = {path: (name, standing, why) for name, standing, why, path, *_ in rows}
     others = [file for file in SITE.modules if file.standing != "certified"]
     wanted = {f"{NEW}/{file.path}": (file.name, file.standing, file.only("why")) for file in others}
     judge_rows(len(SITE.modules), wrong_rows(found, wanted))

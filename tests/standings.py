@@ -336,9 +336,20 @@ def site_directories(modulepath, modules_in):
     """The directories of a site, in the order in which they are found. `modules_in` gives the modules of one."""
     found = list(dict.fromkeys(directories(modulepath)))
     for directory in found:
-        for module in filter(is_settled, modules_in(directory)):
-            found += [one for one in dict.fromkeys(added_directories(module)) if one not in found]
+        for module in modules_in(directory):
+            found += [one for one in dict.fromkeys(additions(module)) if one not in found]
     return found
+
+
+def additions(module):
+    """The directories that a module adds, where its evaluation is accepted."""
+    return [] if module.first.fault is not None else added_directories(module)
+
+
+def hanging(modulepath, modules):
+    """What modules add that neither the MODULEPATH has nor a settled one adds, with the module."""
+    sure = {*directories(modulepath), *(one for module in modules if is_settled(module) for one in additions(module))}
+    return [(module, one) for module in modules for one in dict.fromkeys(additions(module)) if one not in sure]
 
 
 def missing(directories_of_site, is_there):

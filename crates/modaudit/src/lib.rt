@@ -1,10 +1,11 @@
-//! The program `modaudit [--quiet] [--json] [DIR...]`: says how each module of a site stands (modaudit(1)).
+//! The program `modaudit [OPTION...] [DIR...]`: says how each module of a site stands (modaudit(1)).
 //! Touches its arguments, its environment, the standard streams and the clock, and reads files and directories.
 //! It is one of the names of the program `module`; it has no clause, so it has little code.
 #![tactic(auto)]
 
 mod progress_line;
 
+use hidingtree::HidingTree;
 use modulecmd::{CommandFault, DiskTree, ProcessInput, process_input, write_refusal};
 use progress_line::ProgressLine;
 use sitecommand::{AuditExit, run_audit};
@@ -30,7 +31,7 @@ pub fn run(rt: HostRuntime) -> ExitCode {
         Ok(disk) => disk,
         Err(e) => return refused(&rt, &CommandFault::from(e)),
     };
-    let mut tree = DiskTree::new(disk);
+    let mut tree = HidingTree::new(alloc, DiskTree::new(disk));
     let exit = run_audit(
         alloc,
         arguments.as_slice(),

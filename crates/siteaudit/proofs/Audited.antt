@@ -1,5 +1,5 @@
 -- The parts of an audit, by a walk over a site, are an audit of the site.
-use Rattle.std.proofs.Common.{◌≡◌, List, map, filter, refl, ap, sym, ◌∙◌, subst}
+use Rattle.std.proofs.Common.{◌≡◌, List, map, filter, not, refl, ap, sym, ◌∙◌, subst}
 use Rattle.std.specs.Prelude.{flat_map}
 use Rattle.envvars.specs.Texts.{Text, texts_in}
 use Rattle.envvars.specs.Fields.{without_repeats}
@@ -10,25 +10,29 @@ use Rattle.sitecertificate.specs.RecordUses.{IsAmong, used_by_modules, is_in_ste
 use Rattle.sitecertificate.specs.Certificates.{certified, certificate}
 use Rattle.sitecertificate.specs.UseViews.{used_view}
 use Rattle.sitelaws.specs.Sites.{Site, SiteModule, file_of, Evaluated, AreEvaluated, settled_among, candidates_among}
-use Rattle.sitelaws.specs.Sites.{reads_of}
+use Rattle.sitelaws.specs.Sites.{reads_of, AreAmongCandidates}
 use Rattle.sitelaws.specs.Laws.{ModulesFound, SettledModulesFound, AuditsHold}
 use Rattle.sitecertificate.specs.ClashAnswers.{AreAnswers, without_clashes}
 use Rattle.sitecertificate.specs.EachOnce.{each_once}
 use Rattle.sitecertificate.proofs.CertifiedOnes as ones
+use Rattle.sitecertificate.proofs.Exact.{filtered}
 use Rattle.sitecertificate.proofs.OnceLemmas.{in_once, of_once}
 use Rattle.siteaudit.specs.declared.walk.Evaluation.{Evaluation}
 use Rattle.siteaudit.specs.Walks.{IsWalk, AreEvaluations}
 use Rattle.siteaudit.specs.declared.auditing.AuditedModule.{AuditedModule}
-use Rattle.siteaudit.specs.Audits.{audited_file, AllStand, certified_files, AreFirstReads}
+use Rattle.siteaudit.specs.Audits.{is_withheld, remaining, audited_file, AllStand, certified_files, AreFirstReads}
+use Rattle.siteaudit.specs.Audits.{asking_among, AreAskingClashes}
+use Rattle.siteaudit.specs.declared.auditing.AskingClash.{AskingClash}
 use Rattle.siteaudit.specs.SettledRuns.{settled_module, AreUsedReads}
 use Rattle.siteaudit.specs.Findings.{Shown, judged_of, steps_in, reads_along, modules_with, AreStandings}
 use Rattle.siteaudit.specs.Folders.{AreBadDefaultFiles}
 use Rattle.siteaudit.specs.Parts.{PartsAreAudits}
-use Rattle.siteaudit.proofs.Judged.{IsJudging, steps_are, certified_are, all_stand, files_are, reads_are, certified_files_are}
+use Rattle.siteaudit.proofs.Judged.{IsJudging, steps_are, certified_are, all_stand, files_are, reads_are, certified_files_are, asking_are}
 use Rattle.siteaudit.proofs.Evaluations.{same_files}
 use Rattle.siteaudit.proofs.FirstReads.{first_reads}
 use Rattle.siteaudit.proofs.UsedReads.{same_used, user_settled, answers_shown}
 use Rattle.siteaudit.proofs.Unknown.{mentioned_alike}
+use Rattle.siteaudit.proofs.HangingLemmas.{hanging_alike}
 
 -- what the laws say
 pub record Laws : Type 0 where
@@ -42,71 +46,79 @@ evaluated_all : Laws → (site : Site) (dirs : List Text) (outs : List Evaluated
 evaluated_all laws site dirs outs w = record { modules = λ m. laws.modules site dirs (map (λ (o : Evaluated). o.0) outs) w.directories w.modules m; evaluated = w.evaluated }
 
 -- how the modules stand
-record AreJudgedRight (site : Site) (ms : List Module) (outs : List Evaluated) (modules : List AuditedModule) (found : List UsedVariable) : Type 0 where
+record AreJudgedRight (site : Site) (without : List Text) (ms : List Module) (outs : List Evaluated) (modules : List AuditedModule) (found : List UsedVariable) (clashes : List AskingClash) : Type 0 where
   files : map audited_file modules ≡ map (λ (o : Evaluated). o.0) outs
   reads : map (λ (m : AuditedModule). texts_in m.reads) modules ≡ map (λ (o : Evaluated). without_repeats (reads_of o)) outs
-  standing : AllStand site ms modules
+  standing : AllStand site without ms modules
   used : AreFirstReads (settled_among outs) modules
   uses : found ≡ each_once (certificate ms)
   certain : certified_files modules ≡ map file_of (certified ms)
+  asking : AreAskingClashes (filter is_in_step ms) (asking_among outs) clashes
 
-judged_right : Laws → (site : Site) (es : List Evaluation) (outs : List Evaluated) (modules : List AuditedModule)
-    (uses : List UsedVariable) → AreEvaluated site outs → AreEvaluations es outs → AreStandings es modules uses
-    → AreJudgedRight site (candidates_among outs) outs modules uses
-judged_right laws site es outs modules uses all h s =
+judged_right : Laws → (site : Site) (without : List Text) (es : List Evaluation) (outs : List Evaluated) (modules : List AuditedModule)
+    (uses : List UsedVariable) (clashes : List AskingClash) → AreEvaluated site outs → AreEvaluations es outs → AreStandings without es modules uses clashes
+    → AreJudgedRight site without (remaining without (candidates_among outs)) outs modules uses clashes
+judged_right laws site without es outs modules uses clashes all h s =
     let shown : List Shown = s.by_themselves.shown in
-    let ms : List Module = candidates_among outs in
+    let ms : List Module = remaining without (candidates_among outs) in
     let readers : List Module = map settled_module es in
     let h' : AreEvaluations (map (λ (k : Shown). k.0) shown) outs = subst (λ (l : List Evaluation). AreEvaluations l outs) (sym s.by_themselves.evaluated) h in
     let answered = answers_shown readers shown s.used (subst (λ (l : List Evaluation). AreUsedReads readers l s.used) (sym s.by_themselves.evaluated) s.read)
     (s.by_themselves.read ∙ ap (λ (l : List Evaluation). reads_along l s.used) (sym s.by_themselves.evaluated)) in
     let same : used_by_modules readers ≡ used_by_modules (settled_among outs) = same_used es outs h in
-    let steps : flat_map steps_in shown ≡ filter is_in_step ms = steps_are readers (used_by_modules (settled_among outs)) shown outs same h' s.by_themselves.right answered in
+    let steps : flat_map (steps_in without) shown ≡ filter is_in_step ms = steps_are without readers (used_by_modules (settled_among outs)) shown outs same h' s.by_themselves.right answered in
     let step : s.in_step ≡ filter is_in_step ms = s.by_themselves.steps ∙ steps in
     let answers : AreAnswers (filter is_in_step ms) (filter is_in_step ms) s.answers = subst (λ (l : List Module). AreAnswers l l s.answers) step s.answered in
-    let shown_answers : AreAnswers (filter is_in_step ms) (flat_map steps_in shown) s.answers = subst (λ (l : List Module). AreAnswers (filter is_in_step ms) l s.answers) (sym steps) answers in
+    let shown_answers : AreAnswers (filter is_in_step ms) (flat_map (steps_in without) shown) s.answers = subst (λ (l : List Module). AreAnswers (filter is_in_step ms) l s.answers) (sym steps) answers in
     let found = laws.settled site outs all in
-    let judging : IsJudging site outs ms readers = record {
+    let judging : IsJudging site without outs ms readers = record {
       settled = found.0;
       all = found.1;
       candidates = refl;
       used = same;
       users = λ n v x a u. user_settled es outs n v x h a u;
     } in
-    let standings_are : modules ≡ modules_with (map judged_of shown) s.answers = s.standings ∙ ap (λ js. modules_with js s.answers) s.by_themselves.kept in
+    let standings_are : modules ≡ modules_with (map (judged_of without) shown) s.answers = s.standings ∙ ap (λ js. modules_with js s.answers) s.by_themselves.kept in
     let sure : without_clashes (filter is_in_step ms) s.answers ≡ certified ms = certified_are ms s.answers answers in
     record {
-      files = ap (map audited_file) standings_are ∙ files_are shown outs s.answers h';
-      reads = ap (map (λ (m : AuditedModule). texts_in m.reads)) standings_are ∙ reads_are shown outs s.answers h';
-      standing = subst (AllStand site ms) (sym standings_are)
-          (all_stand site outs ms readers shown outs s.answers judging h' s.by_themselves.right answered shown_answers (λ o a. (all.evaluated o a, a)));
-      used = subst (AreFirstReads (settled_among outs)) (sym standings_are) (first_reads es outs shown s.answers h s.by_themselves.right answered);
+      files = ap (map audited_file) standings_are ∙ files_are without shown outs s.answers h';
+      reads = ap (map (λ (m : AuditedModule). texts_in m.reads)) standings_are ∙ reads_are without shown outs s.answers h';
+      standing = subst (AllStand site without ms) (sym standings_are)
+          (all_stand site without outs ms readers shown outs s.answers judging h' s.by_themselves.right answered shown_answers (λ o a. (all.evaluated o a, a)));
+      used = subst (AreFirstReads (settled_among outs)) (sym standings_are) (first_reads without es outs shown s.answers h s.by_themselves.right answered);
       uses = s.certified ∙ ap (λ (l : List Module). each_once (used_by_modules l)) (ap (λ (l : List Module). without_clashes l s.answers) step ∙ sure);
-      certain = ap certified_files standings_are ∙ (certified_files_are (filter is_in_step ms) shown s.answers s.by_themselves.right shown_answers
+      certain = ap certified_files standings_are ∙ (certified_files_are without (filter is_in_step ms) shown s.answers s.by_themselves.right shown_answers
           ∙ ap (map file_of) (ap (λ (l : List Module). without_clashes l s.answers) steps ∙ sure));
+      asking = subst (λ (l : List Module). AreAskingClashes l (asking_among outs) clashes) step
+          (subst (λ (l : List Module). AreAskingClashes s.in_step l clashes) (s.by_themselves.asks ∙ asking_are shown outs h' s.by_themselves.right) s.beside);
     }
 
 -- ---- the whole
 
 pub parts_are_audits : Laws → PartsAreAudits
-parts_are_audits laws site walk found (outs, w, h) parts =
+parts_are_audits laws site without walk found (outs, w, h) parts =
     let es : List Evaluation = walk.evaluations.items in
     let dirs : List Text = texts_in walk.directories in
     let all = evaluated_all laws site dirs outs w in
-    let ms : List Module = candidates_among outs in
-    let right = judged_right laws site es outs found.modules.items (map used_view found.certificate.items) all h parts.standings in (
+    let ms : List Module = remaining without (candidates_among outs) in
+    let all_candidates = (laws.settled site outs all).1 in
+    let some : AreAmongCandidates site ms = λ m a. (all_candidates m).0 (filtered (λ (k : Module). not (is_withheld without k.name)) (candidates_among outs) m a).0 in
+    let right = judged_right laws site without es outs found.modules.items (map used_view found.certificate.items) found.asking_clashes.items all h parts.standings in (
       record {
         dirs = dirs;
         outcomes = outs;
         walk = w;
-        candidates = (laws.settled site outs all).1;
+        candidates = all_candidates;
         modules = right.files;
         reads = right.reads;
         standing = right.standing;
         used = right.used;
         certificate = right.uses;
         missing_directories = parts.missing_directories;
+        asking = right.asking;
+        hanging = parts.hanging ∙ hanging_alike site es outs h;
         no_modulefiles = parts.no_modulefiles;
+        unread_default_files = parts.unread;
         bad_default_files = subst (λ (l : List SiteModule). AreBadDefaultFiles site.limits site.files site.listings l (texts_in found.bad_default_files)) (same_files es outs h)
             parts.bad_default_files;
         unknown = parts.unknown_names ∙ mentioned_alike es outs h;
@@ -116,11 +128,11 @@ parts_are_audits laws site walk found (outs, w, h) parts =
       record {
         certain = certified ms;
         exact = sym right.certain;
-        records = λ m a. (((laws.settled site outs all).1 m).0 ((ones.is_certified ms m a).listed)).settled.records;
+        records = λ m a. (some m ((ones.is_certified ms m a).listed)).settled.records;
         uses = λ p. (
           (λ a. subst (IsAmong p) (sym right.uses) (in_once p (certificate ms) a)),
           (λ a. of_once p (certificate ms) (subst (IsAmong p) right.uses a)),
         );
-        holds = laws.audits site ms (certified ms) (λ m a. ((laws.settled site outs all).1 m).0 a) (λ m a. ones.is_certified ms m a);
+        holds = laws.audits site ms (certified ms) some (λ m a. ones.is_certified ms m a);
       },
     )

@@ -1,6 +1,6 @@
 -- A module that stands as one whose reads are used names the first of them, and the first module that uses it.
 use Rattle.std.proofs.Common.{◌≡◌, inl, inr, Bool, true, false, cond, ◌||◌, List, [], ◌∷◌, map, find, Option, Some, None, Result, Ok, Err, refl}
-use Rattle.std.proofs.Common.{ap, sym, ◌∙◌, subst}
+use Rattle.std.proofs.Common.{ap, sym, ◌∙◌, subst, string_bytes}
 use Rattle.std.specs.List.{list_any, cons_option, AllByRecursion}
 use Rattle.envvars.specs.Texts.{Text, texts_in}
 use Rattle.modulefile.specs.Records.{Record}
@@ -18,10 +18,10 @@ use Rattle.sitecertificate.specs.declared.answers.Clash.{Clash}
 use Rattle.siteaudit.specs.declared.walk.EvaluatedFile.{EvaluatedFile}
 use Rattle.siteaudit.specs.declared.walk.Evaluation.{Evaluation}
 use Rattle.siteaudit.specs.declared.standing.Standing.TheVariants.{Certified, Asks, OneWay, ReadsUsed, OutOfStep}
-use Rattle.siteaudit.specs.declared.standing.Standing.TheVariants.{Clashes, Refused}
+use Rattle.siteaudit.specs.declared.standing.Standing.TheVariants.{Withheld, Clashes, Refused}
 use Rattle.siteaudit.specs.declared.standing.ModuleFinding.{ModuleFinding}
-use Rattle.siteaudit.specs.declared.standing.ModuleFinding.TheVariants.{Stands, InStep}
-use Rattle.siteaudit.specs.Audits.{IsFirstRead, AreFirstReads}
+use Rattle.siteaudit.specs.declared.standing.ModuleFinding.TheVariants.{Stands, Asking, InStep}
+use Rattle.siteaudit.specs.Audits.{is_withheld, IsFirstRead, AreFirstReads}
 use Rattle.siteaudit.specs.Walks.{IsOutcome, AreEvaluations}
 use Rattle.siteaudit.specs.SettledRuns.{reads_where_settled, settled_records, settled_module, evaluated_file}
 use Rattle.siteaudit.specs.Findings.{IsFindingOf, IsFinding, standing_of, Shown, judged_of, IsShown, standing_by, standing_with}
@@ -101,7 +101,7 @@ answered_by : (rs : List Record) (unkept : Option Question) (u : Option UsedRead
 answered_by rs None None w (inl (t, f)) = absurd f
 answered_by rs None (Some x) w (inl (t, f)) = cc
 answered_by rs None u w (inr (first, one, is)) = absurd (cc)
-answered_by rs (Some first) u w is = absurd (cc)
+answered_by rs (Some first) u w is = absurd is
 
 by_settled : (ms : List Module) (b : Bool) (reads : List Text) (w : UsedRead) → IsUsedRead ms (cond b reads []) w → IsUsedRead ms reads w
 by_settled ms true reads w a = a
@@ -121,23 +121,27 @@ by_answers settled reads [] = tt
 by_answers settled reads (None ∷ answers) = tt
 by_answers settled reads (Some clash ∷ answers) = tt
 
-one_first : (es : List Evaluation) (outs : List Evaluated) (e : Evaluation) (u : Option UsedRead) (finding : ModuleFinding) (answers : List (Option Clash)) → AreEvaluations es outs
-    → IsFinding e.outcome u finding → AnswersShown (map settled_module es) (e, u, finding) → IsFirstRead (settled_among outs) (texts_in e.reads) (standing_with (standing_of finding) answers)
-one_first es outs e u (InStep records) answers h f a = by_answers (settled_among outs) (texts_in e.reads) answers
-one_first es outs e u (Stands Certified) answers h f a = tt
-one_first es outs e u (Stands (Asks first)) answers h f a = tt
-one_first es outs e u (Stands (OneWay first)) answers h f a = tt
-one_first es outs e u (Stands (ReadsUsed w)) answers h f a =
+one_first : (es : List Evaluation) (outs : List Evaluated) (e : Evaluation) (u : Option UsedRead) (finding : ModuleFinding) (withheld : Bool) (answers : List (Option Clash)) → AreEvaluations es outs
+    → IsFinding e.outcome u finding → AnswersShown (map settled_module es) (e, u, finding) → IsFirstRead (settled_among outs) (texts_in e.reads) (standing_with (standing_of withheld finding) answers)
+one_first es outs e u (Asking first records) withheld answers h f a = tt
+one_first es outs e u (InStep records) true answers h f a = tt
+one_first es outs e u (InStep records) false answers h f a = by_answers (settled_among outs) (texts_in e.reads) answers
+one_first es outs e u (Stands Certified) withheld answers h f a = tt
+one_first es outs e u (Stands (Asks first)) withheld answers h f a = tt
+one_first es outs e u (Stands (OneWay first)) withheld answers h f a = tt
+one_first es outs e u (Stands (ReadsUsed w)) withheld answers h f a =
     read_same es outs (texts_in e.reads) w h
     (used_of (map settled_module es) e.outcome (texts_in e.reads) u w f (answer_is (map settled_module es) (e, u, Stands (ReadsUsed w)) a))
-one_first es outs e u (Stands (OutOfStep v x y)) answers h f a = tt
-one_first es outs e u (Stands (Clashes clash)) answers h f a = tt
-one_first es outs e u (Stands (Refused refusal)) answers h f a = tt
+one_first es outs e u (Stands (OutOfStep v x y)) withheld answers h f a = tt
+one_first es outs e u (Stands Withheld) withheld answers h f a = tt
+one_first es outs e u (Stands (Clashes clash)) withheld answers h f a = tt
+one_first es outs e u (Stands (Refused refusal)) withheld answers h f a = tt
 
-pub first_reads : (es : List Evaluation) (outs : List Evaluated) (shown : List Shown) (answers : List (Option Clash)) → AreEvaluations es outs → AllByRecursion IsShown shown
-    → AllByRecursion (AnswersShown (map settled_module es)) shown → AreFirstReads (settled_among outs) (modules_with (map judged_of shown) answers)
-first_reads es outs [] answers h f a = tt
-first_reads es outs ((e, u, finding) ∷ shown) answers h (right, rest) (answer, others) = (
-  one_first es outs e u finding answers h right answer,
-  first_reads es outs shown (answers_left (standing_of finding) answers) h rest others,
-)
+pub first_reads : (without : List Text) (es : List Evaluation) (outs : List Evaluated) (shown : List Shown) (answers : List (Option Clash)) → AreEvaluations es outs → AllByRecursion IsShown shown
+    → AllByRecursion (AnswersShown (map settled_module es)) shown → AreFirstReads (settled_among outs) (modules_with (map (judged_of without) shown) answers)
+first_reads without es outs [] answers h f a = tt
+first_reads without es outs ((e, u, finding) ∷ shown) answers h (right, rest) (answer, others) =
+    let withheld : Bool = is_withheld without (string_bytes e.name) in (
+      one_first es outs e u finding withheld answers h right answer,
+      first_reads without es outs shown (answers_left (standing_of withheld finding) answers) h rest others,
+    )

@@ -17,10 +17,12 @@ mod Judged
 mod FirstReads
 mod OnceEach
 mod Unknown
+mod HangingLemmas
 mod BadFiles
 mod BadDefaults
 mod PathSets
 mod FilesBelow
 mod MissingLemmas
+mod UnreadLemmas
 mod Looked
 mod Audited

@@ -1,5 +1,5 @@
 -- What the evaluations of a script show, way after way.
-use Rattle.std.proofs.Common.{◌≡◌, ℕ, ◌+◌, ◌<◌, take, length, get_or, Bool, true, false, ◌&&◌, List, [], ◌∷◌, ◌++◌, map, append-nil, refl, ap, sym, arith, zero, suc}
+use Rattle.std.proofs.Common.{◌≡◌, ℕ, ◌+◌, ◌<◌, take, length, get_or, Bool, true, false, ◌&&◌, List, [], ◌∷◌, ◌++◌, map, append-nil, refl, ap, sym}
 use Rattle.std.proofs.Common.{◌∙◌, subst, Some, None, Result, Ok, Err, Global}
 use Rattle.std.specs.Prelude.{flat_map, find, not, position}
 use Rattle.std.specs.List.{list_all}

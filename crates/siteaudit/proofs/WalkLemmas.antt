@@ -1,5 +1,5 @@
 -- A walk over a site, directory by directory.
-use Rattle.std.proofs.Common.{◌≡◌, inl, inr, ℕ, ◌+◌, ◌<◌, ◌≤◌, suc, Bool, true, false, cond, List, [], ◌∷◌}
+use Rattle.std.proofs.Common.{◌≡◌, inl, inr, ℕ, ◌+◌, ◌<◌, ◌≤◌, suc, List, [], ◌∷◌}
 use Rattle.std.proofs.Common.{◌++◌, map, flat_map, take, slice_get, length, get_or, Some, None, Result, Ok, Err, refl}
 use Rattle.std.proofs.Common.{sym, ap, ◌∙◌, subst, append-nil, append_assoc}
 use Rattle.std.proofs.lemmas.List.{map-append, take_more}
@@ -12,21 +12,19 @@ use Rattle.search.specs.ListingEntries.{name_of}
 use Rattle.search.specs.declared.listing_entries.ListingEntry.{ListingEntry}
 use Rattle.modulefile.specs.Records.{Record}
 use Rattle.requests.specs.Reasons.{RequestReason}
-use Rattle.settled.specs.Ways.{FileRuns, is_settled}
+use Rattle.settled.specs.Ways.{FileRuns}
 use Rattle.modules.specs.declared.refusal.Refusal.{Refusal}
 use Rattle.sitecertificate.specs.RecordUses.{IsAmong}
-use Rattle.sitelaws.specs.Sites.{Site, SiteModule, Evaluated, EvaluatesTo, HasSettledRecords, IsIn, IsDirectory, first}
+use Rattle.sitelaws.specs.Sites.{Site, SiteModule, Evaluated, EvaluatesTo, HasFirstRecords, IsIn, IsDirectory, first}
 use Rattle.sitelaws.specs.Sites.{added, IsClosed, AreNamesBelow, AreModulesIn, module_below, first_directories}
-use Rattle.sitelaws.specs.Sites.{added_directories, with_records}
+use Rattle.sitelaws.specs.Sites.{added_directories}
 use Rattle.sitelaws.specs.Laws.{DirectoriesFound}
 use Rattle.sitelaws.specs.DirectorySets.{with_directories}
 use Rattle.siteaudit.specs.declared.walk.Evaluation.{Evaluation}
-use Rattle.siteaudit.specs.Walks.{directories_by_settled, directories_of, IsWalk, IsOutcome, AreEvaluations, HasTooMany}
-use Rattle.siteaudit.specs.Walks.{most_directories}
+use Rattle.siteaudit.specs.Walks.{directories_of, IsWalk, IsOutcome, AreEvaluations, HasTooMany, most_directories}
 use Rattle.siteaudit.specs.SettledRuns.{directories_after}
 use Rattle.siteaudit.specs.declared.walk.EvaluatedFile.{EvaluatedFile}
 use Rattle.sitelaws.proofs.Evaluations.{one_outcome}
-use Rattle.siteaudit.proofs.SettledFiles.{records_same}
 use Rattle.siteaudit.specs.WalkParts.{directories_found, AreEvaluationsOf}
 use Rattle.siteaudit.specs.WalkParts.{IsEvaluationOf, GoesThrough}
 use Rattle.sitecertificate.proofs.UsedLemmas.{by_cases, among_left, among_right, among_either}
@@ -91,17 +89,12 @@ next_evaluated site dir entries i entry name old new x l e named pushed before n
 
 -- ---- the directories that evaluated modules add
 
-by_tests : (m : SiteModule) (rs : List Record) (b : Bool) → directories_by_settled (cond b (Some (with_records m rs)) None) ≡ added_directories (cond b rs [])
-by_tests m rs true = refl
-by_tests m rs false = refl
-
 abbrev Outcome : Type 0
 Outcome = Result (FileRuns RequestReason) RequestReason
 
-found_of : (m : SiteModule) (o : Result EvaluatedFile Refusal) (p : Outcome) → IsOutcome o p → directories_after o ≡ directories_of (m, p)
+pub found_of : (m : SiteModule) (o : Result EvaluatedFile Refusal) (p : Outcome) → IsOutcome o p → directories_after o ≡ directories_of (m, p)
 found_of m (Ok file) p (runs, same, of) =
-    ap added_directories (records_same file runs of)
-    ∙ sym (ap (λ (q : Outcome). directories_of (m, q)) same ∙ by_tests m runs.first.records (is_settled runs))
+    ap added_directories of.records ∙ sym (ap (λ (q : Outcome). directories_of (m, q)) same)
 found_of m (Err refusal) p (reason, because, same) = sym (ap (λ (q : Outcome). directories_of (m, q)) same)
 
 found_same : (xs : List Evaluation) (os : List Evaluated) → AreEvaluations xs os → directories_found xs ≡ flat_map directories_of os
@@ -141,31 +134,20 @@ in_directory site dir names m below a =
     let p = of_map (module_below dir) m names a in
     subst (λ (k : SiteModule). IsIn site dir k) (sym p.2) (record { below = (below.exact p.0).0 p.1; path = refl })
 
--- ---- settled modules
+-- ---- what modules add
 
-by_settled : (d : Text) (b : Bool) (m : SiteModule) (rs : List Record) → IsAmong d (directories_by_settled (cond b (Some (with_records m rs)) None)) → (b ≡ true) × IsAmong d (added_directories rs)
-by_settled d true m rs a = (refl, a)
-by_settled d false m rs a = absurd a
+-- a module that adds a directory has it in its first records
+has_records : (site : Site) (d : Text) (m : SiteModule) (o : Outcome) → EvaluatesTo site m o → IsAmong d (directories_of (m, o))
+    → (rs : List Record) × HasFirstRecords site m rs × IsAmong d (added_directories rs)
+has_records site d m (Err reason) h a = absurd a
+has_records site d m (Ok runs) h a = (runs.first.records, record { runs = runs; evaluated = h; records = refl }, a)
 
--- a module that adds a directory is settled
-is_settled_one : (site : Site) (d : Text) (m : SiteModule) (o : Outcome) → EvaluatesTo site m o
-    → IsAmong d (directories_of (m, o)) → (rs : List Record) × HasSettledRecords site m rs
-    × IsAmong d (added_directories rs)
-is_settled_one site d m (Err reason) h a = absurd a
-is_settled_one site d m (Ok runs) h a =
-    let v = by_settled d (is_settled runs) m runs.first.records a in
-    (runs.first.records, record { runs = runs; evaluated = h; settled = v.0; records = refl }, v.1)
-
--- and a settled module adds the directories of its records
-adds_its : laws.OneOutcome → (site : Site) (d : Text) (m : SiteModule) (o : Outcome) (rs : List Record) → EvaluatesTo site m o → HasSettledRecords site m rs
+-- and it adds the directories of its first records
+adds_its : laws.OneOutcome → (site : Site) (d : Text) (m : SiteModule) (o : Outcome) (rs : List Record) → EvaluatesTo site m o → HasFirstRecords site m rs
     → IsAmong d (added_directories rs) → IsAmong d (directories_of (m, o))
 adds_its one site d m o rs h p a =
-    let out : Ok p.runs ≡ o = one_outcome one site m (Ok p.runs) o p.evaluated h in
-    let rs' : List Record = p.runs.first.records in
-    let v : directories_by_settled (cond (is_settled p.runs) (Some (with_records m rs')) None) ≡ added_directories rs'
-    = ap (λ (b : Bool). directories_by_settled (cond b (Some (with_records m rs')) None)) p.settled in
-    subst (λ (q : Outcome). IsAmong d (directories_of (m, q))) out
-    (subst (IsAmong d) (sym v) (subst (λ (qs : List Record). IsAmong d (added_directories qs)) p.records a))
+    subst (λ (q : Outcome). IsAmong d (directories_of (m, q))) (one_outcome one site m (Ok p.runs) o p.evaluated h)
+    (subst (λ (qs : List Record). IsAmong d (added_directories qs)) p.records a)
 
 -- ---- the walk
 
@@ -223,7 +205,7 @@ module _ (site : Site) (place : ℕ) (dirs last : List Text) (evaluations now : 
   adds d a =
       let i = of_flat_map directories_of d through.evaluated.2.outcomes a in
       let h : EvaluatesTo site i.0.0 i.0.1 = through.evaluated.2.evaluated i.0 i.1 in
-      let p = is_settled_one site d i.0.0 i.0.1 h i.2 in
+      let p = has_records site d i.0.0 i.0.1 h i.2 in
       let among : IsAmong i.0.0 (map (module_below dir) through.evaluated.0) = subst (IsAmong i.0.0)
       through.evaluated.2.modules (in_map (λ (o : Evaluated). o.0) i.0 through.evaluated.2.outcomes i.1) in
       added i.0.0 p.0 (walks_on site place dirs evaluations dir w at) (in_directory site dir through.evaluated.0 i.0.0 through.evaluated.1 among) p.1 p.2
@@ -255,10 +237,10 @@ module _ (site : Site) (place : ℕ) (dirs : List Text) (evaluations : List Eval
       (take_all_gone place dirs gone) w.modules in
       record {
         begins = λ d a. into d (among_left d begin more a);
-        adds = λ from d m rs there in_it settled a.
+        adds = λ from d m rs there in_it left a.
             let i = of_map (λ (o : Evaluated). o.0) m w.outcomes (among_modules site dirs (map (λ (o : Evaluated). o.0) w.outcomes) from m modules there in_it) in
-            let settled_here : HasSettledRecords site i.0.0 rs = subst (λ (k : SiteModule). HasSettledRecords site k rs) i.2 settled in
-            into d (among_right d begin more (in_flat_map directories_of d i.0 w.outcomes i.1 (adds_its one site d i.0.0 i.0.1 rs (w.evaluated i.0 i.1) settled_here a)));
+            let here : HasFirstRecords site i.0.0 rs = subst (λ (k : SiteModule). HasFirstRecords site k rs) i.2 left in
+            into d (among_right d begin more (in_flat_map directories_of d i.0 w.outcomes i.1 (adds_its one site d i.0.0 i.0.1 rs (w.evaluated i.0 i.1) here a)));
       }
 
   -- at its end

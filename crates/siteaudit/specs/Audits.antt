@@ -1,10 +1,10 @@
 -- What an audit of a site finds (own).
-use Rattle.std.specs.Prelude.{◌≡◌, ◌↔◌, Bool, true, false, not, List, [], ◌∷◌, ◌++◌, map, filter, flat_map}
-use Rattle.std.specs.Prelude.{Ok, Err, bytes_eq, string_bytes}
+use Rattle.std.specs.Prelude.{◌≡◌, ◌↔◌, Bool, true, false, not, if◌then◌else◌, List, [], ◌∷◌, ◌++◌, map, filter}
+use Rattle.std.specs.Prelude.{filter_map, flat_map, Option, Some, None, Ok, Err, bytes_eq, string_bytes}
 use Rattle.std.specs.List.{list_any}
 use Rattle.indexmap.specs.IndexSet.{insert_all}
 use Rattle.modulename.specs.ModuleName.{means}
-use Rattle.envvars.specs.Texts.{Text, texts_in}
+use Rattle.envvars.specs.Texts.{Text, has, texts_in}
 use Rattle.envvars.specs.Fields.{without_repeats}
 use Rattle.reversal.specs.VariableUses.{UsedVariable}
 use Rattle.filetree.specs.Causes.{because}
@@ -13,52 +13,70 @@ use Rattle.modulefile.specs.Records.{Record, conflict_names, prereq_groups}
 use Rattle.modulefile.specs.Moves.{Module}
 use Rattle.requests.specs.Reasons.{RequestReason}
 use Rattle.modules.specs.Answers.{cause_of}
-use Rattle.sitecertificate.specs.RecordUses.{used_by_modules, IsAmong, is_in_step}
+use Rattle.sitecertificate.specs.RecordUses.{used_by_modules, IsAmong, IsInStep, is_in_step}
 use Rattle.sitecertificate.specs.Ranks.{users_alike}
 use Rattle.sitecertificate.specs.Certificates.{certificate, AgreesWith}
 use Rattle.sitecertificate.specs.UseViews.{use_view, used_view}
 use Rattle.sitecertificate.specs.Disagreements.{AreDisagreements}
 use Rattle.sitecertificate.specs.DisagreementViews.{disagreement_view}
 use Rattle.sitecertificate.specs.EachOnce.{each_once}
-use Rattle.settled.specs.Ways.{same_by}
-use Rattle.sitelaws.specs.Sites.{Site, SiteModule, Evaluated, file_of, HasSettledRecords, AreCandidates}
+use Rattle.sitecertificate.specs.ClashAnswers.{AreAnswers}
+use Rattle.sitecertificate.specs.declared.answers.Clash.{Clash}
+use Rattle.settled.specs.Ways.{same_by, keep_answers}
+use Rattle.sitelaws.specs.Sites.{Site, SiteModule, Evaluated, file_of, with_records, HasSettledRecords, AreCandidates}
 use Rattle.sitereads.specs.Answers.{IsUsedRead}
-use Rattle.sitelaws.specs.Sites.{settled_among, candidates_among, reads_of}
+use Rattle.sitelaws.specs.Sites.{settled_among, candidates_among, reads_of, first_directories, added_directories}
 use Rattle.sitelaws.specs.Standings as standings
-use Rattle.sitelaws.specs.Standings.{HasStanding}
+use Rattle.sitelaws.specs.Standings.{HasStanding, IsCandidateAnd}
 use Rattle.sitelaws.specs.Laws.{CertificateHolds}
-use Rattle.siteaudit.specs.Walks.{IsWalk}
+use Rattle.siteaudit.specs.Walks.{IsWalk, directories_of}
 use Rattle.siteaudit.specs.Folders.{AreBadDefaultFiles}
 use Rattle.siteaudit.specs.Missing.{missing_among}
+use Rattle.siteaudit.specs.Unread.{unread_among}
 use Rattle.siteaudit.specs.NoModulefiles.{AreNoModulefiles}
 use Rattle.modulerun.specs.Questions.{question_view}
 use Rattle.siteaudit.specs.declared.standing.Standing.{Standing}
 use Rattle.siteaudit.specs.declared.standing.Standing.TheVariants.{Certified, Asks, OneWay, ReadsUsed, OutOfStep}
-use Rattle.siteaudit.specs.declared.standing.Standing.TheVariants.{Clashes, Refused}
+use Rattle.siteaudit.specs.declared.standing.Standing.TheVariants.{Withheld, Clashes, Refused}
 use Rattle.siteaudit.specs.declared.auditing.AuditedModule.{AuditedModule}
 use Rattle.siteaudit.specs.declared.auditing.UnknownNames.{UnknownNames}
+use Rattle.siteaudit.specs.declared.auditing.AddedDirectory.{AddedDirectory}
+use Rattle.siteaudit.specs.declared.auditing.AskingClash.{AskingClash}
 use Rattle.siteaudit.specs.declared.auditing.SiteAudit.{SiteAudit}
+
+-- ---- modules that are withheld
+
+-- a module of this name is withheld by hand: one of the names that are given means it
+abbrev pub is_withheld : List Text → Text → Bool
+is_withheld without name = list_any (λ given. means given name) without
+
+-- those of the modules that aren't withheld
+abbrev pub remaining : List Text → List Module → List Module
+remaining without ms = filter (λ m. not (is_withheld without m.name)) ms
 
 -- ---- standings
 
--- A module of a site, whose candidates are these, stands as the code says. The module that uses what it reads, and the
--- other module of a clash, have the name and the path that are given, and so many of the candidates in step use the
--- variable of the clash as the other does; a refusal has its reason.
-abbrev pub StandsAs : Site → List Module → SiteModule → Standing → Type 0
-StandsAs site ms m Certified = HasStanding site ms m standings.Certified
-StandsAs site ms m (Asks first) = HasStanding site ms m (standings.Asks (question_view first))
-StandsAs site ms m (OneWay first) = HasStanding site ms m (standings.OneWay (record_view first))
-StandsAs site ms m (ReadsUsed used) =
+-- A module of a site, of whose candidates these remain, stands as the code says. The module that uses what it reads, and
+-- the other module of a clash, have the name and the path that are given, and so many of those that remain and are in
+-- step use the variable of the clash as the other does; one that clashes remains itself; one that is withheld is a
+-- candidate in step; a refusal has its reason.
+abbrev pub StandsAs : Site → List Text → List Module → SiteModule → Standing → Type 0
+StandsAs site without ms m Certified = HasStanding site ms m standings.Certified
+StandsAs site without ms m (Asks first) = HasStanding site ms m (standings.Asks (question_view first))
+StandsAs site without ms m (OneWay first) = HasStanding site ms m (standings.OneWay (record_view first))
+StandsAs site without ms m (ReadsUsed used) =
     (other : Module) × (other.name ≡ string_bytes used.user_name) × (other.path ≡ string_bytes used.user_path)
     × HasStanding site ms m (standings.ReadsUsed (string_bytes used.variable) other)
-StandsAs site ms m (OutOfStep variable one other) =
+StandsAs site without ms m (OutOfStep variable one other) =
     HasStanding site ms m (standings.OutOfStep (string_bytes variable) (use_view one) (use_view other))
-StandsAs site ms m (Clashes clash) =
-    (other : Module) × (other.name ≡ string_bytes clash.other_name) × (other.path ≡ string_bytes clash.other_path)
+StandsAs site without ms m Withheld = (is_withheld without m.name ≡ true) × IsCandidateAnd site m IsInStep
+StandsAs site without ms m (Clashes clash) =
+    (is_withheld without m.name ≡ false)
+    × (other : Module) × (other.name ≡ string_bytes clash.other_name) × (other.path ≡ string_bytes clash.other_path)
     × (clash.alike ≡ users_alike (filter is_in_step ms) (string_bytes clash.variable) (use_view clash.theirs))
     × HasStanding site ms m
     (standings.Clashes (string_bytes clash.variable) (use_view clash.own) (use_view clash.theirs) other)
-StandsAs site ms m (Refused refusal) =
+StandsAs site without ms m (Refused refusal) =
     (reason : RequestReason) × (cause_of refusal ≡ because reason) × HasStanding site ms m (standings.Refused reason)
 
 -- the module without its standing
@@ -66,9 +84,10 @@ abbrev pub audited_file : AuditedModule → SiteModule
 audited_file m = record { name = string_bytes m.name; path = string_bytes m.path }
 
 -- each of them stands so
-abbrev pub AllStand : Site → List Module → List AuditedModule → Type 0
-AllStand site ms [] = Unit {0}
-AllStand site ms (m ∷ audited) = StandsAs site ms (audited_file m) m.standing × AllStand site ms audited
+abbrev pub AllStand : Site → List Text → List Module → List AuditedModule → Type 0
+AllStand site without ms [] = Unit {0}
+AllStand site without ms (m ∷ audited) =
+    StandsAs site without ms (audited_file m) m.standing × AllStand site without ms audited
 
 -- A module of these reads that stands as one of whose reads a settled module uses one names the first such read, and the
 -- first of the settled modules that uses it.
@@ -78,6 +97,7 @@ IsFirstRead settled reads Certified = Unit {0}
 IsFirstRead settled reads (Asks first) = Unit {0}
 IsFirstRead settled reads (OneWay first) = Unit {0}
 IsFirstRead settled reads (OutOfStep variable one other) = Unit {0}
+IsFirstRead settled reads Withheld = Unit {0}
 IsFirstRead settled reads (Clashes clash) = Unit {0}
 IsFirstRead settled reads (Refused refusal) = Unit {0}
 
@@ -93,6 +113,7 @@ is_certified (Asks first) = false
 is_certified (OneWay first) = false
 is_certified (ReadsUsed used) = false
 is_certified (OutOfStep variable one other) = false
+is_certified Withheld = false
 is_certified (Clashes clash) = false
 is_certified (Refused refusal) = false
 
@@ -152,25 +173,96 @@ unknown_of known (m, Err reason) = []
 abbrev pub unknown_names : List Evaluated → List Mention
 unknown_names outcomes = flat_map (unknown_of (means_one outcomes)) outcomes
 
+-- ---- directories that hang on modules that aren't settled
+
+-- a directory that a module adds
+pub record Addition : Type 0 where
+  pub by : SiteModule
+  pub directory : Text
+
+-- what the code has for it
+abbrev pub addition_of : AddedDirectory → Addition
+addition_of added =
+    record {
+      by = record { name = string_bytes added.name; path = string_bytes added.path };
+      directory = string_bytes added.directory;
+    }
+
+-- the directories of the MODULEPATH at hand, and those that settled ones of these modules add
+abbrev pub settled_directories : Site → List Evaluated → List Text
+settled_directories site outcomes =
+    first_directories site ++ flat_map (λ m. added_directories m.records) (settled_among outcomes)
+
+-- what an evaluated module adds to these directories, each once
+abbrev pub additions_to : List Text → Evaluated → List Addition
+additions_to dirs outcome =
+    map (λ dir. record { by = outcome.0; directory = dir })
+    (filter (λ dir. not (has dir dirs)) (without_repeats (directories_of outcome)))
+
+-- What the modules in turn add that neither the MODULEPATH at hand has nor a settled one of them adds.
+abbrev pub hanging_directories : Site → List Evaluated → List Addition
+hanging_directories site outcomes = flat_map (additions_to (settled_directories site outcomes)) outcomes
+
+-- ---- modules that ask, beside certified ones
+
+-- the module with its first records, where it asks
+abbrev pub asking_of : Evaluated → Option Module
+asking_of (m, Ok runs) = if keep_answers runs then None else Some (with_records m runs.first.records)
+asking_of (m, Err reason) = None
+
+-- those of some evaluated modules that ask, in their order
+abbrev pub asking_among : List Evaluated → List Module
+asking_among outcomes = filter_map asking_of outcomes
+
+-- a module that asks, by its name and its file, with a clash
+abbrev pub asking_view : AskingClash → SiteModule × Clash
+asking_view asking = (record { name = string_bytes asking.name; path = string_bytes asking.path }, asking.clash)
+
+-- the clash of a module, if there is one
+abbrev pub clash_with : Module → Option Clash → List (SiteModule × Clash)
+clash_with m None = []
+clash_with m (Some clash) = (file_of m, clash) ∷ []
+
+-- the clashes of modules by such answers
+abbrev pub clashes_by : List Module → List (Option Clash) → List (SiteModule × Clash)
+clashes_by [] answers = []
+clashes_by (m ∷ ms) [] = []
+clashes_by (m ∷ ms) (answer ∷ answers) = clash_with m answer ++ clashes_by ms answers
+
+-- Of each of the modules that ask, in their order, this is a clash of its first records with one that stays of these
+-- modules, where there is one.
+pub record AreAskingClashes (ms asking : List Module) (found : List AskingClash) : Type 0 where
+  pub answers : List (Option Clash)
+  pub answered : AreAnswers ms asking answers
+  pub exact : map asking_view found ≡ clashes_by asking answers
+
 -- ---- the whole
 
--- What was found is an audit of the site: a walk over it has these directories and these outcomes. It has each module
--- of the walk, in its order, with the variables that its evaluations read, each once, and how it stands, with the first of its reads that a settled module uses; the certificate
--- of its candidates, each use once; those of its directories that aren't there, in their order; the files in the places
--- of modules that are no modulefiles; the bad default files of the modules in turn, each once; the names that mean no
--- module; and the reasons for which the environment at hand doesn't agree with the certificate, use after use.
-pub record IsAudit (site : Site) (found : SiteAudit) : Type 0 where
+-- What was found is an audit of the site, where the modules that these names mean are withheld: a walk over it has these
+-- directories and these outcomes. It has each module of the walk, in its order, with the variables that its evaluations
+-- read, each once, and how it stands, with the first of its reads that a settled module uses; the certificate of the
+-- candidates that remain, each use once; those of its directories that aren't there, in their order; what the modules in
+-- turn add that hangs on modules that aren't settled; of those that ask a clash with a certified one; the default files
+-- above each folder, which aren't read; the files in the places of modules that are no modulefiles; the bad default files
+-- of the modules in turn, each once; the names that mean no module; and the reasons for which the environment at hand
+-- doesn't agree with the certificate, use after use.
+pub record IsAudit (site : Site) (without : List Text) (found : SiteAudit) : Type 0 where
   pub dirs : List Text
   pub outcomes : List Evaluated
   pub walk : IsWalk site dirs outcomes
   pub candidates : AreCandidates site (candidates_among outcomes)
   pub modules : map audited_file found.modules.items ≡ map (λ outcome. outcome.0) outcomes
   pub reads : map (λ m. texts_in m.reads) found.modules.items ≡ map (λ o. without_repeats (reads_of o)) outcomes
-  pub standing : AllStand site (candidates_among outcomes) found.modules.items
+  pub standing : AllStand site without (remaining without (candidates_among outcomes)) found.modules.items
   pub used : AreFirstReads (settled_among outcomes) found.modules.items
-  pub certificate : map used_view found.certificate.items ≡ each_once (certificate (candidates_among outcomes))
+  pub certificate : map used_view found.certificate.items
+      ≡ each_once (certificate (remaining without (candidates_among outcomes)))
   pub missing_directories : texts_in found.missing_directories ≡ missing_among site.listings dirs
+  pub hanging : map addition_of found.hanging_directories.items ≡ hanging_directories site outcomes
+  pub asking : AreAskingClashes (filter is_in_step (remaining without (candidates_among outcomes))) (asking_among outcomes)
+      found.asking_clashes.items
   pub no_modulefiles : AreNoModulefiles site.files site.listings dirs (texts_in found.no_modulefiles)
+  pub unread_default_files : texts_in found.unread_default_files ≡ unread_among site.listings dirs
   pub bad_default_files : AreBadDefaultFiles site.limits site.files site.listings (map (λ outcome. outcome.0) outcomes)
       (texts_in found.bad_default_files)
   pub unknown : map mention_of found.unknown_names.items ≡ unknown_names outcomes

@@ -1,8 +1,9 @@
 -- What each module of a site shows by itself, and what the answers about clashes make of it: for this crate's own
 -- contracts alone.
-use Rattle.std.specs.Prelude.{◌≡◌, ◌⊎◌, true, false, List, [], ◌∷◌, ◌++◌, map, flat_map, Option, Some}
+use Rattle.std.specs.Prelude.{◌≡◌, ◌⊎◌, Bool, true, false, if◌then◌else◌, List, [], ◌∷◌, ◌++◌, map, flat_map, Option, Some}
 use Rattle.std.specs.Prelude.{None, Result, Ok, Err, string_bytes}
 use Rattle.std.specs.List.{list_all, AllByRecursion}
+use Rattle.envvars.specs.Texts.{Text}
 use Rattle.envvars.specs.Fields.{colon}
 use Rattle.modulefile.specs.RecordViews.{record_view}
 use Rattle.modulerun.specs.declared.question.Question.{Question}
@@ -23,13 +24,15 @@ use Rattle.sitecertificate.specs.ClashAnswers.{AreAnswers, without_clashes}
 use Rattle.sitecertificate.specs.EachOnce.{each_once}
 use Rattle.siteaudit.specs.declared.walk.EvaluatedFile.{EvaluatedFile}
 use Rattle.siteaudit.specs.declared.walk.Evaluation.{Evaluation}
+use Rattle.siteaudit.specs.Audits.{is_withheld, AreAskingClashes}
+use Rattle.siteaudit.specs.declared.auditing.AskingClash.{AskingClash}
 use Rattle.siteaudit.specs.SettledRuns.{AreUsedReads, evaluated_file, settled_module}
 use Rattle.siteaudit.specs.declared.standing.UnlikeUses.{UnlikeUses}
 use Rattle.siteaudit.specs.declared.standing.Standing.{Standing}
 use Rattle.siteaudit.specs.declared.standing.Standing.TheVariants.{Certified, Asks, OneWay, ReadsUsed, OutOfStep}
-use Rattle.siteaudit.specs.declared.standing.Standing.TheVariants.{Clashes, Refused}
+use Rattle.siteaudit.specs.declared.standing.Standing.TheVariants.{Withheld, Clashes, Refused}
 use Rattle.siteaudit.specs.declared.standing.ModuleFinding.{ModuleFinding}
-use Rattle.siteaudit.specs.declared.standing.ModuleFinding.TheVariants.{Stands, InStep}
+use Rattle.siteaudit.specs.declared.standing.ModuleFinding.TheVariants.{Stands, Asking, InStep}
 use Rattle.siteaudit.specs.declared.judgement.JudgedModule.{JudgedModule}
 use Rattle.siteaudit.specs.declared.judgement.JudgedSite.{JudgedSite}
 use Rattle.siteaudit.specs.declared.auditing.AuditedModule.{AuditedModule}
@@ -50,8 +53,10 @@ IsUseFinding rs (Stands (OneWay first)) = ⊥
 IsUseFinding rs (Stands (ReadsUsed used)) = ⊥
 IsUseFinding rs (Stands (OutOfStep variable one other)) =
     IsUsedTwice rs (string_bytes variable) (use_view one) (use_view other)
+IsUseFinding rs (Stands Withheld) = ⊥
 IsUseFinding rs (Stands (Clashes clash)) = ⊥
 IsUseFinding rs (Stands (Refused refusal)) = ⊥
+IsUseFinding rs (Asking first records) = ⊥
 IsUseFinding rs (InStep records) = (are_in_step (used_by rs) ≡ true) × (map record_view records.items ≡ rs)
 
 -- The same of any settled module, by the first of its reads that a settled module uses.
@@ -65,25 +70,40 @@ IsKeptFinding rs used finding =
     ((list_all can_return rs ≡ true) × IsSettledFinding rs used finding)
     ⊎ ((first : code.Record) × IsFirstOneWay rs (record_view first) × (finding ≡ Stands (OneWay first)))
 
+-- The finding is that of a module that asks this and has these records.
+abbrev pub IsAskingFinding : Question → List Record → ModuleFinding → Type 0
+IsAskingFinding first rs (Stands standing) = ⊥
+IsAskingFinding first rs (Asking question records) = (question ≡ first) × (map record_view records.items ≡ rs)
+IsAskingFinding first rs (InStep records) = ⊥
+
 -- What a module with these records shows by itself, of whose questions this is the first that doesn't keep its answer.
 abbrev pub IsFindingOf : Option Question → List Record → Option UsedRead → ModuleFinding → Type 0
 IsFindingOf None rs used finding = IsKeptFinding rs used finding
-IsFindingOf (Some first) rs used finding = finding ≡ Stands (Asks first)
+IsFindingOf (Some first) rs used finding = IsAskingFinding first rs finding
 
 -- what the outcome of its evaluations shows, and what it reads that a settled module uses
 abbrev pub IsFinding : Result EvaluatedFile Refusal → Option UsedRead → ModuleFinding → Type 0
 IsFinding (Ok file) used finding = IsFindingOf file.unkept (map record_view file.records.items) used finding
 IsFinding (Err refusal) used finding = finding ≡ Stands (Refused refusal)
 
--- its standing, unless others decide
-abbrev pub standing_of : ModuleFinding → Option Standing
-standing_of (Stands standing) = Some standing
-standing_of (InStep records) = None
+-- its standing, by whether it is withheld; none where others decide
+abbrev pub standing_of : Bool → ModuleFinding → Option Standing
+standing_of withheld (Stands standing) = Some standing
+standing_of withheld (Asking first records) = Some (Asks first)
+standing_of withheld (InStep records) = if withheld then Some Withheld else None
 
 -- the module with its records, where others decide
-abbrev pub steps_of : SiteModule → ModuleFinding → List Module
-steps_of m (Stands standing) = []
-steps_of m (InStep records) = with_records m (map record_view records.items) ∷ []
+abbrev pub steps_of : List Text → SiteModule → ModuleFinding → List Module
+steps_of without m (Stands standing) = []
+steps_of without m (Asking first records) = []
+steps_of without m (InStep records) =
+    if is_withheld without m.name then [] else with_records m (map record_view records.items) ∷ []
+
+-- the module with its first records, where it asks
+abbrev pub asking_of : SiteModule → ModuleFinding → List Module
+asking_of m (Stands standing) = []
+asking_of m (Asking first records) = with_records m (map record_view records.items) ∷ []
+asking_of m (InStep records) = []
 
 -- ---- all modules
 
@@ -91,14 +111,23 @@ steps_of m (InStep records) = with_records m (map record_view records.items) ∷
 abbrev pub Shown : Type 0
 Shown = Evaluation × Option UsedRead × ModuleFinding
 
--- what is kept of it
-abbrev pub judged_of : Shown → JudgedModule
-judged_of (e, used, finding) =
-    record { name = e.name; path = e.path; reads = e.reads; standing = standing_of finding }
+-- what is kept of it, where the modules that these names mean are withheld
+abbrev pub judged_of : List Text → Shown → JudgedModule
+judged_of without (e, used, finding) =
+    record {
+      name = e.name;
+      path = e.path;
+      reads = e.reads;
+      standing = standing_of (is_withheld without (string_bytes e.name)) finding;
+    }
 
 -- the module, where other modules decide how it stands
-abbrev pub steps_in : Shown → List Module
-steps_in (e, used, finding) = steps_of (evaluated_file e) finding
+abbrev pub steps_in : List Text → Shown → List Module
+steps_in without (e, used, finding) = steps_of without (evaluated_file e) finding
+
+-- the module, where it asks
+abbrev pub asking_in : Shown → List Module
+asking_in (e, used, finding) = asking_of (evaluated_file e) finding
 
 -- what the evaluation shows is right
 abbrev pub IsShown : Shown → Type 0
@@ -118,24 +147,29 @@ abbrev pub reads_along : List Evaluation → List (Option UsedRead) → List (Op
 reads_along [] answers = []
 reads_along (e ∷ es) answers = first_read answers ∷ reads_along es (later_reads answers)
 
--- Each module of some evaluations is judged by itself, in their order, by these answers of what it reads; and these are
--- the settled ones in step whose reads none of them uses.
-pub record AreJudged (evaluations : List Evaluation) (used : List (Option UsedRead)) (judged : List JudgedModule)
-    (in_step : List Module) : Type 0 where
+-- Each module of some evaluations is judged by itself, in their order, by these answers of what it reads, where the
+-- modules that these names mean are withheld; and these are the settled ones in step that aren't, and whose reads none
+-- uses, and those that ask.
+pub record AreJudged (without : List Text) (evaluations : List Evaluation) (used : List (Option UsedRead))
+    (judged : List JudgedModule) (in_step asking : List Module) : Type 0 where
   pub shown : List Shown
   pub evaluated : map (λ s. s.0) shown ≡ evaluations
   pub read : map (λ s. s.1) shown ≡ used
   pub right : AllByRecursion IsShown shown
-  pub kept : judged ≡ map judged_of shown
-  pub steps : in_step ≡ flat_map steps_in shown
+  pub kept : judged ≡ map (judged_of without) shown
+  pub steps : in_step ≡ flat_map (steps_in without) shown
+  pub asks : asking ≡ flat_map asking_in shown
 
 -- one module more is judged by itself
-pub record AddsJudged (evaluation : Evaluation) (used : Option UsedRead) (old new : JudgedSite) : Type 0 where
+pub record AddsJudged (without : List Text) (evaluation : Evaluation) (used : Option UsedRead) (old new : JudgedSite)
+    : Type 0 where
   pub finding : ModuleFinding
   pub right : IsFinding evaluation.outcome used finding
-  pub kept : new.judged.items ≡ old.judged.items ++ judged_of (evaluation, used, finding) ∷ []
+  pub kept : new.judged.items ≡ old.judged.items ++ judged_of without (evaluation, used, finding) ∷ []
   pub steps : map module_view new.in_step.items
-      ≡ map module_view old.in_step.items ++ steps_in (evaluation, used, finding)
+      ≡ map module_view old.in_step.items ++ steps_in without (evaluation, used, finding)
+  pub asks : map module_view new.asking.items
+      ≡ map module_view old.asking.items ++ asking_in (evaluation, used, finding)
 
 -- ---- answers about clashes
 
@@ -177,15 +211,18 @@ modules_with (judged ∷ rest) answers =
     module_with judged answers ∷ modules_with rest (answers_left judged.standing answers)
 
 -- The modules of some evaluations stand so, and these are the uses of those that are certified, each once: by what each
--- shows by itself and reads, and by what is answered of the clashes of those that are settled and in step.
-pub record AreStandings (evaluations : List Evaluation) (modules : List AuditedModule) (uses : List UsedVariable)
-    : Type 0 where
+-- shows by itself and reads, by the names of those that are withheld, and by what is answered of the clashes of those
+-- that are settled and in step. And these are the clashes of those that ask.
+pub record AreStandings (without : List Text) (evaluations : List Evaluation) (modules : List AuditedModule)
+    (uses : List UsedVariable) (clashes : List AskingClash) : Type 0 where
   pub used : List (Option UsedRead)
   pub judged : List JudgedModule
   pub in_step : List Module
+  pub asking : List Module
   pub answers : List (Option Clash)
   pub read : AreUsedReads (map settled_module evaluations) evaluations used
-  pub by_themselves : AreJudged evaluations (reads_along evaluations used) judged in_step
+  pub by_themselves : AreJudged without evaluations (reads_along evaluations used) judged in_step asking
   pub answered : AreAnswers in_step in_step answers
   pub standings : modules ≡ modules_with judged answers
   pub certified : uses ≡ each_once (used_by_modules (without_clashes in_step answers))
+  pub beside : AreAskingClashes in_step asking clashes

@@ -3,6 +3,7 @@ pub mod WalkLooked
 pub mod Audits
 pub mod Looked
 pub mod Missing
+pub mod Unread
 pub mod NoModulefiles
 pub mod Folders
 -- for the contracts of private functions
@@ -11,4 +12,5 @@ pub mod SettledRuns
 pub mod Findings
 pub mod Mentions
 pub mod FilesBelow
+pub mod Hanging
 pub mod Parts

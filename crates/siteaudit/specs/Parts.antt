@@ -1,5 +1,5 @@
 -- The parts of an audit, by the directories and the evaluations of a walk: for this crate's own contracts alone.
-use Rattle.std.specs.Prelude.{◌≡◌, ◌⊎◌, ◌↔◌, [], map, flat_map}
+use Rattle.std.specs.Prelude.{◌≡◌, ◌⊎◌, ◌↔◌, List, [], map, flat_map}
 use Rattle.envvars.specs.Texts.{Text, texts_in}
 use Rattle.tclrules.specs.declared.limits.Limits.{Limits}
 use Rattle.filetree.specs.Agreement.{Files, Listings}
@@ -10,21 +10,29 @@ use Rattle.sitecertificate.specs.DisagreementViews.{disagreement_view}
 use Rattle.sitelaws.specs.Sites.{Site}
 use Rattle.siteaudit.specs.Walks.{IsWalkAnswer}
 use Rattle.siteaudit.specs.declared.walk.SiteWalk.{SiteWalk}
-use Rattle.siteaudit.specs.Audits.{mention_of, IsAudit, CertificateStands}
+use Rattle.requests.specs.Steps.{modulepath}
+use Rattle.siteaudit.specs.Audits.{addition_of, mention_of, IsAudit, CertificateStands}
+use Rattle.siteaudit.specs.Hanging.{is_settled_directory, additions_after}
 use Rattle.siteaudit.specs.SettledRuns.{evaluated_file}
 use Rattle.siteaudit.specs.Findings.{AreStandings}
 use Rattle.siteaudit.specs.Folders.{AreBadDefaultFiles, EvaluatedLookAt}
 use Rattle.siteaudit.specs.Missing.{missing_among}
+use Rattle.siteaudit.specs.Unread.{unread_among}
 use Rattle.siteaudit.specs.NoModulefiles.{AreNoModulefiles}
 use Rattle.siteaudit.specs.FilesBelow.{LooksAtAny}
 use Rattle.siteaudit.specs.Mentions.{is_known, unknown_after}
 use Rattle.siteaudit.specs.declared.auditing.SiteAudit.{SiteAudit}
 
--- What was found are the parts of an audit, by this walk.
-pub record AreParts (site : Site) (walk : SiteWalk) (found : SiteAudit) : Type 0 where
-  pub standings : AreStandings walk.evaluations.items found.modules.items (map used_view found.certificate.items)
+-- What was found are the parts of an audit without the modules that these names mean, by this walk.
+pub record AreParts (site : Site) (without : List Text) (walk : SiteWalk) (found : SiteAudit) : Type 0 where
+  pub standings : AreStandings without walk.evaluations.items found.modules.items
+      (map used_view found.certificate.items) found.asking_clashes.items
   pub missing_directories : texts_in found.missing_directories
       ≡ missing_among site.listings (texts_in walk.directories)
+  pub hanging : map addition_of found.hanging_directories.items
+      ≡ flat_map (additions_after (is_settled_directory (modulepath site.env) walk.evaluations.items))
+      walk.evaluations.items
+  pub unread : texts_in found.unread_default_files ≡ unread_among site.listings (texts_in walk.directories)
   pub no_modulefiles : AreNoModulefiles site.files site.listings (texts_in walk.directories)
       (texts_in found.no_modulefiles)
   pub bad_default_files : AreBadDefaultFiles site.limits site.files site.listings
@@ -38,8 +46,8 @@ pub record AreParts (site : Site) (walk : SiteWalk) (found : SiteAudit) : Type 0
 -- The parts, by a walk over a site, are an audit of the site, and its certificate stands.
 abbrev pub PartsAreAudits : Type 0
 PartsAreAudits =
-    (site : Site) (walk : SiteWalk) (found : SiteAudit) → IsWalkAnswer site walk
-    → AreParts site walk found → IsAudit site found × CertificateStands site found
+    (site : Site) (without : List Text) (walk : SiteWalk) (found : SiteAudit) → IsWalkAnswer site walk
+    → AreParts site without walk found → IsAudit site without found × CertificateStands site found
 
 -- What looks for the parts looks at this path: at a directory of the walk, or at what is below one; or where the search
 -- for the folder of a module does.

@@ -38,9 +38,10 @@ reads_where_settled (Err refusal) reads = []
 abbrev pub settled_reads : Evaluation → List Text
 settled_reads e = reads_where_settled e.outcome (texts_in e.reads)
 
--- the directories that it adds, where it is settled
+-- the directories that it adds, by its first records
 abbrev pub directories_after : Result EvaluatedFile Refusal → List Text
-directories_after outcome = added_directories (settled_records outcome)
+directories_after (Ok file) = added_directories (map record_view file.records.items)
+directories_after (Err refusal) = []
 
 -- the module of an evaluation
 abbrev pub evaluated_file : Evaluation → SiteModule

@@ -1,6 +1,6 @@
 -- What a walk over a site answers (own).
-use Rattle.std.specs.Prelude.{◌≡◌, ℕ, ◌<◌, ◌≤◌, true, not, List, [], ◌∷◌, ◌++◌, length, map, flat_map, find, Option}
-use Rattle.std.specs.Prelude.{Some, None, Result, Ok, Err, string_bytes}
+use Rattle.std.specs.Prelude.{◌≡◌, ℕ, ◌<◌, ◌≤◌, true, not, List, [], ◌∷◌, ◌++◌, length, map, flat_map, find}
+use Rattle.std.specs.Prelude.{None, Result, Ok, Err, string_bytes}
 use Rattle.std.specs.Option.{option_map}
 use Rattle.envvars.specs.Texts.{Text, texts_in}
 use Rattle.envvars.specs.Fields.{without_repeats, are_distinct}
@@ -14,12 +14,11 @@ use Rattle.modulefile.specs.RecordViews.{record_view}
 use Rattle.modulerun.specs.Questions.{question_view}
 use Rattle.settled.specs.Ways.{FileRuns, are_runs_alike, keeps_answer}
 use Rattle.modulefile.specs.Judgments.{bad_edit}
-use Rattle.modulefile.specs.Moves.{Module}
 use Rattle.requests.specs.Reasons.{RequestReason, refused_edit}
 use Rattle.modules.specs.Answers.{cause_of}
 use Rattle.modules.specs.declared.refusal.Refusal.{Refusal}
 use Rattle.sitecertificate.specs.RecordUses.{IsAmong}
-use Rattle.sitelaws.specs.Sites.{Site, Evaluated, EvaluatesTo, first_directories, added_directories, settled_of}
+use Rattle.sitelaws.specs.Sites.{Site, Evaluated, EvaluatesTo, first_directories, added_directories}
 use Rattle.sitelaws.specs.Sites.{reads_of}
 use Rattle.sitelaws.specs.Sites.{site_of}
 use Rattle.sitelaws.specs.Sites.{IsDirectory, AreDirectories, AreModulesIn}
@@ -33,18 +32,14 @@ use Rattle.siteaudit.specs.declared.walk.SiteWalk.{SiteWalk}
 abbrev pub most_directories : ℕ
 most_directories = 65536
 
--- the directories that a module adds, where it is settled
-abbrev pub directories_by_settled : Option Module → List Text
-directories_by_settled None = []
-directories_by_settled (Some m) = added_directories m.records
-
--- the directories that an evaluated module adds
+-- the directories that an evaluated module adds, by its first records
 abbrev pub directories_of : Evaluated → List Text
-directories_of outcome = directories_by_settled (settled_of outcome)
+directories_of (m, Ok runs) = added_directories runs.first.records
+directories_of (m, Err reason) = []
 
--- These directories are those of the site, each once: those of MODULEPATH, and then those that the settled modules in
--- them add, as they come; and they are no more than a walk goes through. These are the modules in them in turn, each
--- with the outcome of its evaluation.
+-- These directories are those of the site, each once: those of MODULEPATH, and then those that the modules in them add,
+-- as they come; and they are no more than a walk goes through. These are the modules in them in turn, each with the
+-- outcome of its evaluation.
 pub record IsWalk (site : Site) (dirs : List Text) (outcomes : List Evaluated) : Type 0 where
   pub directories : AreDirectories site dirs
   pub order : dirs ≡ without_repeats (first_directories site ++ flat_map directories_of outcomes)

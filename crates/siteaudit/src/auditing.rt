@@ -1,5 +1,5 @@
 //! The audit of a whole site.
-ghost use Rattle.std.specs.Prelude.{◌<◌, IfOk, IfErr};
+ghost use Rattle.std.specs.Prelude.{◌<◌, map, string_bytes, IfOk, IfErr};
 ghost use Rattle.filetree.specs.Agreement.{FailsWhere, InEachPair, ReadsOn};
 ghost use Rattle.filetree.specs.Causes.{Applies};
 ghost use Rattle.modules.specs.Answers as steps;
@@ -12,17 +12,19 @@ ghost use Rattle.siteaudit.specs.Parts.{AreParts, PartsAreAudits, WalkedLookAt};
 
 use crate::defaults::bad_default_files;
 use crate::fault::WalkFault;
+use crate::hanging::hanging_directories;
 use crate::judgement::{SiteStandings, judge_modules};
 use crate::missing::missing_among;
 use crate::names::unknown_names;
 use crate::no_modulefiles::no_modulefiles;
 use crate::progress::WalkProgress;
 use crate::standing::Standing;
-use crate::walk::{SiteWalk, walk_site};
+use crate::unread::unread_default_files;
+use crate::walk::{SiteWalk, modulepath, walk_site};
 use envvars::Env;
 use filetree::Tree;
 use modules::Refusal;
-use sitecertificate::{Disagreement, UsedVariable, disagreements};
+use sitecertificate::{Clash, Disagreement, UsedVariable, disagreements};
 use std::alloc::Global;
 use tclrules::Limits;
 
@@ -37,6 +39,28 @@ pub struct AuditedModule {
     pub reads: Vec<String>,
     /// How it stands.
     pub standing: Standing,
+}
+
+/// A directory that a module adds to MODULEPATH.
+#[derive(Debug, Drop)]
+pub struct AddedDirectory {
+    /// The full name of the module.
+    pub name: String,
+    /// The path of its file.
+    pub path: String,
+    /// The directory.
+    pub directory: String,
+}
+
+/// A clash of a module that asks, by what its first evaluation leaves, with a certified one.
+#[derive(Debug, Drop)]
+pub struct AskingClash {
+    /// The full name of the module that asks.
+    pub name: String,
+    /// The path of its file.
+    pub path: String,
+    /// The clash.
+    pub clash: Clash,
 }
 
 /// Names in a `conflict` or a `prereq` of a module, of which none means a module of the site.
@@ -61,8 +85,17 @@ pub struct SiteAudit {
     pub certificate: Vec<UsedVariable>,
     /// The directories of the site that aren't there, in the order of the walk.
     pub missing_directories: Vec<String>,
+    /// What modules add to MODULEPATH that neither that at hand has nor a settled module adds, so that it hangs on modules
+    /// that aren't settled: module by module, each directory of one once.
+    pub hanging_directories: Vec<AddedDirectory>,
+    /// Of each module that asks, in their order, a clash of what its first evaluation leaves with a certified one, where
+    /// there is one.
+    pub asking_clashes: Vec<AskingClash>,
     /// The paths of the files in the places of modules that don't begin with the cookie, in the order of their bytes.
     pub no_modulefiles: Vec<String>,
+    /// The paths of the default files that stand in a directory of the site itself, and so aren't read, in the order of the
+    /// walk.
+    pub unread_default_files: Vec<String>,
     /// The paths of the default files that have a fault, so that a search for their folder is refused.
     pub bad_default_files: Vec<String>,
     /// Conflicts and prereqs that name no module of the site.
@@ -86,11 +119,12 @@ fn audit_walk<T: Tree>(
     env: &Env,
     tree: &mut T,
     limits: Limits,
+    without: &[String],
     walk: SiteWalk,
 ) -> Result<SiteAudit, Refusal>
     ensures reads { ReadsOn T.agrees T.failures tree.old tree.new }
     ensures parts { IfOk result (λ found. InEachPair (T.agrees tree.new) (λ files listings.
-        AreParts (site_of limits env.now files listings) walk found)) }
+        AreParts (site_of limits env.now files listings) (map string_bytes without.now) walk found)) }
     ensures cause { IfErr result (λ refusal.
         Applies (cause_of refusal) (T.failures tree.old < T.failures tree.new) (λ reason. ⊥)) }
     ensures failed { FailsWhere steps.is_failure T.agrees T.failed tree.old tree.new result (λ files listings.
@@ -101,19 +135,25 @@ fn audit_walk<T: Tree>(
         evaluations,
     } = walk;
     let unknown_names = unknown_names(alloc, evaluations.as_slice())?;
+    let hanging_directories = hanging_directories(alloc, modulepath(env), evaluations.as_slice())?;
     let no_modulefiles = no_modulefiles(alloc, tree, directories.as_slice())?;
+    let unread_default_files = unread_default_files(alloc, tree, directories.as_slice())?;
     let missing_directories = missing_among(alloc, tree, directories)?;
     let bad_default_files = bad_default_files(alloc, tree, limits, evaluations.as_slice())?;
     let SiteStandings {
         modules,
         certificate,
-    } = judge_modules(alloc, evaluations)?;
+        asking_clashes,
+    } = judge_modules(alloc, evaluations, without)?;
     let disagreements = disagreements(alloc, env, certificate.as_slice())?;
     Ok(SiteAudit {
         modules,
         certificate,
         missing_directories,
+        hanging_directories,
+        asking_clashes,
         no_modulefiles,
+        unread_default_files,
         bad_default_files,
         unknown_names,
         disagreements,
@@ -121,7 +161,8 @@ fn audit_walk<T: Tree>(
 }
 
 /// Judges a whole site: that of the MODULEPATH of an environment, over a tree and within limits. Each file is read
-/// once, and evaluated for loading in sh, and in each other way that it asks for; the environment doesn't change.
+/// once, and evaluated for loading in sh, and in each other way that it asks for; the environment doesn't change. Modules
+/// that one of the given names means aren't certified: those that would be judged with the others are withheld.
 ///
 /// What is found is an audit of the site (`exact`). Its certificate stands (`holds`): a session that begins in an
 /// environment whose loaded list is in order, and loads only modules that stand as certified, with whose uses this
@@ -134,11 +175,12 @@ pub fn audit<T: Tree, P: WalkProgress>(
     env: &Env,
     tree: &mut T,
     limits: Limits,
+    without: &[String],
     progress: &mut P,
 ) -> Result<SiteAudit, WalkFault>
     ensures reads { ReadsOn T.agrees T.failures tree.old tree.new }
     ensures exact { IfOk result (λ found. InEachPair (T.agrees tree.new) (λ files listings.
-        IsAudit (site_of limits env.now files listings) found)) }
+        IsAudit (site_of limits env.now files listings) (map string_bytes without.now) found)) }
     ensures holds { IfOk result (λ found. InEachPair (T.agrees tree.new) (λ files listings.
         CertificateStands (site_of limits env.now files listings) found)) }
     ensures cause { IfErr result (HasCause (T.agrees tree.new) (T.failures tree.old < T.failures tree.new) limits env.now) }
@@ -148,5 +190,5 @@ pub fn audit<T: Tree, P: WalkProgress>(
     parts_are_audits();
     sitelaws::laws::walks();
     let walk = walk_site(alloc, env, tree, limits, progress)?;
-    Ok(audit_walk(alloc, env, tree, limits, walk)?)
+    Ok(audit_walk(alloc, env, tree, limits, without, walk)?)
 }

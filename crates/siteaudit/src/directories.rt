@@ -1,14 +1,15 @@
 //! The directories that evaluated modules add to those of a site.
-ghost use Rattle.std.specs.Prelude.{◌≡◌, map, flat_map, Some, Ok, OnOk, string_bytes};
+ghost use Rattle.std.specs.Prelude.{◌≡◌, map, flat_map, Some, OnOk, string_bytes};
 ghost use Rattle.filetree.specs.Modulefiles.{directories};
 ghost use Rattle.modulefile.specs.RecordViews.{record_view};
 ghost use Rattle.sitelaws.specs.Sites.{directories_in, directories_by, added_directories};
 ghost use Rattle.sitelaws.specs.DirectorySets.{with_directories};
+ghost use Rattle.siteaudit.specs.Hanging.{settled_additions};
 ghost use Rattle.siteaudit.specs.SettledRuns.{directories_after};
 ghost use Rattle.siteaudit.specs.WalkParts.{directories_found};
 
-use crate::settled_runs::is_settled;
-use crate::walk::{EvaluatedFile, Evaluation};
+use crate::settled_runs::settled_file;
+use crate::walk::Evaluation;
 use modulefile::Record;
 use sitelaws::directory_set::{Directories, push_directories};
 use std::alloc::{AllocError, Global};
@@ -63,24 +64,8 @@ fn push_added(alloc: Global, dirs: &mut Directories, records: &[Record]) -> Resu
     Ok(())
 }
 
-/// Adds the directories that a file adds whose evaluations show this, if its module is settled.
-fn push_settled(
-    alloc: Global,
-    dirs: &mut Directories,
-    file: &EvaluatedFile,
-) -> Result<(), AllocError>
-    ensures { OnOk result (map string_bytes dirs.new.keys
-        ≡ with_directories (map string_bytes dirs.old.keys) (directories_after (Ok file.now))) }
-{
-    if is_settled(file) {
-        push_added(alloc, dirs, file.records.as_slice())
-    } else {
-        Ok(())
-    }
-}
-
 /// Adds the directories that an evaluated module adds.
-fn push_evaluated(
+pub(crate) fn push_evaluated(
     alloc: Global,
     dirs: &mut Directories,
     evaluation: &Evaluation,
@@ -89,8 +74,23 @@ fn push_evaluated(
         ≡ with_directories (map string_bytes dirs.old.keys) (directories_after evaluation.now.outcome)) }
 {
     match &evaluation.outcome {
-        Ok(file) => push_settled(alloc, dirs, file),
+        Ok(file) => push_added(alloc, dirs, file.records.as_slice()),
         Err(_) => Ok(()),
+    }
+}
+
+/// Adds the directories that an evaluated module adds, if it is settled.
+pub(crate) fn push_settled(
+    alloc: Global,
+    dirs: &mut Directories,
+    evaluation: &Evaluation,
+) -> Result<(), AllocError>
+    ensures { OnOk result (map string_bytes dirs.new.keys
+        ≡ with_directories (map string_bytes dirs.old.keys) (settled_additions evaluation.now)) }
+{
+    match settled_file(evaluation) {
+        Some(file) => push_added(alloc, dirs, file.records.as_slice()),
+        None => Ok(()),
     }
 }
 

@@ -1,23 +1,13 @@
 //! What the settled modules of a site read that others of them use.
 ghost use Rattle.std.specs.Prelude.{◌≡◌, map, IfOk};
 ghost use Rattle.sitereads.specs.Answers.{module_of, reads_of};
-ghost use Rattle.siteaudit.specs.SettledRuns.{is_settled_outcome, settled_module, settled_reads, AreUsedReads};
+ghost use Rattle.siteaudit.specs.SettledRuns.{settled_module, settled_reads, AreUsedReads};
 
-use crate::settled_runs::is_settled;
-use crate::walk::{EvaluatedFile, Evaluation};
+use crate::settled_runs::settled_file;
+use crate::walk::Evaluation;
 use envvars::fields::slices;
 use sitereads::{Reader, UsedRead, used_reads};
 use std::alloc::{AllocError, Global};
-
-/// What the evaluations of a settled module show; `None` where the module isn't settled.
-fn settled_file(evaluation: &Evaluation) -> Option<&EvaluatedFile>
-    ensures { is_settled_outcome evaluation.entry.now.outcome result }
-{
-    match &evaluation.outcome {
-        Ok(file) => { if is_settled(file) { Some(file) } else { None } }
-        Err(_) => None,
-    }
-}
 
 /// The module of an evaluation, with what it reads. One that isn't settled has no records here, and reads nothing.
 fn reader_of(alloc: Global, evaluation: &Evaluation) -> Result<Reader<'_>, AllocError>

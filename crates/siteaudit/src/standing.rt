@@ -38,6 +38,8 @@ pub enum Standing {
         one: VariableUse,
         other: VariableUse,
     },
+    /// It is settled and in step, and is withheld by hand.
+    Withheld,
     /// It is settled and in step, and clashes with a certified module in a variable.
     Clashes(Clash),
     /// Its evaluation is refused.
@@ -57,6 +59,8 @@ pub(crate) struct UnlikeUses {
 pub(crate) enum ModuleFinding {
     /// It stands so, whatever the other modules do.
     Stands(Standing),
+    /// It asks this, the first question that doesn't keep its answer, and its first evaluation left these records.
+    Asking(Question, Vec<Record>),
     /// It is settled and in step, with these records: the other modules decide.
     InStep(Vec<Record>),
 }
@@ -197,7 +201,7 @@ fn judge_file(
 {
     let EvaluatedFile { records, unkept } = file;
     match unkept {
-        Some(question) => Ok(ModuleFinding::Stands(Standing::Asks(question))),
+        Some(question) => Ok(ModuleFinding::Asking(question, records)),
         None => judge_records(alloc, records, used),
     }
 }

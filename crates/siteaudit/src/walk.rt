@@ -63,7 +63,7 @@ pub struct SiteWalk {
 }
 
 /// MODULEPATH, or the empty text where it is unset.
-fn modulepath(env: &Env) -> &str
+pub(crate) fn modulepath(env: &Env) -> &str
     ensures { result.now ≡ modulepath_of env.now }
 {
     match env.get("MODULEPATH") {
@@ -72,7 +72,7 @@ fn modulepath(env: &Env) -> &str
     }
 }
 
-/// Evaluates each module below a directory, and adds to the directories those that the settled ones add.
+/// Evaluates each module below a directory, and adds to the directories those that these add.
 ///
 /// Errors: a device that failed; want of memory.
 fn walk_directory<T: Tree, P: WalkProgress>(

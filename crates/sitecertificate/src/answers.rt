@@ -91,7 +91,7 @@ fn clash_of<'a>(
 }
 
 /// A clash of each of the modules with one of those in a table.
-fn answers<'a>(
+fn answers_of<'a>(
     alloc: Global,
     tally: &Tally<'a>,
     table: &VariableTable<'a>,
@@ -116,26 +116,53 @@ pub struct FoundClashes {
     pub answers: Vec<Option<Clash>>,
     /// What those use that clash with none: each use once, in the order in which they first stand.
     pub unclashed_uses: Vec<UsedVariable>,
+    /// For each of the modules beside them, in their order, a clash with one that stays; `None` where it clashes with none.
+    pub beside: Vec<Option<Clash>>,
+}
+
+/// The clashes of modules, and of others beside them, with those of the first that stay.
+fn clashes_of<'a>(
+    alloc: Global,
+    users: &'a [UsingModule<'a>],
+    others: &'a [UsingModule<'a>],
+) -> Result<FoundClashes, AllocError>
+    ensures answers { IfOk result (λ found.
+        AreAnswers (map module_of users.entry.now) (map module_of users.entry.now) found.answers.items) }
+    ensures uses { IfOk result (λ found. map used_view found.unclashed_uses.items
+        ≡ each_once (used_by_modules (without_clashes (map module_of users.entry.now) found.answers.items))) }
+    ensures beside { IfOk result (λ found.
+        AreAnswers (map module_of users.entry.now) (map module_of others.entry.now) found.beside.items) }
+{
+    let tally = Tally::of(alloc, users)?;
+    let ranks = ranks(alloc, &tally, users)?;
+    let table = VariableTable::of_taken(alloc, ranks.as_slice())?;
+    let answers = answers_of(alloc, &tally, &table, users)?;
+    let unclashed_uses = unclashed_uses(alloc, users, answers.as_slice())?;
+    let beside = answers_of(alloc, &tally, &table, others)?;
+    Ok(FoundClashes {
+        answers,
+        unclashed_uses,
+        beside,
+    })
 }
 
 /// Of modules that clash those that stay, as many as can be: the others have a clash with one of these. What those that
-/// stay use.
+/// stay use. And of other modules, which have no part in who stays, a clash with one that does.
 ///
 /// The only error is want of memory.
-pub fn clashes(alloc: Global, modules: &[Module]) -> Result<FoundClashes, AllocError>
+pub fn clashes(
+    alloc: Global,
+    modules: &[Module],
+    others: &[Module],
+) -> Result<FoundClashes, AllocError>
     ensures answers { IfOk result (λ found.
         AreAnswers (map module_view modules.now) (map module_view modules.now) found.answers.items) }
     ensures uses { IfOk result (λ found. map used_view found.unclashed_uses.items
         ≡ each_once (used_by_modules (without_clashes (map module_view modules.now) found.answers.items))) }
+    ensures beside { IfOk result (λ found.
+        AreAnswers (map module_view modules.now) (map module_view others.now) found.beside.items) }
 {
     let users = using_modules(alloc, modules)?;
-    let tally = Tally::of(alloc, users.as_slice())?;
-    let ranks = ranks(alloc, &tally, users.as_slice())?;
-    let table = VariableTable::of_taken(alloc, ranks.as_slice())?;
-    let answers = answers(alloc, &tally, &table, users.as_slice())?;
-    let unclashed_uses = unclashed_uses(alloc, users.as_slice(), answers.as_slice())?;
-    Ok(FoundClashes {
-        answers,
-        unclashed_uses,
-    })
+    let others = using_modules(alloc, others)?;
+    clashes_of(alloc, users.as_slice(), others.as_slice())
 }

@@ -13,11 +13,10 @@ use Rattle.modules.proofs.FailureLemmas.{unfailed}
 use Rattle.siteaudit.specs.Looked as walks
 use Rattle.siteaudit.specs.declared.fault.WalkFault.{WalkFault}
 use Rattle.siteaudit.specs.declared.fault.WalkFault.TheVariants as faults
-use Rattle.sitecommand.specs.Arguments.{Wanted}
-use Rattle.sitecommand.specs.Audits.{IsDirectory, AreDirectories, IsFirstGone, IsNoDirectory, is_no_element, judged_env}
+use Rattle.sitecommand.specs.Audits.{IsDirectory, AreDirectories, IsFirstGone, IsNoDirectory, is_no_element}
 use Rattle.sitecommand.specs.Faults.{is_failure, of_walk}
 use Rattle.sitecommand.specs.Looked.{AreThere, DirectoriesLookAt}
-use Rattle.sitecommand.specs.Steps.{IsGivenUp, NamesNoDirectory, IsDirectoryFault, AreDirectoriesFault, IsModulepathFault, IsWantedFault}
+use Rattle.sitecommand.specs.Steps.{IsGivenUp, NamesNoDirectory, IsDirectoryFault, AreDirectoriesFault, IsFoundFault, IsModulepathFault}
 use Rattle.sitecommand.specs.declared.audit_fault.AuditFault.{AuditFault}
 use Rattle.sitecommand.specs.declared.audit_fault.AuditFault.TheVariants.{Refused, BadArguments, EmptyModulepath, TooManyDirectories, NotADirectory}
 use Rattle.sitecommand.specs.declared.audit_fault.AuditFault.TheVariants.{WriteFailed}
@@ -29,6 +28,9 @@ fails_later a b c p q = omega arith
 -- what failed in an earlier part failed in the whole
 pub fails_before : (a b c : ℕ) → b ≤ c → a < b → a < c
 fails_before a b c p q = omega arith
+
+pub counts_both : (a b c : ℕ) → a ≤ b → b ≤ c → a ≤ c
+counts_both a b c p q = omega arith
 
 -- ---- causes
 
@@ -152,8 +154,8 @@ pub modulepath_unfailed : (e : Environment) (fault : AuditFault) (before now : L
 modulepath_unfailed e fault before now W (inl d) same = subst (λ (f : AuditFault). FailsIf (is_failure f) before now W) (sym d.0) same
 modulepath_unfailed e fault before now W (inr h) same = unfailed_without fault before now W h same
 
--- the fault of one, among those of what is asked for
-pub modulepath_wanted : (agrees : Files → Listings → Type 0) (failed : Type 0) (e : Environment) (wanted : Wanted) (fault : AuditFault) → AreDirectories agrees wanted.directories
-    → IsModulepathFault (judged_env e wanted.directories) fault → IsWantedFault agrees failed e wanted fault
-modulepath_wanted agrees failed e wanted fault there (inl d) = inr (inl (d.0, there, d.1))
-modulepath_wanted agrees failed e wanted fault there (inr h) = inl (inr (given_up_in fault ⊥ failed (λ (x : ⊥). absurd x) h))
+-- the fault of one, among those of what is found
+pub modulepath_found : (agrees : Files → Listings → Type 0) (failed : Type 0) (judged : Environment) (dirs : List Text) (fault : AuditFault) → AreDirectories agrees dirs
+    → IsModulepathFault judged fault → IsFoundFault agrees failed judged dirs fault
+modulepath_found agrees failed judged dirs fault there (inl d) = inr (inl (d.0, there, d.1))
+modulepath_found agrees failed judged dirs fault there (inr h) = inl (inr (given_up_in fault ⊥ failed (λ (x : ⊥). absurd x) h))

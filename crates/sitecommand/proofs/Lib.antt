@@ -1,2 +1,6 @@
 pub mod DirectoryLemmas
+mod PartedLemmas
+mod TryingLemmas
 pub mod AuditLemmas
+mod PathLemmas
+mod ReadableLemmas

@@ -2,7 +2,18 @@
 use Rattle.envvars.specs.Texts.{texts_in}
 use Rattle.sitecommand.specs.Arguments as arguments
 use Rattle.sitecommand.specs.declared.arguments.AuditArguments.{AuditArguments}
+use Rattle.sitecommand.specs.declared.arguments.PartedWords.{PartedWords}
 
 -- what is asked for
 abbrev pub wanted_view : AuditArguments → arguments.Wanted
-wanted_view w = record { selection = w.selection; format = w.format; directories = texts_in w.directories }
+wanted_view w =
+    record {
+      selection = w.selection;
+      format = w.format;
+      without = texts_in w.without;
+      directories = texts_in w.directories;
+    }
+
+-- words in two lists
+abbrev pub parted_view : PartedWords → arguments.PartedWords
+parted_view p = record { without = texts_in p.without; others = texts_in p.others }

@@ -1,29 +1,36 @@
 -- What an audit writes to its two writers, and why there is none (own).
 use Rattle.std.specs.Prelude.{◌≡◌, ◌⊎◌, ℕ, Bool, true, false, List, [], ◌∷◌, ◌++◌, codes, Option, Some, None, IsSome}
-use Rattle.std.specs.Prelude.{◌==◌, ◌||◌, bytes_eq, length, not, string_bytes}
+use Rattle.std.specs.Prelude.{◌<◌, ◌≤◌, ◌==◌, ◌&&◌, ◌||◌, bytes_eq, length, not, string_bytes}
+use Rattle.std.specs.Cmp.Lexicographic.{slice_cmp}
+use Rattle.std.specs.Ordering.{nat_cmp}
 use Rattle.std.specs.declared.alloc.Global.{Global}
 use Rattle.std.specs.declared.string.String.{String}
-use Rattle.std.specs.List.{join_with_byte, list_all, list_any}
+use Rattle.std.specs.List.{All, join_with_byte, list_all, list_any}
+use Rattle.std.specs.List.Sorted.{IsStrictlySortedBy}
 use Rattle.std.specs.Io.KnownBytes.{Keeps, Appends}
-use Rattle.envvars.specs.Texts.{Text}
+use Rattle.envvars.specs.Texts.{Text, texts_in}
 use Rattle.envvars.specs.Environment.{Environment, with_value}
 use Rattle.filetree.specs.Agreement.{Files, Listings, InEachPair}
-use Rattle.filetree.specs.Causes.{Applies}
+use Rattle.filetree.specs.Causes.{Applies, memory}
 use Rattle.filetree.specs.Modulefiles.{directories}
+use Rattle.filetree.specs.declared.tree.TreeFault.TheVariants.{Device}
+use Rattle.hidingtree.specs.Hidden.{AgreesWithout}
 use Rattle.requests.specs.Steps.{modulepath}
-use Rattle.modules.specs.Answers.{cause_of}
+use Rattle.modules.specs.Answers.{cause_of, refused_read}
 use Rattle.modules.specs.declared.refusal.Refusal.{Refusal}
 use Rattle.sitelaws.specs.Sites.{Site, site_of}
 use Rattle.siteaudit.specs.Walks.{HasCause}
 use Rattle.siteaudit.specs.declared.fault.WalkFault.{WalkFault}
 use Rattle.siteaudit.specs.Audits.{IsAudit, CertificateStands, is_certified}
-use Rattle.siteaudit.specs.declared.auditing.SiteAudit.{SiteAudit}
 use Rattle.sitereport.specs.Documents.{document_text}
 use Rattle.sitereport.specs.Reports.{report_of}
+use Rattle.sitereport.specs.declared.readable.ReadableAudit.{ReadableAudit}
 use Rattle.modulecmd.specs.Command.{standard}
 use Rattle.modulecmd.specs.Writing.{AppendsPart}
 use Rattle.sitecommand.specs.Arguments.{Wanted, asks_help, wanted_of}
-use Rattle.sitecommand.specs.Faults.{is_failure, line_of, of_walk, usage}
+use Rattle.modules.specs.Verdicts.{in_sh}
+use Rattle.sitecommand.specs.Tried.{AreTrials, some_failed}
+use Rattle.sitecommand.specs.Faults.{line_of, of_walk, usage}
 use Rattle.sitecommand.specs.declared.arguments.Format.{Format}
 use Rattle.sitecommand.specs.declared.arguments.Format.TheVariants.{Lines, Document}
 use Rattle.sitecommand.specs.declared.audit_exit.AuditExit.{AuditExit}
@@ -83,30 +90,57 @@ pub record IsFirstGone (agrees : Files → Listings → Type 0) (dirs : List Tex
   pub there : AreDirectories agrees before
   pub gone : IsNoDirectory agrees dir
 
--- The site that the arguments name was audited: each of their directories is there, the MODULEPATH of the audit has
--- one, what was found is an audit, and its certificate holds.
-pub record IsAudited (agrees : Files → Listings → Type 0) (e : Environment) (arguments : List Text) (wanted : Wanted)
-    (found : SiteAudit) : Type 0 where
+-- The device has failed at one of these paths, which MODULEPATH can hold, and those before it are there.
+pub record IsFirstUnreadable (agrees : Files → Listings → Type 0) (HasFailed : Text → Type 0) (dirs : List Text)
+    : Type 0 where
+  pub before : List Text
+  pub dir : Text
+  pub after : List Text
+  pub order : dirs ≡ before ++ dir ∷ after
+  pub there : AreDirectories agrees before
+  pub is_element : is_no_element dir ≡ false
+  pub failed : HasFailed dir
+
+-- These paths can't be read, each once, in the order of their bytes: the device has failed at each of them. There are
+-- none where it has not failed in the call.
+pub record AreUnreadable (HasFailed : Text → Type 0) (fails : Type 0) (paths : List Text) : Type 0 where
+  pub order : IsStrictlySortedBy (slice_cmp nat_cmp) paths
+  pub failed : All HasFailed paths
+  pub cause : (paths ≡ []) ⊎ fails
+
+-- The site that the arguments name was audited, without what can't be read: each of their directories is there, the
+-- MODULEPATH of the audit has one, what was found is an audit of the site as it is without those paths, and its
+-- certificate holds; and each module that is neither certified nor refused was tried, where the device ended a trial only
+-- if it failed in the call.
+pub record IsAudited (agrees : Files → Listings → Type 0) (HasFailed : Text → Type 0) (fails : Type 0)
+    (e : Environment) (arguments : List Text) (wanted : Wanted) (audit : ReadableAudit) : Type 0 where
   pub asked : wanted_of arguments ≡ Some wanted
   pub directories : AreDirectories agrees wanted.directories
   pub begins : has_directory (judged_env e wanted.directories) ≡ true
-  pub exact : InEachPair agrees (λ files listings. IsAudit (judged_site e wanted files listings) found)
-  pub holds : InEachPair agrees (λ files listings. CertificateStands (judged_site e wanted files listings) found)
+  pub unreadable : AreUnreadable HasFailed fails (texts_in audit.unreadable)
+  pub exact : InEachPair (AgreesWithout (texts_in audit.unreadable) agrees) (λ files listings.
+      IsAudit (judged_site e wanted files listings) wanted.without audit.found)
+  pub holds : InEachPair (AgreesWithout (texts_in audit.unreadable) agrees) (λ files listings.
+      CertificateStands (judged_site e wanted files listings) audit.found)
+  pub tried : InEachPair agrees (λ files listings. AreTrials (in_sh standard files listings)
+      (judged_env e wanted.directories) audit.found.modules.items audit.trials.items)
+  pub ended : some_failed audit.trials.items ≡ true → fails
 
 -- ---- what is written
 
 -- the report, as lines or as one JSON document
-abbrev pub text_by : Format → Wanted → SiteAudit → Text
-text_by Lines wanted found = report_of wanted.selection found
-text_by Document wanted found = document_text wanted.selection found
+abbrev pub text_by : Format → Wanted → ReadableAudit → Text
+text_by Lines wanted audit = report_of wanted.selection audit
+text_by Document wanted audit = document_text wanted.selection audit
 
 -- the same by what is asked for
-abbrev pub report_text : Wanted → SiteAudit → Text
-report_text wanted found = text_by wanted.format wanted found
+abbrev pub report_text : Wanted → ReadableAudit → Text
+report_text wanted audit = text_by wanted.format wanted audit
 
--- each module is certified
-abbrev pub all_certified : SiteAudit → Bool
-all_certified found = list_all (λ m. is_certified m.standing) found.modules.items
+-- each module is certified, and all can be read
+abbrev pub all_certified : ReadableAudit → Bool
+all_certified audit =
+    (length audit.unreadable.items == 0) && list_all (λ m. is_certified m.standing) audit.found.modules.items
 
 -- What is written of a fault: its whole line, or else a first part of it that is not the whole.
 abbrev pub WritesFault : AuditExit → Option Text → Option Text → AuditFault → Type 0
@@ -118,7 +152,7 @@ WritesFault CutShort err err' fault = AppendsPart err err' (line_of fault)
 
 -- What is written of an audit: the report on standard output, and nothing on standard error; or where a write failed, a
 -- first part of the report, and the line that says so. Where all is written, the exit says whether each module is
--- certified.
+-- certified and all can be read.
 abbrev pub WritesAudit : AuditExit → Bool → Text → Option Text → Option Text → Option Text → Option Text → Type 0
 WritesAudit AllCertified all text out out' err err' = (all ≡ true) × Appends out out' text × Keeps err err'
 WritesAudit SomeNotCertified all text out out' err err' = (all ≡ false) × Appends out out' text × Keeps err err'
@@ -126,7 +160,9 @@ WritesAudit exit all text out out' err err' = AppendsPart out out' text × Write
 
 -- how the program is called, and what its options do
 abbrev pub help_text : Text
-help_text = usage ++ codes "\n--quiet leaves certified modules out; --json writes a document\n"
+help_text =
+    usage ++ codes "\n--quiet names no certified module; --json writes a document; "
+    ++ codes "--without certifies none that NAME means\n"
 
 -- What is written of a text of help: that text on standard output, and nothing on standard error; or where a write
 -- failed, a first part of it, and the line that says so.
@@ -136,41 +172,51 @@ WritesHelp exit text out out' err err' = AppendsPart out out' text × WritesFaul
 
 -- ---- why there is none
 
--- The cause of a fault, in the order in which all but the last are looked for: an option isn't known; a word names no
--- directory, and it is the first; each of them is there, and the MODULEPATH of the audit has no directory, or the walk
--- over the site has a cause. At any time memory is wanting, or the device has failed.
-pub data IsAuditFault (agrees : Files → Listings → Type 0) (failed : Type 0) (e : Environment) (arguments : List Text)
-    : AuditFault → Type 0 where
-  unknown_option : wanted_of arguments ≡ None → IsAuditFault agrees failed e arguments BadArguments
-  no_directory : (wanted : Wanted) (dir : String Global) → wanted_of arguments ≡ Some wanted
-      → IsFirstGone agrees wanted.directories (string_bytes dir)
-      → IsAuditFault agrees failed e arguments (NotADirectory dir)
-  empty_modulepath : (wanted : Wanted) → wanted_of arguments ≡ Some wanted
-      → AreDirectories agrees wanted.directories → has_directory (judged_env e wanted.directories) ≡ false
-      → IsAuditFault agrees failed e arguments EmptyModulepath
-  no_walk : (wanted : Wanted) (fault : WalkFault) → wanted_of arguments ≡ Some wanted
-      → AreDirectories agrees wanted.directories → HasCause agrees failed standard (judged_env e wanted.directories)
-      fault
-      → IsAuditFault agrees failed e arguments (of_walk fault)
-  given_up : (refusal : Refusal) → Applies (cause_of refusal) failed (λ reason. ⊥)
-      → IsAuditFault agrees failed e arguments (Refused refusal)
+-- The cause of a fault, where words name these directories and this environment is judged, in the order in which all but
+-- the last are looked for: a word names no directory, and it is the first; or the device has failed at the first that
+-- can't be judged; each of them is there, and MODULEPATH has no directory, or the walk over the site, without what can't
+-- be read, has a cause. At any time memory is wanting, or the device has failed too often.
+pub data IsSiteFault (agrees : Files → Listings → Type 0) (HasFailed : Text → Type 0) (often : Type 0)
+    (judged : Environment) (dirs : List Text) : AuditFault → Type 0 where
+  no_directory : (dir : String Global) → IsFirstGone agrees dirs (string_bytes dir)
+      → IsSiteFault agrees HasFailed often judged dirs (NotADirectory dir)
+  unreadable_directory : IsFirstUnreadable agrees HasFailed dirs
+      → IsSiteFault agrees HasFailed often judged dirs (Refused (refused_read Device))
+  empty_modulepath : AreDirectories agrees dirs → has_directory judged ≡ false
+      → IsSiteFault agrees HasFailed often judged dirs EmptyModulepath
+  no_walk : (paths : List Text) (fault : WalkFault) → AreDirectories agrees dirs → All HasFailed paths
+      → HasCause (AgreesWithout paths agrees) often standard judged fault
+      → IsSiteFault agrees HasFailed often judged dirs (of_walk fault)
+  given_up : (refusal : Refusal) → Applies (cause_of refusal) often (λ reason. ⊥)
+      → IsSiteFault agrees HasFailed often judged dirs (Refused refusal)
+
+-- The cause of a fault: an option isn't known; the site that is asked for has a cause; or memory is wanting.
+pub data IsAuditFault (agrees : Files → Listings → Type 0) (HasFailed : Text → Type 0) (often : Type 0)
+    (e : Environment) (arguments : List Text) : AuditFault → Type 0 where
+  unknown_option : wanted_of arguments ≡ None → IsAuditFault agrees HasFailed often e arguments BadArguments
+  of_site : (wanted : Wanted) (fault : AuditFault) → wanted_of arguments ≡ Some wanted
+      → IsSiteFault agrees HasFailed often (judged_env e wanted.directories) wanted.directories fault
+      → IsAuditFault agrees HasFailed often e arguments fault
+  no_memory : (refusal : Refusal) → cause_of refusal ≡ memory
+      → IsAuditFault agrees HasFailed often e arguments (Refused refusal)
 
 -- What an audit writes, by how it ended: its report; or nothing on standard output, and the line that says why there is
--- none on standard error. Fails says where the device failed, by whether the audit ended so.
-abbrev pub EndsJudged : AuditExit → (Files → Listings → Type 0) → Type 0 → (Bool → Type 0) → Environment → List Text
+-- none on standard error. The numbers are those of the device's failures before and after: it is given up only where it
+-- failed in between, and a thousand times in all.
+abbrev pub EndsJudged : AuditExit → (Files → Listings → Type 0) → (Text → Type 0) → ℕ → ℕ → Environment → List Text
     → Option Text → Option Text → Option Text → Option Text → Type 0
-EndsJudged exit agrees failed Fails e arguments out out' err err' =
-    ((wanted : Wanted) × (found : SiteAudit) × IsAudited agrees e arguments wanted found × Fails false
-    × WritesAudit exit (all_certified found) (report_text wanted found) out out' err err')
-    ⊎ ((fault : AuditFault) × IsAuditFault agrees failed e arguments fault × Fails (is_failure fault) × Keeps out out'
-    × WritesFault exit err err' fault)
+EndsJudged exit agrees HasFailed before now e arguments out out' err err' =
+    ((wanted : Wanted) × (audit : ReadableAudit) × IsAudited agrees HasFailed (before < now) e arguments wanted audit
+    × WritesAudit exit (all_certified audit) (report_text wanted audit) out out' err err')
+    ⊎ ((fault : AuditFault) × IsAuditFault agrees HasFailed ((before < now) × (1000 ≤ now)) e arguments fault
+    × Keeps out out' × WritesFault exit err err' fault)
 
 -- The same, or where the arguments ask for help, that alone: then nothing is read.
-abbrev pub EndsAudit : AuditExit → (Files → Listings → Type 0) → Type 0 → (Bool → Type 0) → Environment → List Text
-    → Option Text → Option Text → Option Text → Option Text → Type 0
-EndsAudit exit agrees failed Fails e arguments out out' err err' =
-    ((asks_help arguments ≡ true) × Fails false × WritesHelp exit help_text out out' err err')
-    ⊎ ((asks_help arguments ≡ false) × EndsJudged exit agrees failed Fails e arguments out out' err err')
+abbrev pub EndsAudit : AuditExit → Type 0 → (Files → Listings → Type 0) → (Text → Type 0) → ℕ → ℕ → Environment
+    → List Text → Option Text → Option Text → Option Text → Option Text → Type 0
+EndsAudit exit unread agrees HasFailed before now e arguments out out' err err' =
+    ((asks_help arguments ≡ true) × unread × WritesHelp exit help_text out out' err err')
+    ⊎ ((asks_help arguments ≡ false) × EndsJudged exit agrees HasFailed before now e arguments out out' err err')
 
 -- the status of the process
 abbrev pub status_of : AuditExit → ℕ

@@ -15,7 +15,7 @@ use Rattle.sitecommand.specs.declared.audit_fault.AuditFault.TheVariants.{WriteF
 
 -- how the program is called
 abbrev pub usage : Text
-usage = codes "Usage: modaudit [--quiet] [--json] [DIR...]"
+usage = codes "Usage: modaudit [--quiet] [--json] [--without NAME]... [DIR...]"
 
 -- the text of each fault: that of bad arguments has a second line, which says how the program is called
 abbrev pub message_of : AuditFault → Text

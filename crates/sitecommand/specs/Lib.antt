@@ -4,4 +4,5 @@ pub mod ArgumentViews
 pub mod Faults
 pub mod Audits
 pub mod Looked
+pub mod Tried
 pub mod Steps

@@ -1,12 +1,19 @@
--- Where a whole audit looks (own): the paths of the files and directories that it reads or lists on its way. No failure
--- of the device at another path can end it.
-use Rattle.std.specs.Prelude.{◌≡◌, ◌⊎◌, false, List, [], ◌∷◌, ◌++◌, Some, IsSome}
+-- Where a whole audit looks (own): the paths of the files and directories that it reads or lists on its way. A failure of
+-- the device at another path neither ends it nor hides anything.
+use Rattle.std.specs.Prelude.{◌≡◌, ◌⊎◌, ℕ, ◌<◌, ◌≤◌, Bool, false, List, [], ◌∷◌, ◌++◌, Some, IsSome, string_bytes}
 use Rattle.envvars.specs.Texts.{Text}
 use Rattle.envvars.specs.Environment.{Environment}
-use Rattle.filetree.specs.Agreement.{Files, Listings}
+use Rattle.filetree.specs.Agreement.{FailedAt, Files, InEachPair, Listings, ReadsOn}
+use Rattle.hidingtree.specs.Hidden.{without}
+use Rattle.modules.specs.Verdicts.{in_sh}
+use Rattle.sitecertificate.specs.RecordUses.{IsAmong}
+use Rattle.sitelaws.specs.Sites.{SiteModule, IsOfSite, site_of}
+use Rattle.siteaudit.specs.declared.auditing.AuditedModule.{AuditedModule}
+use Rattle.trials.specs.Trials.{TrialLooksAt}
 use Rattle.siteaudit.specs.Looked as audits
 use Rattle.sitecommand.specs.Arguments.{Wanted, wanted_of}
-use Rattle.sitecommand.specs.Audits.{is_no_element, judged_site}
+use Rattle.modulecmd.specs.Command.{standard}
+use Rattle.sitecommand.specs.Audits.{is_no_element, judged_env}
 
 -- each of the directories is there, and MODULEPATH can hold its path
 abbrev pub AreThere : Listings → List Text → Type 0
@@ -21,14 +28,50 @@ pub record DirectoriesLookAt (listings : Listings) (dirs : List Text) (at : Text
   pub there : AreThere listings before
   pub is_element : is_no_element at ≡ false
 
--- the paths for what is asked for: those of the directories that are named; and where each of them is there, those at
--- which the audit of their site looks
-abbrev pub WantedLooksAt : Environment → Wanted → Files → Listings → Text → Type 0
-WantedLooksAt e wanted files listings at =
-    DirectoriesLookAt listings wanted.directories at
-    ⊎ (AreThere listings wanted.directories × audits.AuditLooksAt (judged_site e wanted files listings) at)
+-- the paths for a site that is judged in this environment: those of the directories that are named; and where each of
+-- them is there, those at which the audit looks
+abbrev pub SiteLooksAt : Environment → List Text → Files → Listings → Text → Type 0
+SiteLooksAt judged dirs files listings at =
+    DirectoriesLookAt listings dirs at
+    ⊎ (AreThere listings dirs × audits.AuditLooksAt (site_of standard judged files listings) at)
+
+-- The trial of a module of the site, as it is without some paths, looks at this path.
+pub record TrialOfSiteLooksAt (judged : Environment) (files : Files) (listings : Listings) (at : Text) : Type 0 where
+  pub paths : List Text
+  pub m : SiteModule
+  pub of_site : IsOfSite (site_of standard judged (without paths files) (without paths listings)) m
+  pub looks : TrialLooksAt (in_sh standard files listings) judged m.name m.path at
+
+-- the paths for a whole audit: those for the site, and those for the trials of its modules
+abbrev pub JudgedLooksAt : Environment → List Text → Files → Listings → Text → Type 0
+JudgedLooksAt judged dirs files listings at =
+    SiteLooksAt judged dirs files listings at ⊎ TrialOfSiteLooksAt judged files listings at
 
 -- An audit by these arguments looks at this path.
 abbrev pub AuditCommandLooksAt : Environment → List Text → Files → Listings → Text → Type 0
 AuditCommandLooksAt e arguments files listings at =
-    (wanted : Wanted) × (wanted_of arguments ≡ Some wanted) × WantedLooksAt e wanted files listings at
+    (wanted : Wanted) × (wanted_of arguments ≡ Some wanted)
+    × JudgedLooksAt (judged_env e wanted.directories) wanted.directories files listings at
+
+-- the trial of one of these modules looks at this path
+abbrev pub TrialsLookAt : Environment → List AuditedModule → Files → Listings → Text → Type 0
+TrialsLookAt judged modules files listings at =
+    (m : AuditedModule) × IsAmong m modules
+    × TrialLooksAt (in_sh standard files listings) judged (string_bytes m.name) (string_bytes m.path) at
+
+-- By the trees before and after a call: the device failed in it, and first at this path, which the call looks at by
+-- each pair of maps that agrees with the tree right after that.
+pub record FailsFirst {T : Type 0} (agrees : T → Files → Listings → Type 0) (failures : T → ℕ)
+    (failed : T → Text → Bool) (old new : T) (LooksAt : Files → Listings → Text → Type 0) : Type 0 where
+  pub mid : T
+  pub reads : ReadsOn agrees failures old mid
+  pub counted : (failures old < failures mid) × (failures mid ≤ failures new)
+  pub at : Text
+  pub failed_at : FailedAt (failed old) (failed mid) at
+  pub looks : InEachPair (agrees mid) (λ files listings. LooksAt files listings at)
+
+-- The device failed nowhere, and the tree is read as it is; or it failed, first at a path that is looked at.
+abbrev pub ReadsUnlessFails : {T : Type 0} → (T → Files → Listings → Type 0) → (T → ℕ) → (T → Text → Bool) → T → T
+    → (Files → Listings → Text → Type 0) → Type 0
+ReadsUnlessFails agrees failures failed old new LooksAt =
+    (ReadsOn agrees failures old new × (failed new ≡ failed old)) ⊎ FailsFirst agrees failures failed old new LooksAt

@@ -1,22 +1,32 @@
 -- For the contracts of private functions: the steps of an audit (own).
-use Rattle.std.specs.Prelude.{◌≡◌, ◌⊎◌, Bool, true, false, List, Some, None, IsSome, string_bytes}
+use Rattle.std.specs.Prelude.{◌≡◌, ◌⊎◌, ◌&&◌, ◌||◌, Bool, true, false, List, Option, Some, None, IsSome, if◌then◌else◌, not}
+use Rattle.std.specs.Prelude.{Result, Ok, Err, bytes_eq, string_bytes}
+use Rattle.std.specs.BTreeSet.{BTreeSet, contains_text}
 use Rattle.std.specs.declared.alloc.Global.{Global}
 use Rattle.std.specs.declared.string.String.{String}
-use Rattle.envvars.specs.Texts.{Text}
+use Rattle.envvars.specs.Texts.{Text, texts_in}
 use Rattle.envvars.specs.Environment.{Environment}
 use Rattle.filetree.specs.Agreement.{Files, Listings, InEachPair}
 use Rattle.filetree.specs.Causes.{Applies}
-use Rattle.modules.specs.Answers.{cause_of}
+use Rattle.filetree.specs.declared.tree.TreeFault.TheVariants.{Device}
+use Rattle.hidingtree.specs.Hidden.{AgreesWithout, is_among}
+use Rattle.modules.specs.Answers.{cause_of, refused_read}
+use Rattle.sitelaws.specs.Sites.{site_of}
 use Rattle.siteaudit.specs.Walks.{HasCause}
 use Rattle.siteaudit.specs.declared.fault.WalkFault.{WalkFault}
 use Rattle.siteaudit.specs.Audits.{IsAudit, CertificateStands}
 use Rattle.siteaudit.specs.declared.auditing.SiteAudit.{SiteAudit}
+use Rattle.sitereport.specs.declared.readable.ReadableAudit.{ReadableAudit}
 use Rattle.modulecmd.specs.Command.{standard}
 use Rattle.sitecommand.specs.Arguments.{Wanted, wanted_of}
-use Rattle.sitecommand.specs.Audits.{AreDirectories, IsFirstGone, IsNoDirectory, has_directory}
-use Rattle.sitecommand.specs.Audits.{judged_env, judged_site}
-use Rattle.sitecommand.specs.Audits.{report_text, all_certified}
+use Rattle.sitecommand.specs.Audits.{AreDirectories, AreUnreadable, IsFirstGone, IsNoDirectory, has_directory}
+use Rattle.sitecommand.specs.Audits.{is_no_element, judged_env, report_text, all_certified}
 use Rattle.sitecommand.specs.Faults.{of_walk}
+use Rattle.modules.specs.Verdicts.{in_sh}
+use Rattle.modules.specs.declared.refusal.Refusal.{Refusal}
+use Rattle.sitecommand.specs.Tried.{AreTrials, has_failed_trial, some_failed}
+use Rattle.sitecommand.specs.declared.readable.SeenAudit.{SeenAudit}
+use Rattle.trials.specs.declared.trial.Trial.{Trial}
 use Rattle.sitecommand.specs.declared.running.PreparedAudit.{PreparedAudit}
 use Rattle.sitecommand.specs.declared.audit_fault.AuditFault.{AuditFault}
 use Rattle.sitecommand.specs.declared.audit_fault.AuditFault.TheVariants.{Refused, BadArguments, EmptyModulepath}
@@ -58,31 +68,92 @@ AreDirectoriesFault agrees failed words fault =
 abbrev pub IsModulepathFault : Environment → AuditFault → Type 0
 IsModulepathFault e fault = ((fault ≡ EmptyModulepath) × (has_directory e ≡ false)) ⊎ IsGivenUp ⊥ fault
 
+-- a trial that was given ended because the device failed
+abbrev pub is_failed_trial : Result (Option Trial) Refusal → Bool
+is_failed_trial (Ok trial) = has_failed_trial trial
+is_failed_trial (Err refusal) = false
+
+-- What is found of the site that is judged in this environment, where words name these directories, and modules to be
+-- withheld.
+pub record IsFound (agrees : Files → Listings → Type 0) (judged : Environment) (dirs without : List Text)
+    (found : SiteAudit) : Type 0 where
+  pub directories : AreDirectories agrees dirs
+  pub begins : has_directory judged ≡ true
+  pub exact : InEachPair agrees (λ files listings. IsAudit (site_of standard judged files listings) without found)
+  pub holds : InEachPair agrees (λ files listings. CertificateStands (site_of standard judged files listings) found)
+
+-- The same of the site without what stands at these paths.
+pub record IsFoundWithout (agrees : Files → Listings → Type 0) (paths : List Text) (judged : Environment)
+    (dirs without : List Text) (found : SiteAudit) : Type 0 where
+  pub directories : AreDirectories agrees dirs
+  pub begins : has_directory judged ≡ true
+  pub exact : InEachPair (AgreesWithout paths agrees) (λ files listings.
+      IsAudit (site_of standard judged files listings) without found)
+  pub holds : InEachPair (AgreesWithout paths agrees) (λ files listings.
+      CertificateStands (site_of standard judged files listings) found)
+
+-- What is found of the site without what can't be read, and the paths of that.
+pub record IsReadable (agrees : Files → Listings → Type 0) (HasFailed : Text → Type 0) (fails : Type 0)
+    (judged : Environment) (dirs without : List Text) (audit : SeenAudit) : Type 0 where
+  pub unreadable : AreUnreadable HasFailed fails (texts_in audit.unreadable)
+  pub found : IsFoundWithout agrees (texts_in audit.unreadable) judged dirs without audit.found
+
+-- The same, with the trials of the modules in the environment that is judged: the device has failed in the call where it
+-- ended one of them.
+pub record IsTriedAudit (agrees : Files → Listings → Type 0) (HasFailed : Text → Type 0) (fails : Type 0)
+    (judged : Environment) (dirs without : List Text) (audit : ReadableAudit) : Type 0 where
+  pub unreadable : AreUnreadable HasFailed fails (texts_in audit.unreadable)
+  pub found : IsFoundWithout agrees (texts_in audit.unreadable) judged dirs without audit.found
+  pub tried : InEachPair agrees (λ files listings.
+      AreTrials (in_sh standard files listings) judged audit.found.modules.items audit.trials.items)
+  pub failed : some_failed audit.trials.items ≡ true → fails
+
 -- What is to be written of an audit of what is asked for.
-pub record IsPrepared (agrees : Files → Listings → Type 0) (e : Environment) (wanted : Wanted) (answer : PreparedAudit)
-    :
-    Type 0 where
-  pub found : SiteAudit
-  pub directories : AreDirectories agrees wanted.directories
-  pub begins : has_directory (judged_env e wanted.directories) ≡ true
-  pub exact : InEachPair agrees (λ files listings. IsAudit (judged_site e wanted files listings) found)
-  pub holds : InEachPair agrees (λ files listings. CertificateStands (judged_site e wanted files listings) found)
-  pub certified : answer.is_all_certified ≡ all_certified found
-  pub report : answer.report.items ≡ report_text wanted found
+pub record IsPrepared (agrees : Files → Listings → Type 0) (HasFailed : Text → Type 0) (fails : Type 0)
+    (e : Environment) (wanted : Wanted) (answer : PreparedAudit) : Type 0 where
+  pub audit : ReadableAudit
+  pub tried : IsTriedAudit agrees HasFailed fails (judged_env e wanted.directories) wanted.directories wanted.without
+      audit
+  pub certified : answer.is_all_certified ≡ all_certified audit
+  pub report : answer.report.items ≡ report_text wanted audit
 
 -- the same of an audit by its arguments
-pub record IsPreparedAudit (agrees : Files → Listings → Type 0) (e : Environment) (arguments : List Text)
-    (answer : PreparedAudit)
-    : Type 0 where
+pub record IsPreparedAudit (agrees : Files → Listings → Type 0) (HasFailed : Text → Type 0) (fails : Type 0)
+    (e : Environment) (arguments : List Text) (answer : PreparedAudit) : Type 0 where
   pub wanted : Wanted
   pub asked : wanted_of arguments ≡ Some wanted
-  pub prepared : IsPrepared agrees e wanted answer
+  pub prepared : IsPrepared agrees HasFailed fails e wanted answer
 
--- the cause of a fault, where this is asked for
-abbrev pub IsWantedFault : (Files → Listings → Type 0) → Type 0 → Environment → Wanted → AuditFault → Type 0
-IsWantedFault agrees failed e wanted fault =
-    AreDirectoriesFault agrees failed wanted.directories fault
-    ⊎ (((fault ≡ EmptyModulepath) × AreDirectories agrees wanted.directories
-    × (has_directory (judged_env e wanted.directories) ≡ false))
-    ⊎ ((walked : WalkFault) × (fault ≡ of_walk walked) × AreDirectories agrees wanted.directories
-    × HasCause agrees failed standard (judged_env e wanted.directories) walked))
+-- the cause of a fault, where the site is judged in this environment and words name these directories
+abbrev pub IsFoundFault : (Files → Listings → Type 0) → Type 0 → Environment → List Text → AuditFault → Type 0
+IsFoundFault agrees failed judged dirs fault =
+    AreDirectoriesFault agrees failed dirs fault
+    ⊎ (((fault ≡ EmptyModulepath) × AreDirectories agrees dirs × (has_directory judged ≡ false))
+    ⊎ ((walked : WalkFault) × (fault ≡ of_walk walked) × AreDirectories agrees dirs
+    × HasCause agrees failed standard judged walked))
+
+-- a directory of that path, which MODULEPATH can hold, is hidden
+abbrev pub is_hidden : List Text → Text → Bool
+is_hidden hidden dir = not (is_no_element dir) && is_among hidden dir
+
+-- the fault of a word that names no directory; that of the device where it is hidden
+abbrev pub gone_or_hidden : List Text → String Global → AuditFault
+gone_or_hidden hidden dir =
+    if is_hidden hidden (string_bytes dir) then Refused (refused_read Device) else NotADirectory dir
+
+-- a fault over a tree with hidden paths, over the whole tree
+abbrev pub unless_hidden : List Text → AuditFault → AuditFault
+unless_hidden hidden (NotADirectory dir) = gone_or_hidden hidden dir
+unless_hidden hidden (Refused refusal) = Refused refusal
+unless_hidden hidden BadArguments = BadArguments
+unless_hidden hidden EmptyModulepath = EmptyModulepath
+unless_hidden hidden TooManyDirectories = TooManyDirectories
+unless_hidden hidden WriteFailed = WriteFailed
+
+-- the two lists have the same paths
+abbrev pub AreSame : List Text → List Text → Type 0
+AreSame paths others = (path : Text) → is_among paths path ≡ is_among others path
+
+-- the set has this path more
+abbrev pub AddsPath : BTreeSet (String Global) → BTreeSet (String Global) → Text → Type 0
+AddsPath old new added = (path : Text) → contains_text new path ≡ (contains_text old path || bytes_eq path added)

@@ -1,8 +1,8 @@
 //! The words of the command line: options, and directories (modaudit(1)).
-ghost use Rattle.std.specs.Prelude.{◌≡◌, ◌≤◌, ◌++◌, length, map, option_map, IfOk, OnOk, bytes_eq, string_bytes};
+ghost use Rattle.std.specs.Prelude.{◌≡◌, ◌≤◌, ◌++◌, ◌∷◌, [], length, map, option_map, IfOk, OnOk, bytes_eq, string_bytes};
 ghost use Rattle.std.specs.List.{list_all, list_any, before_first, after_first, position_or_len};
 ghost use Rattle.sitecommand.specs.Arguments as spec;
-ghost use Rattle.sitecommand.specs.ArgumentViews.{wanted_view};
+ghost use Rattle.sitecommand.specs.ArgumentViews.{parted_view, wanted_view};
 
 use sitereport::Selection;
 use std::alloc::{AllocError, Global};
@@ -23,8 +23,19 @@ pub(crate) struct AuditArguments {
     pub(crate) selection: Selection,
     /// How it is written.
     pub(crate) format: Format,
+    /// The names of the modules that are withheld.
+    pub(crate) without: Vec<String>,
     /// The directories that are the MODULEPATH of the audit; where there are none, it is that of the environment.
     pub(crate) directories: Vec<String>,
+}
+
+/// Words in two lists, in their order.
+#[derive(Drop)]
+struct PartedWords {
+    /// Those behind each `--without`.
+    without: Vec<String>,
+    /// Those but that option and these.
+    others: Vec<String>,
 }
 
 /// Whether the word ends the options.
@@ -68,6 +79,45 @@ fn others_in(args: &[String]) -> &[String]
     } else {
         &args[count..]
     }
+}
+
+/// Whether the next word names modules that are withheld.
+fn is_without(word: &str) -> bool
+    ensures { result ≡ spec.is_without word.now }
+{
+    word == "--without"
+}
+
+/// Adds a copy of the word.
+fn push_word(words: &mut Vec<String>, word: &String) -> Result<(), AllocError>
+    ensures { OnOk result (map string_bytes words.new.items
+        ≡ map string_bytes words.old.items ++ string_bytes word.now ∷ []) }
+{
+    words.push(word.clone()?)?;
+    Ok(())
+}
+
+/// The words in two lists; none where the last is a `--without` without its name.
+fn parted(alloc: Global, words: &[String]) -> Result<Option<PartedWords>, AllocError>
+    ensures { IfOk result (λ parted. option_map parted_view parted ≡ spec.parted (map string_bytes words.now)) }
+{
+    let mut parted = PartedWords {
+        without: Vec::new(alloc),
+        others: Vec::new(alloc),
+    };
+    let mut rest = words;
+    while let [word, later @ ..] = rest {
+        if !is_without(word.as_str()) {
+            push_word(&mut parted.others, word)?;
+            rest = later;
+        } else if let [name, after @ ..] = later {
+            push_word(&mut parted.without, name)?;
+            rest = after;
+        } else {
+            return Ok(None);
+        }
+    }
+    Ok(Some(parted))
 }
 
 /// Whether the word is among the words.
@@ -126,7 +176,7 @@ fn push_all(directories: &mut Vec<String>, words: &[String]) -> Result<(), Alloc
         ≡ map string_bytes directories.old.items ++ map string_bytes words.now) }
 {
     for word in words {
-        directories.push(word.clone()?)?;
+        push_word(directories, word)?;
     }
     Ok(())
 }
@@ -147,23 +197,25 @@ fn are_known(options: &[String]) -> bool
 /// What options and further words ask for.
 fn wanted_by(
     alloc: Global,
-    options: &[String],
+    options: PartedWords,
     others: &[String],
 ) -> Result<AuditArguments, AllocError>
     ensures { IfOk result (λ wanted. wanted_view wanted
-        ≡ spec.wanted_by (map string_bytes options.now) (map string_bytes others.now)) }
+        ≡ spec.wanted_by (parted_view options) (map string_bytes others.now)) }
 {
+    let words = options.others.as_slice();
     let mut directories = Vec::new(alloc);
-    push_directories(&mut directories, options)?;
+    push_directories(&mut directories, words)?;
     push_all(&mut directories, others)?;
     Ok(AuditArguments {
-        selection: selection_of(options),
-        format: format_of(options),
+        selection: selection_of(words),
+        format: format_of(words),
+        without: options.without,
         directories,
     })
 }
 
-/// What the arguments ask for; none, where there is an option that nobody knows.
+/// What the arguments ask for; none, where there is an option that nobody knows, or a `--without` without its name.
 pub(crate) fn wanted_of(
     alloc: Global,
     args: &[String],
@@ -171,8 +223,10 @@ pub(crate) fn wanted_of(
     ensures { IfOk result (λ wanted.
         option_map wanted_view wanted ≡ spec.wanted_of (map string_bytes args.now)) }
 {
-    let options = options_in(args);
-    if !are_known(options) {
+    let Some(options) = parted(alloc, options_in(args))? else {
+        return Ok(None);
+    };
+    if !are_known(options.others.as_slice()) {
         return Ok(None);
     }
     Ok(Some(wanted_by(alloc, options, others_in(args))?))

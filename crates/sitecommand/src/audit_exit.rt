@@ -5,9 +5,9 @@ ghost use Rattle.sitecommand.specs.Audits.{status_of};
 /// How an audit ended.
 #[derive(Clone, Copy, Debug, PartialEq, Eq)]
 pub enum AuditExit {
-    /// Each module is certified, and the report is written.
+    /// Each module is certified, all can be read, and the report is written.
     AllCertified,
-    /// A module isn't certified, and the report is written.
+    /// A module isn't certified or something can't be read, and the report is written.
     SomeNotCertified,
     /// The arguments ask how the program is called, and that is written.
     Helped,
@@ -18,8 +18,8 @@ pub enum AuditExit {
 }
 
 impl AuditExit {
-    /// The status of the process: 0 where each module is certified or help is asked for, 1 where one isn't, and 2 where
-    /// there is no audit or its report isn't written.
+    /// The status of the process: 0 where each module is certified and all can be read, or help is asked for, 1 where that
+    /// isn't so, and 2 where there is no audit or its report isn't written.
     pub fn status(self) -> u8
         ensures { result ≡ status_of self }
     {

@@ -23,7 +23,8 @@ use std::fmt::Display;
 use std::io::Write;
 
 /// What is said of bad arguments, with a line on how the program is called.
-const BAD_ARGUMENTS: &str = "Bad arguments\nUsage: modaudit [--quiet] [--json] [DIR...]";
+const BAD_ARGUMENTS: &str =
+    "Bad arguments\nUsage: modaudit [--quiet] [--json] [--without NAME]... [DIR...]";
 
 /// Why there is no audit. Its `Display` is what follows `ERROR: ` on standard error.
 #[derive(Debug, Drop)]

@@ -23,7 +23,7 @@ fn has_colon(dir: &str) -> bool
 }
 
 /// Whether MODULEPATH can't hold the text as one directory: it is empty, or has a colon.
-fn is_no_element(dir: &str) -> bool
+pub(crate) fn is_no_element(dir: &str) -> bool
     ensures { result ≡ spec.is_no_element dir.now }
 {
     dir == "" || has_colon(dir)

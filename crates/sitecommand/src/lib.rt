@@ -1,12 +1,15 @@
 //! A whole audit: the words of a command line in, the report on a site out (modaudit(1)).
-//! Takes memory; reads the tree, writes to the writers and says how far it has come to the progress that it is given.
+//! Takes memory; reads the tree, in which it hides what can't be read, writes to the writers and tells the progress.
 #![tactic(auto)]
 
 mod arguments;
 mod audit_exit;
 mod audit_fault;
 mod directories;
+mod readable;
 mod running;
+mod trying;
+mod unreadable;
 
 pub use audit_exit::AuditExit;
 pub use audit_fault::{AuditFault, write_fault};

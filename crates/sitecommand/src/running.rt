@@ -1,36 +1,37 @@
 //! Runs an audit (modaudit(1)): its arguments, what it finds, and what it writes.
-ghost use Rattle.std.specs.Prelude.{◌≡◌, ◌<◌, map, IfOk, IfErr, string_bytes};
+ghost use Rattle.std.specs.Prelude.{◌≡◌, ◌<◌, ◌≤◌, map, IfOk, IfErr, string_bytes};
 ghost use Rattle.std.specs.List.{list_all};
-ghost use Rattle.filetree.specs.Agreement.{FailsIf, FailsWhere, InEachPair, ReadsOn};
+ghost use Rattle.hidingtree.specs.Hidden.{HasFailedAt};
 ghost use Rattle.siteaudit.specs.Audits.{is_certified};
 ghost use Rattle.sitecommand.specs.ArgumentViews.{wanted_view};
 ghost use Rattle.sitecommand.specs.Audits as spec;
-ghost use Rattle.sitecommand.specs.Audits.{EndsAudit, EndsJudged, IsAuditFault, WritesAudit, WritesFault, WritesHelp};
-ghost use Rattle.sitecommand.specs.Faults.{is_failure};
-ghost use Rattle.sitecommand.specs.Looked.{AuditCommandLooksAt, WantedLooksAt};
-ghost use Rattle.sitecommand.specs.Steps.{IsPrepared, IsPreparedAudit, IsWantedFault};
+ghost use Rattle.sitecommand.specs.Audits.{EndsAudit, EndsJudged, IsAuditFault, IsSiteFault};
+ghost use Rattle.sitecommand.specs.Audits.{WritesAudit, WritesFault, WritesHelp, judged_env};
+ghost use Rattle.sitecommand.specs.Looked.{AuditCommandLooksAt, ReadsUnlessFails, JudgedLooksAt};
+ghost use Rattle.sitecommand.specs.Steps.{IsPrepared, IsPreparedAudit};
 
 use crate::arguments::{AuditArguments, Format, asks_help, wanted_of};
 use crate::audit_exit::AuditExit;
 use crate::audit_fault::{AuditFault, write_fault};
-use crate::directories::{judge_directories, judge_modulepath, judged_env};
+use crate::directories::judged_env;
+use crate::trying::audit_tried;
 use envvars::Env;
 use filetree::Tree;
+use hidingtree::HidingTree;
 use modulecmd::write_bytes;
-use modules::STANDARD_LIMITS;
-use siteaudit::{AuditedModule, SiteAudit, Standing, WalkProgress, audit};
-use sitereport::{json_report, line_report};
+use siteaudit::{AuditedModule, Standing, WalkProgress};
+use sitereport::{ReadableAudit, json_report, line_report};
 use std::alloc::{AllocError, Global};
 use std::io::Write;
 
 /// How the program is called, and what its options do.
 const HELP: &str =
-    "Usage: modaudit [--quiet] [--json] [DIR...]\n--quiet leaves certified modules out; --json writes a document\n";
+    "Usage: modaudit [--quiet] [--json] [--without NAME]... [DIR...]\n--quiet names no certified module; --json writes a document; --without certifies none that NAME means\n";
 
-/// What an audit is to write, and whether each module is certified.
+/// What an audit is to write, and whether each module is certified and all can be read.
 #[derive(Drop)]
 struct PreparedAudit {
-    /// Whether each module is certified.
+    /// Whether each module is certified, and all can be read.
     is_all_certified: bool,
     /// The report, for standard output.
     report: Vec<u8>,
@@ -40,13 +41,13 @@ struct PreparedAudit {
 fn report_of(
     alloc: Global,
     wanted: &AuditArguments,
-    found: &SiteAudit,
+    audit: &ReadableAudit,
 ) -> Result<Vec<u8>, AllocError>
-    ensures { IfOk result (λ report. report.items ≡ spec.report_text (wanted_view wanted.now) found.now) }
+    ensures { IfOk result (λ report. report.items ≡ spec.report_text (wanted_view wanted.now) audit.now) }
 {
     match wanted.format {
-        Format::Lines => line_report(alloc, wanted.selection, found),
-        Format::Document => json_report(alloc, wanted.selection, found),
+        Format::Lines => line_report(alloc, wanted.selection, audit),
+        Format::Document => json_report(alloc, wanted.selection, audit),
     }
 }
 
@@ -58,50 +59,70 @@ fn are_all_certified(modules: &[AuditedModule]) -> bool
         .all(|module| matches!(module.standing, Standing::Certified))
 }
 
-/// Audits the site that is asked for, and answers what is to be written; nothing is written yet.
-fn audit_wanted<T: Tree, P: WalkProgress>(
+/// Whether each module is certified, and all can be read.
+fn is_all_certified(audit: &ReadableAudit) -> bool
+    ensures { result ≡ spec.all_certified audit.now }
+{
+    audit.unreadable.is_empty() && are_all_certified(audit.found.modules.as_slice())
+}
+
+/// The audit of the site that is asked for, without what can't be read, and what is to be written of it; nothing is
+/// written yet.
+fn prepare<T: Tree + Drop, P: WalkProgress>(
     alloc: Global,
     wanted: &AuditArguments,
     env: Env,
-    tree: &mut T,
+    tree: &mut HidingTree<T>,
     progress: &mut P,
 ) -> Result<PreparedAudit, AuditFault>
-    ensures reads { ReadsOn T.agrees T.failures tree.old tree.new }
-    ensures answered { IfOk result (IsPrepared (T.agrees tree.new) env (wanted_view wanted.now)) }
-    ensures refused { IfErr result (IsWantedFault (T.agrees tree.new) (T.failures tree.old < T.failures tree.new)
-        env (wanted_view wanted.now)) }
-    ensures failed { FailsWhere is_failure T.agrees T.failed tree.old tree.new result
-        (WantedLooksAt env (wanted_view wanted.now)) }
+    ensures reads { ReadsUnlessFails T.agrees T.failures T.failed tree.old.tree tree.new.tree
+        (JudgedLooksAt (judged_env env (wanted_view wanted.now).directories) (wanted_view wanted.now).directories) }
+    ensures answered { IfOk result (IsPrepared (T.agrees tree.new.tree)
+        (HasFailedAt T.agrees T.failures T.failed tree.new.tree)
+        (T.failures tree.old.tree < T.failures tree.new.tree) env (wanted_view wanted.now)) }
+    ensures refused { IfErr result (IsSiteFault (T.agrees tree.new.tree)
+        (HasFailedAt T.agrees T.failures T.failed tree.new.tree)
+        ((T.failures tree.old.tree < T.failures tree.new.tree) × (1000 ≤ T.failures tree.new.tree))
+        (judged_env env (wanted_view wanted.now).directories) (wanted_view wanted.now).directories) }
 {
-    judge_directories(alloc, tree, wanted.directories.as_slice())?;
-    let judged = judged_env(alloc, env, wanted.directories.as_slice())?;
-    judge_modulepath(alloc, &judged)?;
-    let found = audit(alloc, &judged, tree, STANDARD_LIMITS, progress)?;
-    let report = report_of(alloc, wanted, &found)?;
+    let directories = wanted.directories.as_slice();
+    let judged = judged_env(alloc, env, directories)?;
+    let audit = audit_tried(
+        alloc,
+        directories,
+        wanted.without.as_slice(),
+        &judged,
+        tree,
+        progress,
+    )?;
+    let report = report_of(alloc, wanted, &audit)?;
     Ok(PreparedAudit {
-        is_all_certified: are_all_certified(found.modules.as_slice()),
+        is_all_certified: is_all_certified(&audit),
         report,
     })
 }
 
-/// Audits the site that the arguments ask for, as `audit_wanted` does.
-fn answer_of<T: Tree, P: WalkProgress>(
+/// Audits the site that the arguments ask for, as `prepare` does.
+fn answer_of<T: Tree + Drop, P: WalkProgress>(
     alloc: Global,
     args: &[String],
     env: Env,
-    tree: &mut T,
+    tree: &mut HidingTree<T>,
     progress: &mut P,
 ) -> Result<PreparedAudit, AuditFault>
-    ensures reads { ReadsOn T.agrees T.failures tree.old tree.new }
-    ensures answered { IfOk result (IsPreparedAudit (T.agrees tree.new) env (map string_bytes args.now)) }
-    ensures refused { IfErr result (IsAuditFault (T.agrees tree.new) (T.failures tree.old < T.failures tree.new)
-        env (map string_bytes args.now)) }
-    ensures failed { FailsWhere is_failure T.agrees T.failed tree.old tree.new result
+    ensures reads { ReadsUnlessFails T.agrees T.failures T.failed tree.old.tree tree.new.tree
         (AuditCommandLooksAt env (map string_bytes args.now)) }
+    ensures answered { IfOk result (IsPreparedAudit (T.agrees tree.new.tree)
+        (HasFailedAt T.agrees T.failures T.failed tree.new.tree)
+        (T.failures tree.old.tree < T.failures tree.new.tree) env (map string_bytes args.now)) }
+    ensures refused { IfErr result (IsAuditFault (T.agrees tree.new.tree)
+        (HasFailedAt T.agrees T.failures T.failed tree.new.tree)
+        ((T.failures tree.old.tree < T.failures tree.new.tree) × (1000 ≤ T.failures tree.new.tree)) env
+        (map string_bytes args.now)) }
 {
     match wanted_of(alloc, args)? {
         None => Err(AuditFault::BadArguments),
-        Some(wanted) => audit_wanted(alloc, &wanted, env, tree, progress),
+        Some(wanted) => prepare(alloc, &wanted, env, tree, progress),
     }
 }
 
@@ -143,20 +164,19 @@ fn write_help<W: Write, E: Write>(text: &str, out: &mut W, err: &mut E) -> Audit
 }
 
 /// Audits the site that the arguments ask for, writes what is to be written, and answers how it ended.
-fn run_judged<T: Tree, P: WalkProgress, W: Write, E: Write>(
+fn run_judged<T: Tree + Drop, P: WalkProgress, W: Write, E: Write>(
     alloc: Global,
     args: &[String],
     env: Env,
-    tree: &mut T,
+    tree: &mut HidingTree<T>,
     progress: &mut P,
     out: &mut W,
     err: &mut E,
 ) -> AuditExit
-    ensures reads { ReadsOn T.agrees T.failures tree.old tree.new }
-    ensures ended { EndsJudged result (T.agrees tree.new) (T.failures tree.old < T.failures tree.new)
-        (λ fails. FailsIf fails (T.failed tree.old) (T.failed tree.new) (λ at.
-        InEachPair (T.agrees tree.new) (λ files listings.
-        AuditCommandLooksAt env (map string_bytes args.now) files listings at))) env (map string_bytes args.now)
+    ensures reads { ReadsUnlessFails T.agrees T.failures T.failed tree.old.tree tree.new.tree
+        (AuditCommandLooksAt env (map string_bytes args.now)) }
+    ensures ended { EndsJudged result (T.agrees tree.new.tree) (HasFailedAt T.agrees T.failures T.failed tree.new.tree)
+        (T.failures tree.old.tree) (T.failures tree.new.tree) env (map string_bytes args.now)
         (W.contents out.old) (W.contents out.new) (E.contents err.old) (E.contents err.new) }
 {
     let answer = answer_of(alloc, args, env, tree, progress);
@@ -174,25 +194,27 @@ fn run_judged<T: Tree, P: WalkProgress, W: Write, E: Write>(
 /// there are none, it is that of the environment. Where `--help` is among the options, standard output says how the
 /// program is called, and nothing else is done. A word that begins with `-` and is no such option is refused (56), but
 /// not after the word `--`; after that the first word that names no directory is a fault of its own, before anything of
-/// the site is read, and so is a MODULEPATH without a directory. Each file of the site is read once, and the report
-/// goes to standard output. A failed device (43) failed at a path that the audit looks at.
+/// the site is read, and so is one at which the device fails (43), and a MODULEPATH without a directory. Each file of the
+/// site is read once, and the report goes to standard output. It names the other files and directories that can't be
+/// read, each once: the device failed at each of them, and the audit is one of what stands elsewhere. There is none (43)
+/// only where the device failed in this call, and a thousand times in all.
 ///
 /// Where there is a fault before the report is made, nothing is written but the line that says why, to standard error.
-pub fn run_audit<T: Tree, P: WalkProgress, W: Write, E: Write>(
+pub fn run_audit<T: Tree + Drop, P: WalkProgress, W: Write, E: Write>(
     alloc: Global,
     args: &[String],
     env: Env,
-    tree: &mut T,
+    tree: &mut HidingTree<T>,
     progress: &mut P,
     out: &mut W,
     err: &mut E,
 ) -> AuditExit
-    ensures reads { ReadsOn T.agrees T.failures tree.old tree.new }
-    ensures ended { EndsAudit result (T.agrees tree.new) (T.failures tree.old < T.failures tree.new)
-        (λ fails. FailsIf fails (T.failed tree.old) (T.failed tree.new) (λ at.
-        InEachPair (T.agrees tree.new) (λ files listings.
-        AuditCommandLooksAt env (map string_bytes args.now) files listings at))) env (map string_bytes args.now)
-        (W.contents out.old) (W.contents out.new) (E.contents err.old) (E.contents err.new) }
+    ensures reads { ReadsUnlessFails T.agrees T.failures T.failed tree.old.tree tree.new.tree
+        (AuditCommandLooksAt env (map string_bytes args.now)) }
+    ensures ended { EndsAudit result (tree.new ≡ tree.old) (T.agrees tree.new.tree)
+        (HasFailedAt T.agrees T.failures T.failed tree.new.tree) (T.failures tree.old.tree) (T.failures tree.new.tree) env
+        (map string_bytes args.now) (W.contents out.old) (W.contents out.new) (E.contents err.old)
+        (E.contents err.new) }
 {
     if asks_help(args) {
         return write_help(HELP, out, err);

@@ -96,6 +96,12 @@ EvaluatesTo site m (Ok runs) =
     EvaluatesBy site first_way m (Ok runs.first) × EvaluateBy site m (other_ways runs.first.asked) runs.others
 EvaluatesTo site m (Err reason) = EvaluatesBy site first_way m (Err reason)
 
+-- The evaluation of the module's file for loading, in sh with nothing loaded, leaves these records.
+pub record HasFirstRecords (site : Site) (m : SiteModule) (rs : List Record) : Type 0 where
+  pub runs : FileRuns RequestReason
+  pub evaluated : EvaluatesTo site m (Ok runs)
+  pub records : rs ≡ runs.first.records
+
 -- The module is settled, and these are its records, those for loading in sh with nothing loaded: each question of its
 -- evaluation keeps its answer, and after each record the start can be back. So is a plain module, which asks nothing.
 pub record HasSettledRecords (site : Site) (m : SiteModule) (rs : List Record) : Type 0 where
@@ -133,12 +139,12 @@ added_directories rs = flat_map directories_by rs
 abbrev pub first_directories : Site → List Text
 first_directories site = directories (requests.modulepath site.env)
 
--- The directories of a site: those of MODULEPATH, and those that a settled module adds to it which is in one of them.
--- No others are: it is the least such set.
+-- The directories of a site: those of MODULEPATH, and those that a module in one of them adds to it, settled or not, by
+-- its first records. No others are: it is the least such set.
 pub data IsDirectory (site : Site) : Text → Type 0 where
   first : {dir : Text} → IsAmong dir (first_directories site) → IsDirectory site dir
   added : {dir from : Text} (m : SiteModule) (rs : List Record) → IsDirectory site from → IsIn site from m
-      → HasSettledRecords site m rs → IsAmong dir (added_directories rs) → IsDirectory site dir
+      → HasFirstRecords site m rs → IsAmong dir (added_directories rs) → IsDirectory site dir
 
 -- The modules of a site: those in its directories.
 pub record IsOfSite (site : Site) (m : SiteModule) : Type 0 where
@@ -183,12 +189,12 @@ AreCandidates site ms = (m : Module) → IsAmong m ms ↔ IsCandidate site m
 abbrev pub AreAmongCandidates : Site → List Module → Type 0
 AreAmongCandidates site ms = (m : Module) → IsAmong m ms → IsCandidate site m
 
--- The list of directories is closed: it has those of MODULEPATH, and each that a settled module adds which is in one of
--- the list.
+-- The list of directories is closed: it has those of MODULEPATH, and each that a module adds which is in one of the
+-- list.
 pub record IsClosed (site : Site) (dirs : List Text) : Type 0 where
   pub begins : (dir : Text) → IsAmong dir (first_directories site) → IsAmong dir dirs
   pub adds : (from dir : Text) (m : SiteModule) (rs : List Record) → IsAmong from dirs → IsIn site from m
-      → HasSettledRecords site m rs → IsAmong dir (added_directories rs) → IsAmong dir dirs
+      → HasFirstRecords site m rs → IsAmong dir (added_directories rs) → IsAmong dir dirs
 
 -- the list has all directories of the site, and no others
 abbrev pub AreDirectories : Site → List Text → Type 0

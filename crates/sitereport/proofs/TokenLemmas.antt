@@ -1,16 +1,18 @@
 -- The tokens of arrays and objects, by those of their parts, which are added one after another.
 use Rattle.std.proofs.Common.{◌≡◌, ℕ, Bool, true, false, List, [], ◌∷◌, ◌++◌, cond, flat_map, map, refl, ap, ◌∙◌, sym}
-use Rattle.std.proofs.Common.{subst, append_assoc}
+use Rattle.std.proofs.Common.{subst, append_assoc, not, string_bytes, String, Global}
 use Rattle.std.specs.Prelude.{Result, Ok, Err, OnOk}
 use Rattle.json.specs.Json.{Json}
 use Rattle.json.specs.Token.{Token, key, begin_array, end_array, begin_object, end_object}
 use Rattle.json.specs.Tree.{json_tokens, items_tokens, members_tokens}
 use Rattle.json.specs.Value.{items_of}
 use Rattle.json.specs.Written.{Written, Writes}
-use Rattle.siteaudit.specs.declared.auditing.AuditedModule.{AuditedModule}
 use Rattle.sitereport.specs.declared.selection.Selection.{Selection}
 use Rattle.sitereport.specs.Documents.{Field, members_of, object_of, array_of, module_value, named_modules}
-use Rattle.sitereport.specs.Tokens.{AddsTokens, fields_tokens, field_tokens, named_tokens}
+use Rattle.sitereport.specs.Documents.{readable_among, text_value}
+use Rattle.sitereport.specs.Readable.{is_unreadable}
+use Rattle.sitereport.specs.Tokens.{AddsTokens, fields_tokens, field_tokens, missing_tokens, named_tokens}
+use Rattle.sitereport.specs.Tried.{TriedModule}
 use Rattle.sitereport.specs.Words.{is_named}
 
 -- ---- values
@@ -22,17 +24,29 @@ items_tokens-map f (x ∷ xs) =
     ap (λ (ts : List Token). json_tokens (f x) ++ ts) (items_tokens-map f xs) ∙ sym (append_assoc (json_tokens (f x)) (flat_map (λ y. json_tokens (f y)) xs) (end_array ∷ []))
 
 -- one module more, if it is named
-named_more : (b : Bool) (m : AuditedModule) (ms : List AuditedModule) (ts : List Token) → items_tokens (items_of (map module_value ms)) ≡ ts ++ end_array ∷ []
+named_more : (b : Bool) (m : TriedModule) (ms : List TriedModule) (ts : List Token) → items_tokens (items_of (map module_value ms)) ≡ ts ++ end_array ∷ []
     → items_tokens (items_of (map module_value (cond b (m ∷ ms) ms))) ≡ ((cond b (json_tokens (module_value m)) []) ++ ts) ++ end_array ∷ []
 named_more true m ms ts e = ap (λ (l : List Token). json_tokens (module_value m) ++ l) e ∙ sym (append_assoc (json_tokens (module_value m)) ts (end_array ∷ []))
 named_more false m ms ts e = e
 
 -- the array of the modules that are named
-pub items_tokens-named : (selection : Selection) (ms : List AuditedModule)
+pub items_tokens-named : (selection : Selection) (ms : List TriedModule)
     → items_tokens (items_of (map module_value (named_modules selection ms))) ≡ flat_map (named_tokens selection) ms
     ++ end_array ∷ []
 items_tokens-named selection [] = refl
-items_tokens-named selection (m ∷ ms) = named_more (is_named selection m.standing) m (named_modules selection ms) (flat_map (named_tokens selection) ms) (items_tokens-named selection ms)
+items_tokens-named selection (m ∷ ms) = named_more (is_named selection m.0.standing) m (named_modules selection ms) (flat_map (named_tokens selection) ms) (items_tokens-named selection ms)
+
+-- one directory more, unless it can't be read
+missing_more : (b : Bool) (dir : String Global) (dirs : List (String Global)) (ts : List Token) → items_tokens (items_of (map text_value dirs)) ≡ ts ++ end_array ∷ []
+    → items_tokens (items_of (map text_value (cond (not b) (dir ∷ dirs) dirs))) ≡ ((cond b [] (json_tokens (text_value dir))) ++ ts) ++ end_array ∷ []
+missing_more true dir dirs ts e = e
+missing_more false dir dirs ts e = ap (λ (l : List Token). json_tokens (text_value dir) ++ l) e ∙ sym (append_assoc (json_tokens (text_value dir)) ts (end_array ∷ []))
+
+-- the array of the directories that aren't there, but for those that can't be read
+pub items_tokens-missing : (unreadable dirs : List (String Global))
+    → items_tokens (items_of (map text_value (readable_among unreadable dirs))) ≡ flat_map (missing_tokens unreadable) dirs ++ end_array ∷ []
+items_tokens-missing unreadable [] = refl
+items_tokens-missing unreadable (dir ∷ dirs) = missing_more (is_unreadable unreadable (string_bytes dir)) dir (readable_among unreadable dirs) (flat_map (missing_tokens unreadable) dirs) (items_tokens-missing unreadable dirs)
 
 -- an object
 pub members_tokens-of : (fields : List Field) → members_tokens (members_of fields) ≡ fields_tokens fields ++ end_object ∷ []

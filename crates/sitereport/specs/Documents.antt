@@ -1,5 +1,6 @@
 -- The report of an audit as one JSON document (RFC 8259): its value (own).
-use Rattle.std.specs.Prelude.{List, [], ◌∷◌, ◌++◌, codes, decimal, filter, length, map, Some, None, string_bytes}
+use Rattle.std.specs.Prelude.{ℕ, ◌+◌, List, [], ◌∷◌, ◌++◌, codes, decimal, filter, length, map, not, Option, Some, None}
+use Rattle.std.specs.Prelude.{string_bytes}
 use Rattle.std.specs.declared.alloc.Global.{Global}
 use Rattle.std.specs.declared.string.String.{String}
 use Rattle.envvars.specs.Texts.{Text}
@@ -7,6 +8,7 @@ use Rattle.json.specs.Json.{Json, number, string, array, object, Members, no_mem
 use Rattle.json.specs.Print.{print}
 use Rattle.json.specs.Tree.{json_tokens}
 use Rattle.json.specs.Value.{items_of}
+use Rattle.sitecertificate.specs.declared.answers.Clash.{Clash}
 use Rattle.sitecertificate.specs.declared.uses.UsedVariable.{UsedVariable}
 use Rattle.sitecertificate.specs.declared.uses.VariableUse.{VariableUse}
 use Rattle.sitecertificate.specs.declared.uses.VariableUse.TheVariants.{Fixed, Absent, Pathed, Stacked}
@@ -16,16 +18,23 @@ use Rattle.sitecertificate.specs.declared.disagreement.Disagreement.{Disagreemen
 use Rattle.sitecertificate.specs.declared.disagreement.Disagreement.TheVariants.{LoadedTexts, IsSet, HasNotValue}
 use Rattle.sitecertificate.specs.declared.disagreement.Disagreement.TheVariants.{IsNotAbsent, PathNotInOrder}
 use Rattle.sitecertificate.specs.declared.disagreement.Disagreement.TheVariants.{StackNotInOrder}
+use Rattle.siteaudit.specs.declared.auditing.AddedDirectory.{AddedDirectory}
+use Rattle.siteaudit.specs.declared.auditing.AskingClash.{AskingClash}
 use Rattle.siteaudit.specs.declared.auditing.AuditedModule.{AuditedModule}
-use Rattle.siteaudit.specs.declared.auditing.SiteAudit.{SiteAudit}
 use Rattle.siteaudit.specs.declared.auditing.UnknownNames.{UnknownNames}
 use Rattle.siteaudit.specs.declared.standing.Standing.{Standing}
 use Rattle.siteaudit.specs.declared.standing.Standing.TheVariants.{Certified, Asks, OneWay, ReadsUsed, OutOfStep}
-use Rattle.siteaudit.specs.declared.standing.Standing.TheVariants.{Clashes, Refused}
+use Rattle.siteaudit.specs.declared.standing.Standing.TheVariants.{Withheld, Clashes, Refused}
+use Rattle.sitereport.specs.declared.readable.ReadableAudit.{ReadableAudit}
 use Rattle.sitereport.specs.declared.selection.Selection.{Selection}
+use Rattle.sitereport.specs.Readable.{is_unreadable}
 use Rattle.sitereport.specs.Remarks.{command_of}
+use Rattle.sitereport.specs.Tried.{TriedModule, with_trials}
 use Rattle.modulerun.specs.Questions.{question_view}
 use Rattle.sitereport.specs.Words.{certified_count, is_named, question_words, record_words, standing_word}
+use Rattle.trials.specs.declared.trial.Trial.{Trial}
+use Rattle.trials.specs.declared.trial.Trial.TheVariants.{Returns, Leaves, LoadRefused, UnloadRefused, AlreadyLoaded}
+use Rattle.trials.specs.declared.trial.Trial.TheVariants.{LoadsAnother}
 
 -- ---- values
 
@@ -84,6 +93,39 @@ abbrev pub two_uses_fields : String Global → VariableUse → VariableUse → L
 two_uses_fields variable one other =
     (codes "variable", text_value variable) ∷ (codes "uses", array_of (use_value one ∷ use_value other ∷ [])) ∷ []
 
+-- ---- trials
+
+-- what the trial finds, in one word
+abbrev pub trial_word : Trial → Text
+trial_word Returns = codes "returns"
+trial_word (Leaves names) = codes "leaves"
+trial_word (LoadRefused refusal) = codes "load-refused"
+trial_word (UnloadRefused refusal) = codes "unload-refused"
+trial_word AlreadyLoaded = codes "loaded"
+trial_word (LoadsAnother name path) = codes "another"
+
+-- the variables that are left, the refusal, or the other module
+abbrev pub found_fields : Trial → List Field
+found_fields Returns = []
+found_fields (Leaves names) = texts_field (codes "variables") names.items ∷ []
+found_fields (LoadRefused refusal) = (codes "refusal", string (message_of refusal)) ∷ []
+found_fields (UnloadRefused refusal) = (codes "refusal", string (message_of refusal)) ∷ []
+found_fields AlreadyLoaded = []
+found_fields (LoadsAnother name path) = (codes "name", text_value name) ∷ (codes "path", text_value path) ∷ []
+
+-- both
+abbrev pub trial_fields : Trial → List Field
+trial_fields trial = (codes "trial", string (trial_word trial)) ∷ found_fields trial
+
+-- the same as an object
+abbrev pub trial_value : Trial → Json
+trial_value trial = object_of (trial_fields trial)
+
+-- the member of it; none where the module isn't tried
+abbrev pub here_fields : Option Trial → List Field
+here_fields None = []
+here_fields (Some trial) = (codes "here", trial_value trial) ∷ []
+
 -- ---- modules
 
 -- a module by its name and its path
@@ -95,6 +137,12 @@ abbrev pub reads_fields : List (String Global) → List Field
 reads_fields [] = []
 reads_fields (name ∷ names) = texts_field (codes "reads") (name ∷ names) ∷ []
 
+-- a clash: the variable and both uses, the other module, and how many use the variable as that does
+abbrev pub clash_fields : Clash → List Field
+clash_fields c =
+    two_uses_fields c.variable c.own c.theirs
+    ++ (codes "other", place_value c.other_name c.other_path) ∷ (codes "alike", number (decimal c.alike)) ∷ []
+
 -- why a module that reads these variables stands so
 abbrev pub standing_fields : List (String Global) → Standing → List Field
 standing_fields reads Certified = reads_fields reads
@@ -103,22 +151,49 @@ standing_fields reads (OneWay first) = (codes "record", string (record_words fir
 standing_fields reads (ReadsUsed used) =
     (codes "variable", text_value used.variable) ∷ (codes "other", place_value used.user_name used.user_path) ∷ []
 standing_fields reads (OutOfStep variable one other) = two_uses_fields variable one other
-standing_fields reads (Clashes c) =
-    two_uses_fields c.variable c.own c.theirs
-    ++ (codes "other", place_value c.other_name c.other_path) ∷ (codes "alike", number (decimal c.alike)) ∷ []
+standing_fields reads Withheld = []
+standing_fields reads (Clashes c) = clash_fields c
 standing_fields reads (Refused refusal) = (codes "refusal", string (message_of refusal)) ∷ []
 
--- a module, how it stands in one word, and why
-abbrev pub module_fields : AuditedModule → List Field
-module_fields m =
+-- a module, how it stands in one word, and why; and what happens here, where it is tried
+abbrev pub module_fields : AuditedModule → Option Trial → List Field
+module_fields m trial =
     (codes "name", text_value m.name) ∷ (codes "path", text_value m.path)
     ∷ (codes "standing", string (standing_word m.standing)) ∷ standing_fields m.reads.items m.standing
+    ++ here_fields trial
 
 -- the same as an object
-abbrev pub module_value : AuditedModule → Json
-module_value m = object_of (module_fields m)
+abbrev pub module_value : TriedModule → Json
+module_value (m, trial) = object_of (module_fields m trial)
 
 -- ---- remarks
+
+-- a directory that hangs on a module which isn't settled, with the module
+abbrev pub added_fields : AddedDirectory → List Field
+added_fields added =
+    (codes "name", text_value added.name) ∷ (codes "path", text_value added.path)
+    ∷ (codes "directory", text_value added.directory) ∷ []
+
+-- the same as an object
+abbrev pub added_value : AddedDirectory → Json
+added_value added = object_of (added_fields added)
+
+-- such directories
+abbrev pub hanging_field : List AddedDirectory → Field
+hanging_field dirs = (codes "hanging_directories", array_of (map added_value dirs))
+
+-- a module that asks, with its clash with a certified one
+abbrev pub asking_fields : AskingClash → List Field
+asking_fields asking =
+    (codes "name", text_value asking.name) ∷ (codes "path", text_value asking.path) ∷ clash_fields asking.clash
+
+-- the same as an object
+abbrev pub asking_value : AskingClash → Json
+asking_value asking = object_of (asking_fields asking)
+
+-- such modules
+abbrev pub asking_field : List AskingClash → Field
+asking_field clashes = (codes "asking_clashes", array_of (map asking_value clashes))
 
 -- a command whose names mean no module of the site
 abbrev pub unknown_fields : UnknownNames → List Field
@@ -152,30 +227,43 @@ disagreement_value d = object_of (disagreement_fields d)
 -- ---- the document
 
 -- the modules that the report names
-abbrev pub named_modules : Selection → List AuditedModule → List AuditedModule
-named_modules selection modules = filter (λ m. is_named selection m.standing) modules
+abbrev pub named_modules : Selection → List TriedModule → List TriedModule
+named_modules selection tried = filter (λ t. is_named selection t.0.standing) tried
 
--- the modules that the report names
-abbrev pub modules_field : Selection → List AuditedModule → Field
-modules_field selection modules = (codes "modules", array_of (map module_value (named_modules selection modules)))
+-- the modules that the report names, each with its trial
+abbrev pub modules_field : Selection → List AuditedModule → List (Option Trial) → Field
+modules_field selection modules trials =
+    (codes "modules", array_of (map module_value (named_modules selection (with_trials modules trials))))
 
--- how many of the modules are certified, and how many there are
-abbrev pub count_fields : List AuditedModule → List Field
-count_fields modules =
-    (codes "certified", number (decimal (certified_count modules))) ∷ (codes "count", number (decimal (length modules)))
-    ∷ []
+-- how many of the modules are certified, and how many there are, with so many others
+abbrev pub count_fields : ℕ → List AuditedModule → List Field
+count_fields others modules =
+    (codes "certified", number (decimal (certified_count modules)))
+    ∷ (codes "count", number (decimal (length modules + others))) ∷ []
 
 -- what the certified modules use
 abbrev pub certificate_field : List UsedVariable → Field
 certificate_field certificate = (codes "certificate", array_of (map used_value certificate))
 
--- the directories that aren't there
-abbrev pub missing_field : List (String Global) → Field
-missing_field dirs = texts_field (codes "missing_directories") dirs
+-- those of the directories that can be read
+abbrev pub readable_among : List (String Global) → List (String Global) → List (String Global)
+readable_among unreadable dirs = filter (λ dir. not (is_unreadable unreadable (string_bytes dir))) dirs
+
+-- the directories that aren't there, but for those that can't be read
+abbrev pub missing_field : List (String Global) → List (String Global) → Field
+missing_field unreadable dirs = texts_field (codes "missing_directories") (readable_among unreadable dirs)
+
+-- the paths of the files and directories that can't be read
+abbrev pub unreadable_field : List (String Global) → Field
+unreadable_field paths = texts_field (codes "unreadable") paths
 
 -- the paths of the files that are no modulefiles
 abbrev pub no_modulefiles_field : List (String Global) → Field
 no_modulefiles_field paths = texts_field (codes "no_modulefiles") paths
+
+-- the paths of the default files that aren't read
+abbrev pub unread_field : List (String Global) → Field
+unread_field paths = texts_field (codes "unread_default_files") paths
 
 -- the paths of the default files that have a fault
 abbrev pub bad_files_field : List (String Global) → Field
@@ -187,14 +275,22 @@ rest_fields unknowns reasons =
     (codes "unknown_names", array_of (map unknown_value unknowns))
     ∷ (codes "disagreements", array_of (map disagreement_value reasons)) ∷ []
 
+-- the paths of directories and files of which there are remarks
+abbrev pub paths_fields : ReadableAudit → List Field
+paths_fields audit =
+    missing_field audit.unreadable.items audit.found.missing_directories.items
+    ∷ no_modulefiles_field audit.found.no_modulefiles.items ∷ unread_field audit.found.unread_default_files.items
+    ∷ bad_files_field audit.found.bad_default_files.items ∷ []
+
 -- The whole document.
-abbrev pub document : Selection → SiteAudit → Json
-document selection found =
-    object_of (modules_field selection found.modules.items ∷ count_fields found.modules.items
-    ++ certificate_field found.certificate.items ∷ missing_field found.missing_directories.items
-    ∷ no_modulefiles_field found.no_modulefiles.items ∷ bad_files_field found.bad_default_files.items
+abbrev pub document : Selection → ReadableAudit → Json
+document selection audit =
+    let found = audit.found in
+    object_of (modules_field selection found.modules.items audit.trials.items ∷ unreadable_field audit.unreadable.items
+    ∷ count_fields (length audit.unreadable.items) found.modules.items ++ certificate_field found.certificate.items
+    ∷ paths_fields audit ++ hanging_field found.hanging_directories.items ∷ asking_field found.asking_clashes.items
     ∷ rest_fields found.unknown_names.items found.disagreements.items)
 
 -- its text, on a line of its own
-abbrev pub document_text : Selection → SiteAudit → Text
-document_text selection found = print (json_tokens (document selection found)) ++ 10 ∷ []
+abbrev pub document_text : Selection → ReadableAudit → Text
+document_text selection audit = print (json_tokens (document selection audit)) ++ 10 ∷ []

@@ -11,16 +11,31 @@ use Rattle.sitecertificate.specs.declared.disagreement.Disagreement.{Disagreemen
 use Rattle.sitecertificate.specs.declared.disagreement.Disagreement.TheVariants.{LoadedTexts, IsSet, HasNotValue}
 use Rattle.sitecertificate.specs.declared.disagreement.Disagreement.TheVariants.{IsNotAbsent, PathNotInOrder}
 use Rattle.sitecertificate.specs.declared.disagreement.Disagreement.TheVariants.{StackNotInOrder}
+use Rattle.siteaudit.specs.declared.auditing.AddedDirectory.{AddedDirectory}
+use Rattle.siteaudit.specs.declared.auditing.AskingClash.{AskingClash}
 use Rattle.siteaudit.specs.declared.auditing.UnknownNames.{UnknownNames}
-use Rattle.sitereport.specs.Words.{spelled}
+use Rattle.sitereport.specs.Readable.{is_unreadable}
+use Rattle.sitereport.specs.Words.{clash_words, spelled}
 
 -- the line of a directory that isn't there, by its path
 unfoldable pub missing : Text → Text
 missing dir = codes "# no directory: " ++ (spelled dir ++ codes "\n")
 
--- the same by the path as the code has it
-abbrev pub missing_line : String Global → Text
-missing_line dir = missing (string_bytes dir)
+-- the same by the path as the code has it; nothing where the directory can't be read
+abbrev pub missing_line : List (String Global) → String Global → Text
+missing_line unreadable dir = if is_unreadable unreadable (string_bytes dir) then [] else missing (string_bytes dir)
+
+-- the line of a directory that hangs on a module which isn't settled
+unfoldable pub hanging_line : AddedDirectory → Text
+hanging_line added =
+    codes "# " ++ (spelled (string_bytes added.name) ++ (codes " (" ++ (spelled (string_bytes added.path)
+    ++ (codes "): isn't settled, and adds the directory " ++ (spelled (string_bytes added.directory) ++ codes "\n")))))
+
+-- the line of a module that asks and clashes with a certified one
+unfoldable pub asking_line : AskingClash → Text
+asking_line asking =
+    codes "# " ++ (spelled (string_bytes asking.name) ++ (codes " (" ++ (spelled (string_bytes asking.path)
+    ++ (codes "): asks, and clashes: " ++ (spelled (clash_words asking.clash) ++ codes "\n")))))
 
 -- the line of a file that is no modulefile, by its path
 unfoldable pub no_modulefile : Text → Text
@@ -29,6 +44,14 @@ no_modulefile path = codes "# no modulefile: " ++ (spelled path ++ codes "\n")
 -- the same by the path as the code has it
 abbrev pub no_modulefile_line : String Global → Text
 no_modulefile_line path = no_modulefile (string_bytes path)
+
+-- the line of a default file that isn't read, by its path
+unfoldable pub unread_file : Text → Text
+unread_file path = codes "# default file that isn't read: " ++ (spelled path ++ codes "\n")
+
+-- the same by the path as the code has it
+abbrev pub unread_file_line : String Global → Text
+unread_file_line path = unread_file (string_bytes path)
 
 -- the line of a default file with a fault, by its path
 unfoldable pub bad_file : Text → Text

@@ -1,49 +1,74 @@
 -- The report of an audit as lines (own).
-use Rattle.std.specs.Prelude.{ℕ, ◌==◌, if◌then◌else◌, List, [], ◌++◌, codes, decimal, flat_map, length, string_bytes}
+use Rattle.std.specs.Prelude.{ℕ, ◌+◌, ◌==◌, if◌then◌else◌, List, [], ◌++◌, codes, decimal, flat_map, length, Option}
+use Rattle.std.specs.Prelude.{string_bytes}
 use Rattle.envvars.specs.Texts.{Text}
 use Rattle.siteaudit.specs.declared.auditing.AuditedModule.{AuditedModule}
-use Rattle.siteaudit.specs.declared.auditing.SiteAudit.{SiteAudit}
+use Rattle.sitereport.specs.declared.readable.ReadableAudit.{ReadableAudit}
 use Rattle.sitereport.specs.declared.selection.Selection.{Selection}
+use Rattle.sitereport.specs.Readable.{unreadable_line}
+use Rattle.sitereport.specs.Tried.{TriedModule, here, with_trials}
 use Rattle.sitereport.specs.Words.{spelled, standing_word, reason, is_named, certified_count, standing_count}
-use Rattle.sitereport.specs.Remarks.{missing_line, no_modulefile_line, bad_file_line, conflict_lines, prereq_line}
-use Rattle.sitereport.specs.Remarks.{environment_lines}
+use Rattle.sitereport.specs.Remarks.{missing_line, hanging_line, asking_line, no_modulefile_line, bad_file_line, conflict_lines}
+use Rattle.sitereport.specs.Remarks.{prereq_line, unread_file_line, environment_lines}
+use Rattle.trials.specs.declared.trial.Trial.{Trial}
 
--- the line of a module: its name, its standing in one word, the reason and its path, parted by tabs
-unfoldable pub module_line : AuditedModule → Text
-module_line m =
+-- the line of a module: its name, its standing in one word, the reason and its path, parted by tabs, and what happens here
+unfoldable pub module_line : AuditedModule → Option Trial → Text
+module_line m trial =
     spelled (string_bytes m.name) ++ (codes "\t" ++ (standing_word m.standing ++ (codes "\t"
-    ++ (spelled (reason m) ++ (codes "\t" ++ (spelled (string_bytes m.path) ++ codes "\n"))))))
+    ++ (spelled (reason m) ++ (codes "\t" ++ (spelled (string_bytes m.path) ++ (here trial ++ codes "\n")))))))
 
 -- the line of a module that the report names; else nothing
-abbrev pub named_line : Selection → AuditedModule → Text
-named_line selection m = if is_named selection m.standing then module_line m else []
+abbrev pub named_line : Selection → TriedModule → Text
+named_line selection (m, trial) = if is_named selection m.standing then module_line m trial else []
 
--- how many of the modules are certified
-abbrev pub count_line : List AuditedModule → Text
-count_line modules =
+-- the lines of the modules that the report names, each with its trial
+abbrev pub named_lines : Selection → List AuditedModule → List (Option Trial) → Text
+named_lines selection modules trials = flat_map (named_line selection) (with_trials modules trials)
+
+-- how many of the modules are certified, of them and so many others
+abbrev pub count_line : ℕ → List AuditedModule → Text
+count_line others modules =
     codes "# " ++ (decimal (certified_count modules) ++
-    (codes " certified of " ++ (decimal (length modules) ++ codes "\n")))
+    (codes " certified of " ++ (decimal (length modules + others) ++ codes "\n")))
 
 -- so many modules stand as the word says; nothing where none does
 abbrev pub number_line : ℕ → Text → Text
 number_line n word = if n == 0 then [] else codes "# " ++ (decimal n ++ (codes " " ++ (word ++ codes "\n")))
 
--- how many of the modules do
-unfoldable pub sum_line : Text → List AuditedModule → Text
-sum_line word modules = number_line (standing_count word modules) word
+-- how many of the modules do, with so many others
+unfoldable pub sum_line : Text → ℕ → List AuditedModule → Text
+sum_line word others modules = number_line (standing_count word modules + others) word
 
--- the same of each standing but certified
-abbrev pub sum_lines : List AuditedModule → Text
-sum_lines modules =
-    sum_line (codes "asks") modules ++ (sum_line (codes "one-way") modules ++ (sum_line (codes "reads-used") modules
-    ++ (sum_line (codes "out-of-step") modules ++ (sum_line (codes "clashes") modules
-    ++ sum_line (codes "refused") modules))))
+-- the same of each standing but certified: so many others are refused
+abbrev pub sum_lines : ℕ → List AuditedModule → Text
+sum_lines refused modules =
+    sum_line (codes "asks") 0 modules ++ (sum_line (codes "one-way") 0 modules
+    ++ (sum_line (codes "reads-used") 0 modules ++ (sum_line (codes "out-of-step") 0 modules
+    ++ (sum_line (codes "withheld") 0 modules ++ (sum_line (codes "clashes") 0 modules
+    ++ sum_line (codes "refused") refused modules)))))
 
--- The whole report: the modules that it names, the count, the sums of those that aren't certified, and the remarks.
-abbrev pub report_of : Selection → SiteAudit → Text
-report_of selection found =
-    flat_map (named_line selection) found.modules.items ++ (count_line found.modules.items
-    ++ (sum_lines found.modules.items ++ (flat_map missing_line found.missing_directories.items
-    ++ (flat_map no_modulefile_line found.no_modulefiles.items ++ (flat_map bad_file_line found.bad_default_files.items
+-- the lines of the modules that the report names, and of what can't be read
+abbrev pub lines_of : Selection → ReadableAudit → Text
+lines_of selection audit =
+    named_lines selection audit.found.modules.items audit.trials.items
+    ++ flat_map unreadable_line audit.unreadable.items
+
+-- how many of them are certified, and how many stand in each other way
+abbrev pub counts_of : ReadableAudit → Text
+counts_of audit =
+    count_line (length audit.unreadable.items) audit.found.modules.items
+    ++ sum_lines (length audit.unreadable.items) audit.found.modules.items
+
+-- The whole report: the modules that it names, what can't be read, how many stand in each way, and the remarks.
+abbrev pub report_of : Selection → ReadableAudit → Text
+report_of selection audit =
+    let found = audit.found in
+    lines_of selection audit ++ (counts_of audit
+    ++ (flat_map (missing_line audit.unreadable.items) found.missing_directories.items
+    ++ (flat_map hanging_line found.hanging_directories.items ++ (flat_map asking_line found.asking_clashes.items
+    ++ (flat_map no_modulefile_line found.no_modulefiles.items
+    ++ (flat_map unread_file_line found.unread_default_files.items
+    ++ (flat_map bad_file_line found.bad_default_files.items
     ++ (conflict_lines found.unknown_names.items ++ (flat_map prereq_line found.unknown_names.items
-    ++ environment_lines found.disagreements.items)))))))
+    ++ environment_lines found.disagreements.items)))))))))

@@ -24,7 +24,7 @@ use Rattle.siteaudit.specs.Audits.{is_certified}
 use Rattle.siteaudit.specs.declared.auditing.AuditedModule.{AuditedModule}
 use Rattle.siteaudit.specs.declared.standing.Standing.{Standing}
 use Rattle.siteaudit.specs.declared.standing.Standing.TheVariants.{Certified, Asks, OneWay, ReadsUsed, OutOfStep}
-use Rattle.siteaudit.specs.declared.standing.Standing.TheVariants.{Clashes, Refused}
+use Rattle.siteaudit.specs.declared.standing.Standing.TheVariants.{Withheld, Clashes, Refused}
 use Rattle.sitereport.specs.declared.selection.Selection.{Selection}
 use Rattle.sitereport.specs.declared.selection.Selection.TheVariants.{Each, NotCertified}
 
@@ -80,6 +80,7 @@ standing_word (Asks first) = codes "asks"
 standing_word (OneWay first) = codes "one-way"
 standing_word (ReadsUsed used) = codes "reads-used"
 standing_word (OutOfStep variable one other) = codes "out-of-step"
+standing_word Withheld = codes "withheld"
 standing_word (Clashes clash) = codes "clashes"
 standing_word (Refused refusal) = codes "refused"
 
@@ -118,11 +119,15 @@ used_read_words used =
     string_bytes used.variable ++ (codes ": read here, used in " ++ (string_bytes used.user_name ++ (codes " ("
     ++ (string_bytes used.user_path ++ codes ")"))))
 
+-- the names, with a comma and a space between two
+abbrev pub listed : List (String Global) → Text
+listed [] = []
+listed (name ∷ names) = string_bytes name ++ flat_map (λ n. codes ", " ++ string_bytes n) names
+
 -- the variables that a certified module reads; nothing where it reads none
 abbrev pub reads_words : List (String Global) → Text
 reads_words [] = []
-reads_words (name ∷ names) =
-    codes "reads " ++ (string_bytes name ++ flat_map (λ n. codes ", " ++ string_bytes n) names)
+reads_words (name ∷ names) = codes "reads " ++ listed (name ∷ names)
 
 -- what was asked, as a modulefile has it: the words of a command with a space between two, or a variable as `$env(VAR)`
 abbrev pub question_words : Question → Text
@@ -130,13 +135,14 @@ question_words (OfCommand words answer) = join_with_byte 32 words
 question_words (OfVariable name value) = codes "$env(" ++ (name ++ codes ")")
 
 -- Why a module that reads these variables stands so: of a certified one what it reads, of one that asks the question,
--- of one that is one way the record, of a refused one the refusal.
+-- of one that is one way the record, of one that is withheld the option, of a refused one the refusal.
 abbrev pub reason_of : List (String Global) → Standing → Text
 reason_of reads Certified = reads_words reads
 reason_of reads (Asks first) = question_words (question_view first)
 reason_of reads (OneWay first) = record_words first
 reason_of reads (ReadsUsed used) = used_read_words used
 reason_of reads (OutOfStep variable one other) = two_uses (string_bytes variable) one other
+reason_of reads Withheld = codes "--without"
 reason_of reads (Clashes clash) = clash_words clash
 reason_of reads (Refused refusal) = message_of refusal
 

@@ -1,19 +1,23 @@
 //! The report of an audit as one JSON document, written a token at a time.
-ghost use Rattle.std.specs.Prelude.{◌≡◌, [], ◌∷◌, ◌++◌, codes, decimal, flat_map, length, OnOk, IfOk, string_bytes};
+ghost use Rattle.std.specs.Prelude.{◌≡◌, [], ◌∷◌, ◌++◌, codes, decimal, flat_map, length, OnOk, IfOk, option_map, string_bytes};
 ghost use Rattle.json.specs.Json.{number};
 ghost use Rattle.json.specs.Token.{key, string};
 ghost use Rattle.json.specs.Tree.{json_tokens};
 ghost use Rattle.sitereport.specs.Documents as spec;
-ghost use Rattle.sitereport.specs.Tokens.{AddsTokens, fields_tokens, field_tokens, named_tokens};
+ghost use Rattle.sitereport.specs.Tokens.{AddsTokens, fields_tokens, field_tokens, missing_tokens, named_tokens};
+ghost use Rattle.sitereport.specs.Tried.{with_trials};
 
+use crate::readable::{ReadableAudit, is_unreadable};
 use crate::remarks::command_of;
 use crate::selection::{Selection, certified_count};
 use crate::tokens::{write_all_used, write_path_fields, write_text, write_text_array, write_use};
+use crate::tried::{first_trial, later_trials, write_here};
 use crate::words::{question_words, record_words, standing_word};
 use json::Writer;
-use siteaudit::{AuditedModule, SiteAudit, Standing, UnknownNames};
+use siteaudit::{AddedDirectory, AskingClash, AuditedModule, Standing, UnknownNames};
 use sitecertificate::{Clash, Disagreement, UsedVariable, VariableUse};
 use std::alloc::{AllocError, Global};
+use trials::Trial;
 
 /// Writes a variable and two uses of it as members.
 fn write_two_uses(
@@ -66,6 +70,15 @@ fn write_reads(writer: &mut Writer, reads: &[String]) -> Result<(), AllocError>
     }
 }
 
+/// Writes a clash, as members.
+fn write_clash(alloc: Global, writer: &mut Writer, clash: &Clash) -> Result<(), AllocError>
+    ensures { OnOk result (AddsTokens writer.old writer.new (fields_tokens (spec.clash_fields clash.now))) }
+{
+    write_two_uses(alloc, writer, &clash.variable, &clash.own, &clash.theirs)?;
+    write_other(writer, &clash.other_name, &clash.other_path)?;
+    write_alike(writer, clash)
+}
+
 /// Writes why a module stands so, as members.
 fn write_standing(
     alloc: Global,
@@ -94,11 +107,8 @@ fn write_standing(
             one,
             other,
         } => write_two_uses(alloc, writer, variable, one, other),
-        Standing::Clashes(clash) => {
-            write_two_uses(alloc, writer, &clash.variable, &clash.own, &clash.theirs)?;
-            write_other(writer, &clash.other_name, &clash.other_path)?;
-            write_alike(writer, clash)
-        }
+        Standing::Withheld => Ok(()),
+        Standing::Clashes(clash) => write_clash(alloc, writer, clash),
         Standing::Refused(refusal) => {
             let text = format!(in alloc; "{refusal}")?;
             write_text(writer, "refusal", text.as_str())
@@ -111,14 +121,17 @@ fn write_module(
     alloc: Global,
     writer: &mut Writer,
     module: &AuditedModule,
+    trial: Option<&Trial>,
 ) -> Result<(), AllocError>
-    ensures { OnOk result (AddsTokens writer.old writer.new (json_tokens (spec.module_value module.now))) }
+    ensures { OnOk result (AddsTokens writer.old writer.new
+        (json_tokens (spec.module_value (module.now, option_map (λ t. t.now) trial.entry)))) }
 {
     writer.begin_object()?;
     write_text(writer, "name", module.name.as_str())?;
     write_text(writer, "path", module.path.as_str())?;
     write_text(writer, "standing", standing_word(&module.standing))?;
     write_standing(alloc, writer, module)?;
+    write_here(alloc, writer, trial)?;
     writer.end_object()
 }
 
@@ -128,28 +141,106 @@ fn write_named(
     writer: &mut Writer,
     selection: Selection,
     module: &AuditedModule,
+    trial: Option<&Trial>,
 ) -> Result<(), AllocError>
-    ensures { OnOk result (AddsTokens writer.old writer.new (named_tokens selection module.now)) }
+    ensures { OnOk result (AddsTokens writer.old writer.new
+        (named_tokens selection (module.now, option_map (λ t. t.now) trial.entry))) }
 {
     if selection.names(&module.standing) {
-        return write_module(alloc, writer, module);
+        return write_module(alloc, writer, module, trial);
     }
     Ok(())
 }
 
-/// Writes the modules that the report names, one after another.
+/// Writes the modules that the report names, each with its trial, one after another.
 fn write_all_named(
     alloc: Global,
     writer: &mut Writer,
     selection: Selection,
     modules: &[AuditedModule],
+    trials: &[Option<Trial>],
 ) -> Result<(), AllocError>
-    ensures { OnOk result (AddsTokens writer.old writer.new (flat_map (named_tokens selection) modules.now)) }
+    ensures { OnOk result (AddsTokens writer.old writer.new
+        (flat_map (named_tokens selection) (with_trials modules.now trials.now))) }
 {
+    let mut trials = trials;
     for module in modules {
-        write_named(alloc, writer, selection, module)?;
+        write_named(alloc, writer, selection, module, first_trial(trials))?;
+        trials = later_trials(trials);
     }
     Ok(())
+}
+
+/// Writes a directory that hangs on a module which isn't settled, with the module, as an object.
+fn write_added(writer: &mut Writer, added: &AddedDirectory) -> Result<(), AllocError>
+    ensures { OnOk result (AddsTokens writer.old writer.new (json_tokens (spec.added_value added.now))) }
+{
+    writer.begin_object()?;
+    write_text(writer, "name", added.name.as_str())?;
+    write_text(writer, "path", added.path.as_str())?;
+    write_text(writer, "directory", added.directory.as_str())?;
+    writer.end_object()
+}
+
+/// Writes such directories, one after another.
+fn write_all_added(writer: &mut Writer, dirs: &[AddedDirectory]) -> Result<(), AllocError>
+    ensures { OnOk result (AddsTokens writer.old writer.new
+        (flat_map (λ added. json_tokens (spec.added_value added)) dirs.now)) }
+{
+    for added in dirs {
+        write_added(writer, added)?;
+    }
+    Ok(())
+}
+
+/// Writes such directories as a member.
+fn write_hanging(writer: &mut Writer, dirs: &[AddedDirectory]) -> Result<(), AllocError>
+    ensures { OnOk result (AddsTokens writer.old writer.new (field_tokens (spec.hanging_field dirs.now))) }
+{
+    writer.key("hanging_directories")?;
+    writer.begin_array()?;
+    write_all_added(writer, dirs)?;
+    writer.end_array()
+}
+
+/// Writes a module that asks, with its clash with a certified one, as an object.
+fn write_asking(alloc: Global, writer: &mut Writer, asking: &AskingClash) -> Result<(), AllocError>
+    ensures { OnOk result (AddsTokens writer.old writer.new (json_tokens (spec.asking_value asking.now))) }
+{
+    writer.begin_object()?;
+    write_text(writer, "name", asking.name.as_str())?;
+    write_text(writer, "path", asking.path.as_str())?;
+    write_clash(alloc, writer, &asking.clash)?;
+    writer.end_object()
+}
+
+/// Writes such modules, one after another.
+fn write_all_asking(
+    alloc: Global,
+    writer: &mut Writer,
+    clashes: &[AskingClash],
+) -> Result<(), AllocError>
+    ensures { OnOk result (AddsTokens writer.old writer.new
+        (flat_map (λ asking. json_tokens (spec.asking_value asking)) clashes.now)) }
+{
+    for asking in clashes {
+        write_asking(alloc, writer, asking)?;
+    }
+    Ok(())
+}
+
+/// Writes such modules as a member.
+fn write_asking_clashes(
+    alloc: Global,
+    writer: &mut Writer,
+    clashes: &[AskingClash],
+) -> Result<(), AllocError>
+    ensures { OnOk result (AddsTokens writer.old writer.new (field_tokens (spec.asking_field clashes.now))) }
+{
+    writer.key("asking_clashes")?;
+    writer.begin_array()?;
+    write_all_asking(alloc, writer, clashes)?;
+    writer.end_array()
 }
 
 /// Writes a command whose names mean no module of the site, as an object.
@@ -237,28 +328,34 @@ fn write_disagreements(
     Ok(())
 }
 
-/// Writes the modules that the report names as a member.
+/// Writes the modules that the report names, each with its trial, as a member.
 fn write_modules(
     alloc: Global,
     writer: &mut Writer,
     selection: Selection,
     modules: &[AuditedModule],
+    trials: &[Option<Trial>],
 ) -> Result<(), AllocError>
     ensures { OnOk result (AddsTokens writer.old writer.new
-        (field_tokens (spec.modules_field selection modules.now))) }
+        (field_tokens (spec.modules_field selection modules.now trials.now))) }
 {
     writer.key("modules")?;
     writer.begin_array()?;
-    write_all_named(alloc, writer, selection, modules)?;
+    write_all_named(alloc, writer, selection, modules, trials)?;
     writer.end_array()
 }
 
-/// Writes how many of the modules are certified, and how many there are, as members.
-fn write_counts(writer: &mut Writer, modules: &[AuditedModule]) -> Result<(), AllocError>
-    ensures { OnOk result (AddsTokens writer.old writer.new (fields_tokens (spec.count_fields modules.now))) }
+/// Writes how many of the modules are certified, and how many there are, with the paths that can't be read, as members.
+fn write_counts(
+    writer: &mut Writer,
+    unreadable: &[String],
+    modules: &[AuditedModule],
+) -> Result<(), AllocError>
+    ensures { OnOk result (AddsTokens writer.old writer.new
+        (fields_tokens (spec.count_fields (length unreadable.now) modules.now))) }
 {
     let certified = certified_count(modules) as u64;
-    let count = modules.len() as u64;
+    let count = (modules.len() + unreadable.len()) as u64;
     writer.key("certified")?;
     writer.u64(certified)?;
     writer.key("count")?;
@@ -299,30 +396,97 @@ fn write_rest(
     writer.end_array()
 }
 
-/// Writes the whole document.
-fn write_document(
-    alloc: Global,
+/// Writes a directory that isn't there, but nothing where it can't be read.
+fn write_missing_directory(
     writer: &mut Writer,
-    selection: Selection,
-    found: &SiteAudit,
+    unreadable: &[String],
+    dir: &String,
 ) -> Result<(), AllocError>
-    ensures { OnOk result (AddsTokens writer.old writer.new (json_tokens (spec.document selection found.now))) }
+    ensures { OnOk result (AddsTokens writer.old writer.new (missing_tokens unreadable.now dir.now)) }
 {
-    writer.begin_object()?;
-    write_modules(alloc, writer, selection, found.modules.as_slice())?;
-    write_counts(writer, found.modules.as_slice())?;
-    write_certificate(alloc, writer, found.certificate.as_slice())?;
-    write_text_array(
+    if is_unreadable(unreadable, dir.as_str()) {
+        return Ok(());
+    }
+    writer.string(dir.as_str())
+}
+
+/// Writes such directories, one after another.
+fn write_all_missing(
+    writer: &mut Writer,
+    unreadable: &[String],
+    dirs: &[String],
+) -> Result<(), AllocError>
+    ensures { OnOk result (AddsTokens writer.old writer.new (flat_map (missing_tokens unreadable.now) dirs.now)) }
+{
+    for dir in dirs {
+        write_missing_directory(writer, unreadable, dir)?;
+    }
+    Ok(())
+}
+
+/// Writes the directories that aren't there, but for those that can't be read, as a member.
+fn write_missing(
+    writer: &mut Writer,
+    unreadable: &[String],
+    dirs: &[String],
+) -> Result<(), AllocError>
+    ensures { OnOk result (AddsTokens writer.old writer.new
+        (field_tokens (spec.missing_field unreadable.now dirs.now))) }
+{
+    writer.key("missing_directories")?;
+    writer.begin_array()?;
+    write_all_missing(writer, unreadable, dirs)?;
+    writer.end_array()
+}
+
+/// Writes the paths of directories and files of which there are remarks, as members.
+fn write_paths(writer: &mut Writer, audit: &ReadableAudit) -> Result<(), AllocError>
+    ensures { OnOk result (AddsTokens writer.old writer.new (fields_tokens (spec.paths_fields audit.now))) }
+{
+    let found = &audit.found;
+    write_missing(
         writer,
-        "missing_directories",
+        audit.unreadable.as_slice(),
         found.missing_directories.as_slice(),
     )?;
     write_text_array(writer, "no_modulefiles", found.no_modulefiles.as_slice())?;
     write_text_array(
         writer,
+        "unread_default_files",
+        found.unread_default_files.as_slice(),
+    )?;
+    write_text_array(
+        writer,
         "bad_default_files",
         found.bad_default_files.as_slice(),
+    )
+}
+
+/// Writes the whole document.
+fn write_document(
+    alloc: Global,
+    writer: &mut Writer,
+    selection: Selection,
+    audit: &ReadableAudit,
+) -> Result<(), AllocError>
+    ensures { OnOk result (AddsTokens writer.old writer.new (json_tokens (spec.document selection audit.now))) }
+{
+    let found = &audit.found;
+    let unreadable = audit.unreadable.as_slice();
+    writer.begin_object()?;
+    write_modules(
+        alloc,
+        writer,
+        selection,
+        found.modules.as_slice(),
+        audit.trials.as_slice(),
     )?;
+    write_text_array(writer, "unreadable", unreadable)?;
+    write_counts(writer, unreadable, found.modules.as_slice())?;
+    write_certificate(alloc, writer, found.certificate.as_slice())?;
+    write_paths(writer, audit)?;
+    write_hanging(writer, found.hanging_directories.as_slice())?;
+    write_asking_clashes(alloc, writer, found.asking_clashes.as_slice())?;
     write_rest(
         alloc,
         writer,
@@ -336,12 +500,12 @@ fn write_document(
 pub fn json_report(
     alloc: Global,
     selection: Selection,
-    found: &SiteAudit,
+    audit: &ReadableAudit,
 ) -> Result<Vec<u8>, AllocError>
-    ensures { IfOk result (λ report. report.items ≡ spec.document_text selection found.now) }
+    ensures { IfOk result (λ report. report.items ≡ spec.document_text selection audit.now) }
 {
     let mut writer = Writer::new(Vec::new(alloc));
-    write_document(alloc, &mut writer, selection, found)?;
+    write_document(alloc, &mut writer, selection, audit)?;
     let mut report = writer.into_inner();
     report.push(b'\n')?;
     Ok(report)

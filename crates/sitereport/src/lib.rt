@@ -5,12 +5,15 @@
 mod conflicts;
 mod document;
 mod fields;
+mod readable;
 mod remarks;
 mod report;
 mod selection;
 mod tokens;
+mod tried;
 mod words;
 
 pub use document::json_report;
+pub use readable::ReadableAudit;
 pub use report::line_report;
 pub use selection::Selection;

@@ -3,20 +3,41 @@ ghost use Rattle.std.specs.Prelude.{◌≡◌, ◌++◌, OnOk, IfOk, map, string
 ghost use Rattle.sitereport.specs.Remarks as spec;
 
 use crate::fields::{push_field, push_text};
+use crate::readable::is_unreadable;
+use crate::words::clash_words;
 use envvars::fields::{deduplicated, slices};
 use modulefile::Delimiter;
-use siteaudit::UnknownNames;
+use siteaudit::{AddedDirectory, AskingClash, UnknownNames};
 use sitecertificate::Disagreement;
 use std::alloc::{AllocError, Global};
 
-/// Adds a line for each directory that isn't there.
-pub(crate) fn push_missing(report: &mut Vec<u8>, dirs: &[String]) -> Result<(), AllocError>
-    ensures { OnOk result (report.new.items ≡ report.old.items ++ flat_map spec.missing_line dirs.now) }
+/// Adds a line for each directory that isn't there, but for those that can't be read.
+pub(crate) fn push_missing(
+    report: &mut Vec<u8>,
+    unreadable: &[String],
+    dirs: &[String],
+) -> Result<(), AllocError>
+    ensures { OnOk result (report.new.items
+        ≡ report.old.items ++ flat_map (spec.missing_line unreadable.now) dirs.now) }
 {
     for dir in dirs {
-        push_missing_directory(report, dir.as_str())?;
+        push_missing_if(report, unreadable, dir)?;
     }
     Ok(())
+}
+
+/// Adds the line of a directory that isn't there, but nothing where it can't be read.
+fn push_missing_if(
+    report: &mut Vec<u8>,
+    unreadable: &[String],
+    dir: &String,
+) -> Result<(), AllocError>
+    ensures { OnOk result (report.new.items ≡ report.old.items ++ spec.missing_line unreadable.now dir.now) }
+{
+    if is_unreadable(unreadable, dir.as_str()) {
+        return Ok(());
+    }
+    push_missing_directory(report, dir.as_str())
 }
 
 /// Adds the line of a directory that isn't there.
@@ -25,6 +46,64 @@ fn push_missing_directory(report: &mut Vec<u8>, dir: &str) -> Result<(), AllocEr
 {
     push_text(report, "# no directory: ")?;
     push_field(report, dir)?;
+    push_text(report, "\n")
+}
+
+/// Adds a line for each directory that hangs on a module which isn't settled.
+pub(crate) fn push_hanging_directories(
+    report: &mut Vec<u8>,
+    dirs: &[AddedDirectory],
+) -> Result<(), AllocError>
+    ensures { OnOk result (report.new.items ≡ report.old.items ++ flat_map spec.hanging_line dirs.now) }
+{
+    for added in dirs {
+        push_hanging_directory(report, added)?;
+    }
+    Ok(())
+}
+
+/// Adds the line of a directory that hangs on a module which isn't settled.
+fn push_hanging_directory(report: &mut Vec<u8>, added: &AddedDirectory) -> Result<(), AllocError>
+    ensures { OnOk result (report.new.items ≡ report.old.items ++ spec.hanging_line added.now) }
+{
+    push_text(report, "# ")?;
+    push_field(report, added.name.as_str())?;
+    push_text(report, " (")?;
+    push_field(report, added.path.as_str())?;
+    push_text(report, "): isn't settled, and adds the directory ")?;
+    push_field(report, added.directory.as_str())?;
+    push_text(report, "\n")
+}
+
+/// Adds a line for each module that asks and clashes with a certified one.
+pub(crate) fn push_asking_clashes(
+    alloc: Global,
+    report: &mut Vec<u8>,
+    clashes: &[AskingClash],
+) -> Result<(), AllocError>
+    ensures { OnOk result (report.new.items ≡ report.old.items ++ flat_map spec.asking_line clashes.now) }
+{
+    for asking in clashes {
+        push_asking_clash(alloc, report, asking)?;
+    }
+    Ok(())
+}
+
+/// Adds the line of a module that asks and clashes with a certified one.
+fn push_asking_clash(
+    alloc: Global,
+    report: &mut Vec<u8>,
+    asking: &AskingClash,
+) -> Result<(), AllocError>
+    ensures { OnOk result (report.new.items ≡ report.old.items ++ spec.asking_line asking.now) }
+{
+    let words = clash_words(alloc, &asking.clash)?;
+    push_text(report, "# ")?;
+    push_field(report, asking.name.as_str())?;
+    push_text(report, " (")?;
+    push_field(report, asking.path.as_str())?;
+    push_text(report, "): asks, and clashes: ")?;
+    push_field(report, words.as_str())?;
     push_text(report, "\n")
 }
 
@@ -43,6 +122,25 @@ fn push_no_modulefile(report: &mut Vec<u8>, path: &str) -> Result<(), AllocError
     ensures { OnOk result (report.new.items ≡ report.old.items ++ spec.no_modulefile path.now) }
 {
     push_text(report, "# no modulefile: ")?;
+    push_field(report, path)?;
+    push_text(report, "\n")
+}
+
+/// Adds a line for each default file that isn't read.
+pub(crate) fn push_unread_files(report: &mut Vec<u8>, paths: &[String]) -> Result<(), AllocError>
+    ensures { OnOk result (report.new.items ≡ report.old.items ++ flat_map spec.unread_file_line paths.now) }
+{
+    for path in paths {
+        push_unread_file(report, path.as_str())?;
+    }
+    Ok(())
+}
+
+/// Adds the line of a default file that isn't read.
+fn push_unread_file(report: &mut Vec<u8>, path: &str) -> Result<(), AllocError>
+    ensures { OnOk result (report.new.items ≡ report.old.items ++ spec.unread_file path.now) }
+{
+    push_text(report, "# default file that isn't read: ")?;
     push_field(report, path)?;
     push_text(report, "\n")
 }

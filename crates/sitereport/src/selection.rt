@@ -37,6 +37,7 @@ fn is_certified(standing: &Standing) -> bool
         | Standing::OneWay(_)
         | Standing::ReadsUsed(_)
         | Standing::OutOfStep { .. }
+        | Standing::Withheld
         | Standing::Clashes(_)
         | Standing::Refused(_) => false,
     }

@@ -23,6 +23,7 @@ pub(crate) fn standing_word(standing: &Standing) -> &'static str
         Standing::OneWay(_) => "one-way",
         Standing::ReadsUsed(_) => "reads-used",
         Standing::OutOfStep { .. } => "out-of-step",
+        Standing::Withheld => "withheld",
         Standing::Clashes(_) => "clashes",
         Standing::Refused(_) => "refused",
     }
@@ -68,7 +69,7 @@ fn two_uses(
 }
 
 /// The variable of a clash, the module's own use of it, the other's, the other, and how many use it as that does.
-fn clash_words(alloc: Global, clash: &Clash) -> Result<String, AllocError>
+pub(crate) fn clash_words(alloc: Global, clash: &Clash) -> Result<String, AllocError>
     ensures { IfOk result (λ words. string_bytes words ≡ spec.clash_words clash.now) }
 {
     let variable = &clash.variable;
@@ -122,15 +123,28 @@ fn further_names(alloc: Global, names: &[String]) -> Result<String, AllocError>
     Ok(words)
 }
 
+/// The names, with a comma and a space between two.
+pub(crate) fn listed(alloc: Global, names: &[String]) -> Result<String, AllocError>
+    ensures { IfOk result (λ words. string_bytes words ≡ spec.listed names.now) }
+{
+    match names {
+        [] => Ok(String::new(alloc)),
+        [first, others @ ..] => {
+            let others = further_names(alloc, others)?;
+            format!(in alloc; "{first}{others}")
+        }
+    }
+}
+
 /// The variables that a certified module reads; nothing where it reads none.
 fn reads_words(alloc: Global, reads: &[String]) -> Result<String, AllocError>
     ensures { IfOk result (λ words. string_bytes words ≡ spec.reads_words reads.now) }
 {
     match reads {
         [] => Ok(String::new(alloc)),
-        [first, others @ ..] => {
-            let others = further_names(alloc, others)?;
-            format!(in alloc; "reads {first}{others}")
+        [_, ..] => {
+            let names = listed(alloc, reads)?;
+            format!(in alloc; "reads {names}")
         }
     }
 }
@@ -149,6 +163,7 @@ pub(crate) fn reason(alloc: Global, module: &AuditedModule) -> Result<String, Al
             one,
             other,
         } => two_uses(alloc, variable.as_str(), one, other),
+        Standing::Withheld => String::from_str(alloc, "--without"),
         Standing::Clashes(clash) => clash_words(alloc, clash),
         Standing::Refused(refusal) => format!(in alloc; "{refusal}"),
     }

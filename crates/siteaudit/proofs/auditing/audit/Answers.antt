@@ -1,4 +1,4 @@
-use Rattle.std.proofs.Common.{refl, inl, ◌∙◌}
+use Rattle.std.proofs.Common.{refl, inl, ◌∙◌, map, string_bytes}
 use Rattle.std.proofs.lemmas.Result.{err_from_is_err_and}
 use Rattle.filetree.specs.Agreement.{InEachPair}
 use Rattle.filetree.proofs.FailedPaths.{fails_then}
@@ -13,13 +13,13 @@ use Rattle.siteaudit.proofs.auditing.audit.Goals as goal
 pub returns-clause-exact : goal.returns-clause-exact
 returns-clause-exact g c = λ files listings agrees.
     let before = c.in_ok-audit_walk.ensures.reads.narrows files listings agrees in
-    (c.parts_are_audits.ensures (site_of c.args.limits c.args.env.now files listings) c.in_ok-walk.walk c.in_ok-audit_walk.field-0
+    (c.parts_are_audits.ensures (site_of c.args.limits c.args.env.now files listings) (map string_bytes c.args.without.now) c.in_ok-walk.walk c.in_ok-audit_walk.field-0
     (c.in_ok-walk.ensures.walked files listings before) (c.in_ok-audit_walk.ensures.parts files listings agrees)).0
 
 pub returns-clause-holds : goal.returns-clause-holds
 returns-clause-holds g c = λ files listings agrees.
     let before = c.in_ok-audit_walk.ensures.reads.narrows files listings agrees in
-    (c.parts_are_audits.ensures (site_of c.args.limits c.args.env.now files listings) c.in_ok-walk.walk c.in_ok-audit_walk.field-0
+    (c.parts_are_audits.ensures (site_of c.args.limits c.args.env.now files listings) (map string_bytes c.args.without.now) c.in_ok-walk.walk c.in_ok-audit_walk.field-0
     (c.in_ok-walk.ensures.walked files listings before) (c.in_ok-audit_walk.ensures.parts files listings agrees)).1
 
 pub returns-in_err-walk-clause-failed : goal.returns-in_err-walk-clause-failed

@@ -1,4 +1,4 @@
-use Rattle.std.proofs.Common.{◌≡◌, map, flat_map, subst, List, refl, inl, inr, ◌∙◌, String, Global, string_bytes}
+use Rattle.std.proofs.Common.{◌≡◌, map, flat_map, subst, ap, List, refl, inl, inr, ◌∙◌, String, Global, string_bytes}
 use Rattle.std.proofs.lemmas.Result.{err_from_is_err_and}
 use Rattle.envvars.specs.Texts.{texts_in}
 use Rattle.filetree.specs.Agreement.{InEachPair, is_device}
@@ -7,28 +7,36 @@ use Rattle.modules.specs.Answers.{is_failure, refused_read}
 use Rattle.modules.proofs.FailureLemmas.{read_failure}
 use Rattle.sitecertificate.specs.RecordUses.{IsAmong}
 use Rattle.siteaudit.specs.declared.walk.Evaluation.{Evaluation}
-use Rattle.siteaudit.specs.Audits.{mention_of}
+use Rattle.requests.specs.Steps.{modulepath}
+use Rattle.siteaudit.specs.Audits.{addition_of, mention_of}
+use Rattle.siteaudit.specs.Hanging.{is_settled_directory, additions_after}
 use Rattle.siteaudit.specs.FilesBelow.{LooksAtAny}
 use Rattle.siteaudit.specs.SettledRuns.{evaluated_file}
 use Rattle.siteaudit.specs.Folders.{AreBadDefaultFiles, EvaluatedLookAt}
 use Rattle.siteaudit.specs.Mentions.{is_known, unknown_after}
 use Rattle.siteaudit.specs.NoModulefiles.{AreNoModulefiles}
+use Rattle.siteaudit.specs.Unread.{unread_among}
 use Rattle.siteaudit.specs.Parts.{WalkedLookAt}
 use Rattle.siteaudit.proofs.auditing.audit_walk.Goals as goal
 
 pub returns-clause-parts : goal.returns-clause-parts
 returns-clause-parts g c = λ files listings agrees.
-    let before = c.in_ok-bad_default_files.ensures.reads.narrows files listings agrees in record {
+    let before = c.in_ok-bad_default_files.ensures.reads.narrows files listings agrees in
+    let unread = c.in_ok-missing_directories.ensures.reads.narrows files listings before in record {
       standings = c.in_ok-modules.ensures;
       missing_directories = c.in_ok-missing_directories.ensures.answer files listings before;
-      no_modulefiles = subst (λ (dirs : List (String Global)). AreNoModulefiles files listings (map string_bytes dirs) (texts_in c.in_ok-no_modulefiles.no_modulefiles)) c.as_slice-2.ensures.value
-          (c.in_ok-no_modulefiles.ensures.answer files listings (c.in_ok-missing_directories.ensures.reads.narrows files listings before));
-      bad_default_files = subst (λ (es : List Evaluation). AreBadDefaultFiles c.args.limits files listings (map evaluated_file es) (texts_in c.in_ok-bad_default_files.bad_default_files)) c.as_slice-3.ensures.value
+      hanging = subst (λ (es : List Evaluation). map addition_of c.in_ok-hanging_directories.hanging_directories.items ≡ flat_map
+          (additions_after (is_settled_directory (modulepath c.args.env.now) es)) es) c.as_slice-2.ensures.value
+          (rw c.modulepath.ensures at c.in_ok-hanging_directories.ensures);
+      no_modulefiles = subst (λ (dirs : List (String Global)). AreNoModulefiles files listings (map string_bytes dirs) (texts_in c.in_ok-no_modulefiles.no_modulefiles)) c.as_slice-3.ensures.value
+          (c.in_ok-no_modulefiles.ensures.answer files listings (c.in_ok-unread_default_files.ensures.reads.narrows files listings unread));
+      unread = c.in_ok-unread_default_files.ensures.answer files listings unread ∙ ap (λ (dirs : List (String Global)). unread_among listings (map string_bytes dirs)) c.as_slice-4.ensures.value;
+      bad_default_files = subst (λ (es : List Evaluation). AreBadDefaultFiles c.args.limits files listings (map evaluated_file es) (texts_in c.in_ok-bad_default_files.bad_default_files)) c.as_slice-5.ensures.value
           (c.in_ok-bad_default_files.ensures.answer files listings agrees);
       unknown_names = subst (λ (es : List Evaluation). map mention_of c.in_ok-unknown_names.unknown_names.items ≡ flat_map
           (unknown_after (is_known es)) es) c.as_slice.ensures.value c.in_ok-unknown_names.ensures;
-      agrees = rw (← c.as_slice-4.ensures.value) c.in_ok-disagreements.ensures.agrees;
-      disagreements = rw (← c.as_slice-4.ensures.value) c.in_ok-disagreements.ensures.order;
+      agrees = rw (← c.as_slice-6.ensures.value) c.in_ok-disagreements.ensures.agrees;
+      disagreements = rw (← c.as_slice-6.ensures.value) c.in_ok-disagreements.ensures.order;
     }
 
 pub returns-in_err-no_modulefiles-clause-failed : goal.returns-in_err-no_modulefiles-clause-failed
@@ -40,7 +48,18 @@ returns-in_err-no_modulefiles-clause-failed g c =
     rw (p.1, p.2) (fails_then (is_device fault) (is_failure (refused_read fault)) (g.T.Tree.failed a.tree.now) (g.T.Tree.failed a.tree.now) (g.T.Tree.failed c.no_modulefiles.new.tree)
     (λ at. InEachPair agrees (λ files listings. LooksAtAny listings (texts_in a.walk.directories) at))
     (λ at. InEachPair agrees (λ files listings. WalkedLookAt a.limits files listings a.walk at)) refl (read_failure fault)
-    (λ at h files listings k. inl (h files listings k)) (rw c.as_slice-2.ensures.value at c.in_err-no_modulefiles.ensures.failed))
+    (λ at h files listings k. inl (h files listings k)) (rw c.as_slice-3.ensures.value at c.in_err-no_modulefiles.ensures.failed))
+
+pub returns-in_err-unread_default_files-clause-failed : goal.returns-in_err-unread_default_files-clause-failed
+returns-in_err-unread_default_files-clause-failed g c =
+    let a = c.args in
+    let fails = is_failure c.in_err-unread_default_files.field-0.0 in
+    let agrees = g.T.Tree.agrees c.unread_default_files.new.tree in
+    let p = err_from_is_err_and c.from_residual-in_err-unread_default_files.result c.from_residual-in_err-unread_default_files.ensures.1 in
+    rw (p.1, p.2) (fails_then fails fails (g.T.Tree.failed a.tree.now) (g.T.Tree.failed c.no_modulefiles.new.tree) (g.T.Tree.failed c.unread_default_files.new.tree)
+    (λ at. IsAmong at (texts_in a.walk.directories))
+    (λ at. InEachPair agrees (λ files listings. WalkedLookAt a.limits files listings a.walk at)) c.in_ok-no_modulefiles.ensures.failed refl
+    (λ at h files listings k. inl (at, h, inl refl)) (rw c.as_slice-4.ensures.value at c.in_err-unread_default_files.ensures.failed))
 
 pub returns-in_err-missing_directories-clause-failed : goal.returns-in_err-missing_directories-clause-failed
 returns-in_err-missing_directories-clause-failed g c =
@@ -48,9 +67,9 @@ returns-in_err-missing_directories-clause-failed g c =
     let fails = is_failure c.in_err-missing_directories.field-0.0 in
     let agrees = g.T.Tree.agrees c.missing_among.new.tree in
     let p = err_from_is_err_and c.from_residual-in_err-missing_directories.result c.from_residual-in_err-missing_directories.ensures.1 in
-    rw (p.1, p.2) (fails_then fails fails (g.T.Tree.failed a.tree.now) (g.T.Tree.failed c.no_modulefiles.new.tree) (g.T.Tree.failed c.missing_among.new.tree)
+    rw (p.1, p.2) (fails_then fails fails (g.T.Tree.failed a.tree.now) (g.T.Tree.failed c.unread_default_files.new.tree) (g.T.Tree.failed c.missing_among.new.tree)
     (λ at. IsAmong at (texts_in a.walk.directories))
-    (λ at. InEachPair agrees (λ files listings. WalkedLookAt a.limits files listings a.walk at)) c.in_ok-no_modulefiles.ensures.failed refl
+    (λ at. InEachPair agrees (λ files listings. WalkedLookAt a.limits files listings a.walk at)) (c.in_ok-unread_default_files.ensures.failed ∙ c.in_ok-no_modulefiles.ensures.failed) refl
     (λ at h files listings k. inl (at, h, inl refl)) c.in_err-missing_directories.ensures.failed)
 
 pub returns-in_err-bad_default_files-clause-failed : goal.returns-in_err-bad_default_files-clause-failed
@@ -61,18 +80,18 @@ returns-in_err-bad_default_files-clause-failed g c =
     let p = err_from_is_err_and c.from_residual-in_err-bad_default_files.result c.from_residual-in_err-bad_default_files.ensures.1 in
     rw (p.1, p.2) (fails_then fails fails (g.T.Tree.failed a.tree.now) (g.T.Tree.failed c.missing_among.new.tree) (g.T.Tree.failed c.bad_default_files.new.tree)
     (λ at. InEachPair agrees (λ files listings. EvaluatedLookAt a.limits files listings a.walk.evaluations.items at))
-    (λ at. InEachPair agrees (λ files listings. WalkedLookAt a.limits files listings a.walk at)) (c.in_ok-missing_directories.ensures.failed ∙ c.in_ok-no_modulefiles.ensures.failed) refl
-    (λ at h files listings k. inr (h files listings k)) (rw c.as_slice-3.ensures.value at c.in_err-bad_default_files.ensures.failed))
+    (λ at. InEachPair agrees (λ files listings. WalkedLookAt a.limits files listings a.walk at)) (c.in_ok-missing_directories.ensures.failed ∙ (c.in_ok-unread_default_files.ensures.failed ∙ c.in_ok-no_modulefiles.ensures.failed)) refl
+    (λ at h files listings k. inr (h files listings k)) (rw c.as_slice-5.ensures.value at c.in_err-bad_default_files.ensures.failed))
 
 pub returns-in_err-modules-clause-failed : goal.returns-in_err-modules-clause-failed
 returns-in_err-modules-clause-failed g c =
     let p = err_from_is_err_and c.from_residual-in_err-modules.result c.from_residual-in_err-modules.ensures.1 in
-    rw (p.1, p.2) (c.in_ok-bad_default_files.ensures.failed ∙ (c.in_ok-missing_directories.ensures.failed ∙ c.in_ok-no_modulefiles.ensures.failed))
+    rw (p.1, p.2) (c.in_ok-bad_default_files.ensures.failed ∙ (c.in_ok-missing_directories.ensures.failed ∙ (c.in_ok-unread_default_files.ensures.failed ∙ c.in_ok-no_modulefiles.ensures.failed)))
 
 pub returns-in_err-disagreements-clause-failed : goal.returns-in_err-disagreements-clause-failed
 returns-in_err-disagreements-clause-failed g c =
     let p = err_from_is_err_and c.from_residual-in_err-disagreements.result c.from_residual-in_err-disagreements.ensures.1 in
-    rw (p.1, p.2, c.in_err-disagreements.ensures.only) (c.in_ok-bad_default_files.ensures.failed ∙ (c.in_ok-missing_directories.ensures.failed ∙ c.in_ok-no_modulefiles.ensures.failed))
+    rw (p.1, p.2, c.in_err-disagreements.ensures.only) (c.in_ok-bad_default_files.ensures.failed ∙ (c.in_ok-missing_directories.ensures.failed ∙ (c.in_ok-unread_default_files.ensures.failed ∙ c.in_ok-no_modulefiles.ensures.failed)))
 
 pub returns-clause-failed : goal.returns-clause-failed
-returns-clause-failed g c = c.in_ok-bad_default_files.ensures.failed ∙ (c.in_ok-missing_directories.ensures.failed ∙ c.in_ok-no_modulefiles.ensures.failed)
+returns-clause-failed g c = c.in_ok-bad_default_files.ensures.failed ∙ (c.in_ok-missing_directories.ensures.failed ∙ (c.in_ok-unread_default_files.ensures.failed ∙ c.in_ok-no_modulefiles.ensures.failed))

@@ -1,4 +1,4 @@
-use Rattle.std.proofs.Common.{◌≡◌, ◌<◌, map, string_bytes}
+use Rattle.std.proofs.Common.{◌≡◌, ◌<◌, string_bytes}
 use Rattle.std.proofs.lemmas.Result.{err_from_is_err_and}
 use Rattle.sitelaws.specs.Sites.{SiteModule}
 use Rattle.siteaudit.specs.WalkParts.{site_context}

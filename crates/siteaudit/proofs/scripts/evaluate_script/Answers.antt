@@ -1,4 +1,4 @@
-use Rattle.std.proofs.Common.{map, string_bytes, List, ◌++◌, ap, ◌∙◌, subst, String, Global, Ok}
+use Rattle.std.proofs.Common.{map, string_bytes, List, ◌++◌, ap, ◌∙◌, subst, String, Global}
 use Rattle.envvars.specs.Texts.{Text, texts_in}
 use Rattle.envvars.specs.Fields.{without_repeats}
 use Rattle.modulerun.specs.Questions.{questions_in}
@@ -8,8 +8,7 @@ use Rattle.modulefile.specs.Answers.{FileContext}
 use Rattle.modulerun.specs.declared.question.Question.{Question}
 use Rattle.settled.specs.LoadedAnswers.{are_few}
 use Rattle.settled.specs.Ways.{Way, other_ways}
-use Rattle.siteaudit.specs.WalkParts.{site_context, ScriptRuns, ShowsAll}
-use Rattle.modulerun.specs.Running.{ran_view}
+use Rattle.siteaudit.specs.WalkParts.{site_context, ShowsAll}
 use Rattle.siteaudit.proofs.ScriptLemmas.{shows_script}
 use Rattle.siteaudit.proofs.scripts.evaluate_script.Goals as goal
 

@@ -1,4 +1,4 @@
-use Rattle.std.proofs.Common.{map, string_bytes, sym, ◌∙◌}
+use Rattle.std.proofs.Common.{sym, ◌∙◌}
 use Rattle.envvars.specs.Texts.{texts_in}
 use Rattle.settled.specs.WayViews.{way_view}
 use Rattle.siteaudit.specs.WalkParts.{site_context}

@@ -1,4 +1,4 @@
-use Rattle.std.proofs.Common.{map, string_bytes, take_all, List, refl, subst}
+use Rattle.std.proofs.Common.{map, take_all, List, refl, subst}
 use Rattle.envvars.specs.Texts.{texts_in}
 use Rattle.settled.specs.WayViews.{way_view}
 use Rattle.settled.specs.declared.ways.Way.{Way}

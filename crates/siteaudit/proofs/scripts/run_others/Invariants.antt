@@ -1,4 +1,4 @@
-use Rattle.std.proofs.Common.{map, take, string_bytes}
+use Rattle.std.proofs.Common.{map, take}
 use Rattle.envvars.specs.Texts.{texts_in}
 use Rattle.settled.specs.WayViews.{way_view}
 use Rattle.siteaudit.specs.WalkParts.{site_context, ShowsAll}

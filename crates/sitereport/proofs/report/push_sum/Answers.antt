@@ -1,4 +1,4 @@
-use Rattle.std.proofs.Common.{◌≡◌, ◌++◌, ℕ, subst}
+use Rattle.std.proofs.Common.{◌≡◌, ◌+◌, ◌++◌, ℕ, length, subst}
 use Rattle.std.specs.Prelude.{OnOk}
 use Rattle.sitereport.specs.Reports.{number_line, sum_line}
 use Rattle.sitereport.proofs.report.push_sum.Goals as goal
@@ -6,4 +6,5 @@ use Rattle.sitereport.proofs.report.push_sum.Goals as goal
 pub returns : goal.returns
 unfolding sum_line
 returns c =
-    subst (λ (n : ℕ). OnOk c.push_number.result (c.push_number.new.report.items ≡ c.args.report.now.items ++ number_line n c.args.word.now)) c.standing_count.ensures.value c.push_number.ensures
+    subst (λ (n : ℕ). OnOk c.push_number.result (c.push_number.new.report.items ≡ c.args.report.now.items ++ number_line (n + length c.args.others.now) c.args.word.now))
+    c.standing_count.ensures.value c.push_number.ensures

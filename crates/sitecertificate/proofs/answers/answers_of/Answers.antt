@@ -1,6 +1,6 @@
 use Rattle.sitecertificate.specs.UsingModules.{module_of}
 use Rattle.sitecertificate.proofs.AnswerLemmas.{answers_turn}
-use Rattle.sitecertificate.proofs.answers.answers.Goals as goal
+use Rattle.sitecertificate.proofs.answers.answers_of.Goals as goal
 
 pub loop-candidate-preserved : goal.loop-candidate-preserved
 loop-candidate-preserved c = λ ms have all.

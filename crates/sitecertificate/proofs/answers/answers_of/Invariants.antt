@@ -6,7 +6,7 @@ use Rattle.sitecertificate.specs.ClashAnswers.{AreAnswers}
 use Rattle.sitecertificate.specs.Tables.{users_at}
 use Rattle.sitecertificate.specs.Tallies.{HasCounts}
 use Rattle.sitecertificate.specs.UsingModules.{module_of}
-use Rattle.sitecertificate.proofs.answers.answers.Given as goal
+use Rattle.sitecertificate.proofs.answers.answers_of.Given as goal
 
 abbrev pub invariant-loop-candidate : goal.invariant-loop-candidate
 invariant-loop-candidate l = (ms : List Module) → HasCounts l.tally (uses_of_modules ms) → AreUsersOf (users_at l.table) (uses_of_modules (staying ms))

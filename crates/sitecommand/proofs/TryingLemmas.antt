@@ -1,0 +1,248 @@
+-- Trials of the modules of an audit, one after another, and what they read.
+use Rattle.std.proofs.Common.{◌≡◌, ◌+◌, ◌<◌, ◌≤◌, ℕ, zero, suc, arith, Bool, true, false, string_bytes, List, [], ◌∷◌, ◌++◌, map, take, length, get_or, Option}
+use Rattle.std.proofs.Common.{refl, ap, sym, subst, ◌∙◌, inl, inr, ◌||◌}
+use Rattle.std.proofs.lemmas.Bool.{false≢true, or_cases}
+use Rattle.std.proofs.lemmas.List.{take_more}
+use Rattle.std.specs.Prelude.{◌⊎◌}
+use Rattle.envvars.specs.Environment.{Environment}
+use Rattle.envvars.specs.Texts.{Text, texts_in}
+use Rattle.filetree.specs.Agreement.{FailedAt, FailsIf, Files, InEachPair, Listings, Narrows, ReadsOn}
+use Rattle.filetree.specs.Causes.{Cause, memory, device, because, Applies}
+use Rattle.hidingtree.specs.Hidden.{AgreesWithout, HasFailedAt, without}
+use Rattle.hidingtree.proofs.HidingLemmas.{all_failed_before}
+use Rattle.requests.specs.Reasons.{RequestReason}
+use Rattle.requests.specs.Steps.{RequestContext}
+use Rattle.modules.specs.Answers.{cause_of, is_of_device}
+use Rattle.modules.specs.Responses.{count_cause}
+use Rattle.modules.specs.Verdicts.{in_sh}
+use Rattle.modules.specs.declared.refusal.Refusal.{Refusal}
+use Rattle.modulecmd.specs.Command.{standard}
+use Rattle.sitecertificate.specs.RecordUses.{IsAmong}
+use Rattle.sitelaws.specs.Laws.{ModulesFound}
+use Rattle.sitelaws.specs.Sites.{Site, Evaluated, IsOfSite, site_of}
+use Rattle.siteaudit.specs.Audits.{IsAudit, audited_file}
+use Rattle.siteaudit.specs.declared.auditing.AuditedModule.{AuditedModule}
+use Rattle.siteaudit.specs.declared.auditing.SiteAudit.{SiteAudit}
+use Rattle.sitereport.specs.declared.readable.ReadableAudit.{ReadableAudit}
+use Rattle.trials.specs.Trials.{TrialLooksAt}
+use Rattle.trials.specs.Views.{count_failed, has_failed}
+use Rattle.trials.specs.declared.trial.Trial.{Trial}
+use Rattle.trials.specs.declared.trial.Trial.TheVariants.{Returns, Leaves, LoadRefused, UnloadRefused, AlreadyLoaded}
+use Rattle.trials.specs.declared.trial.Trial.TheVariants.{LoadsAnother}
+use Rattle.sitecommand.specs.Audits.{AreUnreadable, IsSiteFault, given_up}
+use Rattle.sitecommand.specs.Looked.{JudgedLooksAt, ReadsUnlessFails, SiteLooksAt, TrialsLookAt}
+use Rattle.sitecommand.specs.Steps.{IsFoundWithout, IsReadable, IsTriedAudit}
+use Rattle.sitecommand.specs.Tried.{AreTrials, IsTrialOf, has_failed_trial, some_failed}
+use Rattle.sitecommand.specs.declared.audit_fault.AuditFault.TheVariants.{Refused}
+use Rattle.sitecommand.specs.declared.readable.SeenAudit.{SeenAudit}
+use Rattle.sitecommand.proofs.DirectoryLemmas.{are_in}
+
+-- ---- one trial
+
+by_cause : (c : Cause RequestReason) → is_of_device c ≡ true → 0 < count_cause c
+by_cause memory e = absurd (false≢true e)
+by_cause device e = omega arith
+by_cause (because reason) e = absurd (false≢true e)
+
+failed_counts : (trial : Trial) → has_failed trial ≡ true → 0 < count_failed trial
+failed_counts Returns e = absurd (false≢true e)
+failed_counts (Leaves names) e = absurd (false≢true e)
+failed_counts (LoadRefused refusal) e = by_cause (cause_of refusal) e
+failed_counts (UnloadRefused refusal) e = by_cause (cause_of refusal) e
+failed_counts AlreadyLoaded e = absurd (false≢true e)
+failed_counts (LoadsAnother name path) e = absurd (false≢true e)
+
+-- one that ended by the device has counted a failure
+pub has_counted : (trial : Trial) (old new : ℕ) → old + count_failed trial ≤ new → has_failed trial ≡ true → old < new
+has_counted trial old new l e = omega (arith, l, failed_counts trial e)
+
+-- ---- one trial more
+
+are_more : (s : RequestContext) (e : Environment) (ms : List AuditedModule) (ts : List (Option Trial)) (m : AuditedModule) (t : Option Trial) → AreTrials s e ms ts → IsTrialOf s e m t
+    → AreTrials s e (ms ++ m ∷ []) (ts ++ t ∷ [])
+are_more s e [] [] m t h k = (k, tt)
+are_more s e [] (x ∷ ts) m t h k = absurd h
+are_more s e (n ∷ ms) [] m t h k = absurd h
+are_more s e (n ∷ ms) (x ∷ ts) m t h k = (h.0, are_more s e ms ts m t h.1 k)
+
+pub trials_turn : (s : RequestContext) (e : Environment) (ms : List AuditedModule) (i : ℕ) (m : AuditedModule) (ts more : List (Option Trial)) (t : Option Trial) → i < length ms → m ≡ get_or ms i m
+    → more ≡ ts ++ t ∷ [] → AreTrials s e (take i ms) ts → IsTrialOf s e m t → AreTrials s e (take (i + 1) ms) more
+trials_turn s e ms i m ts more t l is pushed h k =
+    subst (λ (xs : List AuditedModule). AreTrials s e xs more) (sym (take_more ms i m l ∙ ap (λ (x : AuditedModule). take i ms ++ x ∷ []) (sym is)))
+    (subst (λ (ys : List (Option Trial)). AreTrials s e (take i ms ++ m ∷ []) ys) (sym pushed) (are_more s e (take i ms) ts m t h k))
+
+any_more : (ts : List (Option Trial)) (t : Option Trial) → some_failed (ts ++ t ∷ []) ≡ true → (some_failed ts ≡ true) ⊎ (has_failed_trial t ≡ true)
+any_more [] t h = one (or_cases (has_failed_trial t) false h)
+  where
+    one : (has_failed_trial t ≡ true) ⊎ (false ≡ true) → (some_failed [] ≡ true) ⊎ (has_failed_trial t ≡ true)
+    one (inl e) = inr e
+    one (inr e) = absurd (false≢true e)
+any_more (x ∷ ts) t h = one (or_cases (has_failed_trial x) (some_failed (ts ++ t ∷ [])) h) (λ e. any_more ts t e)
+  where
+    first_or : (a b : Bool) → a ≡ true → (a || b) ≡ true
+    first_or true b e = refl
+    first_or false b e = absurd (false≢true e)
+
+    later_or : (a b : Bool) → b ≡ true → (a || b) ≡ true
+    later_or true b e = refl
+    later_or false b e = e
+
+    later : (some_failed ts ≡ true) ⊎ (has_failed_trial t ≡ true) → (some_failed (x ∷ ts) ≡ true) ⊎ (has_failed_trial t ≡ true)
+    later (inl e) = inl (later_or (has_failed_trial x) (some_failed ts) e)
+    later (inr e) = inr e
+
+    one : (has_failed_trial x ≡ true) ⊎ (some_failed (ts ++ t ∷ []) ≡ true) → (some_failed (ts ++ t ∷ []) ≡ true → (some_failed ts ≡ true) ⊎ (has_failed_trial t ≡ true))
+        → (some_failed (x ∷ ts) ≡ true) ⊎ (has_failed_trial t ≡ true)
+    one (inl e) more = inl (first_or (has_failed_trial x) (some_failed ts) e)
+    one (inr e) more = later (more e)
+
+pub counted_turn : (ts more : List (Option Trial)) (t : Option Trial) (old mid new : ℕ) → more ≡ ts ++ t ∷ [] → old ≤ mid → mid ≤ new → (some_failed ts ≡ true → old < mid) → (has_failed_trial t ≡ true → mid < new)
+    → some_failed more ≡ true → old < new
+counted_turn ts more t old mid new pushed l k f g h = one (any_more ts t (ap some_failed (sym pushed) ∙ h))
+  where
+    one : (some_failed ts ≡ true) ⊎ (has_failed_trial t ≡ true) → old < new
+    one (inl e) = omega (arith, k, f e)
+    one (inr e) = omega (arith, l, g e)
+
+-- ---- what is read
+
+reads_trans : {T : Type 0} (agrees : T → Files → Listings → Type 0) (failures : T → ℕ) (old mid new : T) → ReadsOn agrees failures old mid → ReadsOn agrees failures mid new → ReadsOn agrees failures old new
+reads_trans agrees failures old mid new h k = record {
+  narrows = λ files listings a. h.narrows files listings (k.narrows files listings a);
+  counts_failures = omega (arith, h.counts_failures, k.counts_failures);
+}
+
+failed_since : (before same now : Text → Bool) (at : Text) → same ≡ before → FailedAt same now at → FailedAt before now at
+failed_since before same now at e f = subst (λ (b : Text → Bool). FailedAt b now at) e f
+
+-- one reading more
+pub reads_turn : {T : Type 0} (agrees : T → Files → Listings → Type 0) (failures : T → ℕ) (failed : T → Text → Bool) (old mid new : T) (LooksAt : Files → Listings → Text → Type 0) (fails : Bool)
+    → ReadsUnlessFails agrees failures failed old mid LooksAt → ReadsOn agrees failures mid new → (fails ≡ true → failures mid < failures new)
+    → FailsIf fails (failed mid) (failed new) (λ at. InEachPair (agrees new) (λ files listings. LooksAt files listings at))
+    → ReadsUnlessFails agrees failures failed old new LooksAt
+reads_turn agrees failures failed old mid new LooksAt false (inl h) k counts f = inl (reads_trans agrees failures old mid new h.0 k, f ∙ h.1)
+reads_turn agrees failures failed old mid new LooksAt true (inl h) k counts f = inr (record {
+  mid = new;
+  reads = reads_trans agrees failures old mid new h.0 k;
+  counted = (omega (arith, h.0.counts_failures, counts refl), omega arith);
+  at = f.0;
+  failed_at = failed_since (failed old) (failed mid) (failed new) f.0 h.1 f.1;
+  looks = f.2;
+})
+reads_turn agrees failures failed old mid new LooksAt fails (inr h) k counts f = inr (record {
+  mid = h.mid;
+  reads = h.reads;
+  counted = (h.counted.0, omega (arith, h.counted.1, k.counts_failures));
+  at = h.at;
+  failed_at = h.failed_at;
+  looks = h.looks;
+})
+
+-- failures are counted
+pub counts_unless : {T : Type 0} (agrees : T → Files → Listings → Type 0) (failures : T → ℕ) (failed : T → Text → Bool) (old new : T) (LooksAt : Files → Listings → Text → Type 0)
+    → ReadsUnlessFails agrees failures failed old new LooksAt → failures old ≤ failures new
+counts_unless agrees failures failed old new LooksAt (inl h) = h.0.counts_failures
+counts_unless agrees failures failed old new LooksAt (inr h) = omega (arith, h.counted.0, h.counted.1)
+
+-- ---- the modules of an audit
+
+among_map : {X Y : Type 0} (f : X → Y) (x : X) (xs : List X) → IsAmong x xs → IsAmong (f x) (map f xs)
+among_map f x [] h = absurd h
+among_map f x (y ∷ xs) (inl e) = inl (ap f e)
+among_map f x (y ∷ xs) (inr h) = inr (among_map f x xs h)
+
+pub among_at : {X : Type 0} (xs : List X) (i : ℕ) (x : X) → i < length xs → x ≡ get_or xs i x → IsAmong x xs
+among_at [] i x l e = absurd (omega (arith, l))
+among_at (y ∷ ys) zero x l e = inl e
+among_at (y ∷ ys) (suc i) x l e = inr (among_at ys i x (omega (arith, l)) e)
+
+of_site : ModulesFound → (site : Site) (withheld : List Text) (found : SiteAudit) (m : AuditedModule) → IsAudit site withheld found → IsAmong m found.modules.items → IsOfSite site (audited_file m)
+of_site law site withheld found m a among =
+    (law site a.dirs (map (λ (o : Evaluated). o.0) a.outcomes) a.walk.directories a.walk.modules (audited_file m)).0
+    (subst (IsAmong (audited_file m)) a.modules (among_map audited_file m found.modules.items among))
+
+-- ---- an audit and its trials
+
+pairs_later : (paths : List Text) (before after : Files → Listings → Type 0) → Narrows before after → Narrows (AgreesWithout paths before) (AgreesWithout paths after)
+pairs_later paths before after n = λ files listings a. record {
+  all_files = a.all_files;
+  all_folders = a.all_folders;
+  agree = n a.all_files a.all_folders a.agree;
+  files_left = a.files_left;
+  folders_left = a.folders_left;
+}
+
+found_later : (before after : Files → Listings → Type 0) (paths : List Text) (judged : Environment) (dirs withheld : List Text) (found : SiteAudit) → Narrows before after
+    → IsFoundWithout before paths judged dirs withheld found → IsFoundWithout after paths judged dirs withheld found
+found_later before after paths judged dirs withheld found n f = record {
+  directories = are_in before after dirs n f.directories;
+  begins = f.begins;
+  exact = λ files listings a. f.exact files listings (pairs_later paths before after n files listings a);
+  holds = λ files listings a. f.holds files listings (pairs_later paths before after n files listings a);
+}
+
+module _ {T : Type 0} (agrees : T → Files → Listings → Type 0) (failures : T → ℕ) (failed : T → Text → Bool) (old mid new : T) (judged : Environment) (dirs withheld : List Text) (seen : SeenAudit)
+    (reads : ReadsOn agrees failures mid new)
+    (readable : IsReadable (agrees mid) (HasFailedAt agrees failures failed mid) (failures old < failures mid) judged dirs withheld seen) where
+  abbrev paths : List Text
+  paths = texts_in seen.unreadable
+
+  caused : (paths ≡ []) ⊎ (failures old < failures mid) → (paths ≡ []) ⊎ (failures old < failures new)
+  caused (inl e) = inl e
+  caused (inr l) = inr (omega (arith, l, reads.counts_failures))
+
+  pub tried_audit : (audit : ReadableAudit) → audit.found ≡ seen.found → audit.unreadable ≡ seen.unreadable → failures old ≤ failures mid
+      → InEachPair (agrees new) (λ files listings. AreTrials (in_sh standard files listings) judged seen.found.modules.items audit.trials.items)
+      → (some_failed audit.trials.items ≡ true → failures mid < failures new)
+      → IsTriedAudit (agrees new) (HasFailedAt agrees failures failed new) (failures old < failures new) judged dirs withheld audit
+  tried_audit audit same_found same_paths counts tried ended = record {
+    unreadable = subst (λ (ps : _). AreUnreadable (HasFailedAt agrees failures failed new) (failures old < failures new) (texts_in ps)) (sym same_paths)
+        (record { order = readable.unreadable.order; failed = all_failed_before agrees failures failed mid new reads paths readable.unreadable.failed; cause = caused readable.unreadable.cause });
+    found = subst (λ (ps : _). IsFoundWithout (agrees new) (texts_in ps) judged dirs withheld audit.found) (sym same_paths)
+        (subst (λ (f : SiteAudit). IsFoundWithout (agrees new) paths judged dirs withheld f) (sym same_found)
+        (found_later (agrees mid) (agrees new) paths judged dirs withheld seen.found reads.narrows readable.found));
+    tried = subst (λ (f : SiteAudit). InEachPair (agrees new) (λ files listings. AreTrials (in_sh standard files listings) judged f.modules.items audit.trials.items)) (sym same_found) tried;
+    failed = λ t. omega (arith, counts, ended t);
+  }
+
+  -- the trials read on, at paths of their own
+  pub reads_with_trials : ModulesFound → ReadsUnlessFails agrees failures failed old mid (SiteLooksAt judged dirs) → ReadsUnlessFails agrees failures failed mid new (TrialsLookAt judged seen.found.modules.items)
+      → ReadsUnlessFails agrees failures failed old new (JudgedLooksAt judged dirs)
+  reads_with_trials law (inl h) (inl k) = inl (reads_trans agrees failures old mid new h.0 k.0, k.1 ∙ h.1)
+  reads_with_trials law (inl h) (inr f) = inr (record {
+    mid = f.mid;
+    reads = reads_trans agrees failures old mid f.mid h.0 f.reads;
+    counted = (omega (arith, h.0.counts_failures, f.counted.0), f.counted.1);
+    at = f.at;
+    failed_at = failed_since (failed old) (failed mid) (failed f.mid) f.at h.1 f.failed_at;
+    looks = λ files listings a.
+        let t = f.looks files listings a in
+        let pair : AgreesWithout paths (agrees mid) (without paths files) (without paths listings) =
+        record { all_files = files; all_folders = listings; agree = f.reads.narrows files listings a; files_left = refl; folders_left = refl } in
+        inr (record {
+          paths = paths;
+          m = audited_file t.0;
+          of_site = of_site law (site_of standard judged (without paths files) (without paths listings)) withheld seen.found t.0 (readable.found.exact (without paths files) (without paths listings) pair) t.1;
+          looks = t.2;
+        });
+  })
+  reads_with_trials law (inr h) k = inr (record {
+    mid = h.mid;
+    reads = h.reads;
+    counted = (h.counted.0, omega (arith, h.counted.1, reads.counts_failures));
+    at = h.at;
+    failed_at = h.failed_at;
+    looks = λ files listings a. inl (h.looks files listings a);
+  })
+
+-- want of memory
+pub out_of_memory : (agrees : Files → Listings → Type 0) (HasFailed : Text → Type 0) (often : Type 0) (judged : Environment) (dirs : List Text) (refusal : Refusal) → cause_of refusal ≡ memory
+    → IsSiteFault agrees HasFailed often judged dirs (Refused refusal)
+out_of_memory agrees HasFailed often judged dirs refusal e = given_up refusal (subst (λ (c : Cause RequestReason). Applies c often (λ reason. ⊥)) (sym e) tt)
+
+-- one of the modules is tried
+pub looks_among : (agrees : Files → Listings → Type 0) (judged : Environment) (modules : List AuditedModule) (m : AuditedModule) (fails : Bool) (before now : Text → Bool) → IsAmong m modules
+    → FailsIf fails before now (λ at. InEachPair agrees (λ files listings. TrialLooksAt (in_sh standard files listings) judged (string_bytes m.name) (string_bytes m.path) at))
+    → FailsIf fails before now (λ at. InEachPair agrees (λ files listings. TrialsLookAt judged modules files listings at))
+looks_among agrees judged modules m false before now among h = h
+looks_among agrees judged modules m true before now among h = (h.0, h.1, λ files listings a. (m, among, h.2 files listings a))

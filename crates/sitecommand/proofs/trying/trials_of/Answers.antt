@@ -1,0 +1,43 @@
+use Rattle.std.proofs.Common.{arith}
+use Rattle.modules.specs.Verdicts.{in_sh}
+use Rattle.modulecmd.specs.Command.{standard}
+use Rattle.sitecommand.specs.Looked.{TrialsLookAt}
+use Rattle.sitecommand.specs.Tried.{has_failed_trial}
+use Rattle.sitecommand.proofs.TryingLemmas.{among_at, counted_turn, looks_among, reads_turn, trials_turn}
+use Rattle.sitecommand.proofs.trying.trials_of.Goals as goal
+
+pub loop-module-preserved : goal.loop-module-preserved
+loop-module-preserved g c =
+    let m = c.module-item.result in
+    let t = c.in_ok-trial_of.field-0 in
+    let i = c.loop-module.invariant in
+    let judged = c.args.judged.now in
+    let modules = c.args.modules.now in
+    let failed = g.T.Tree.failed in
+    let old = c.args.tree.now in
+    let mid = c.loop-module.tree in
+    let new = c.trial_of.new.tree in record {
+      reads = record { narrows = λ files listings k. i.reads.narrows files listings (c.trial_of.ensures.reads.narrows files listings k); counts_failures = omega arith };
+      tried = λ files listings k.
+          trials_turn (in_sh standard files listings) judged modules c.loop-module.module-index m c.loop-module.trials.items c.push.new.self.items t c.loop-module-test.true c.module-item.is
+          c.in_ok-push.ensures.items (i.tried files listings (c.trial_of.ensures.reads.narrows files listings k)) (c.in_ok-trial_of.ensures.tried files listings k);
+      counted = counted_turn c.loop-module.trials.items c.push.new.self.items t (g.T.Tree.failures old) (g.T.Tree.failures mid) (g.T.Tree.failures new) c.in_ok-push.ensures.items
+          i.reads.counts_failures c.trial_of.ensures.reads.counts_failures i.counted c.in_ok-trial_of.ensures.failures;
+      looked = reads_turn g.T.Tree.agrees g.T.Tree.failures failed old mid new (TrialsLookAt judged modules) (has_failed_trial t) i.looked c.trial_of.ensures.reads c.in_ok-trial_of.ensures.failures
+          (looks_among (g.T.Tree.agrees new) judged modules m (has_failed_trial t) (failed mid) (failed new)
+          (among_at modules c.loop-module.module-index m c.loop-module-test.true c.module-item.is) c.in_ok-trial_of.ensures.failed);
+    }
+
+pub returns-in_err-push-clause-failed : goal.returns-in_err-push-clause-failed
+returns-in_err-push-clause-failed g c =
+    let m = c.module-item.result in
+    let t = c.in_ok-trial_of.field-0 in
+    let i = c.loop-module.invariant in
+    let judged = c.args.judged.now in
+    let modules = c.args.modules.now in
+    let failed = g.T.Tree.failed in
+    let mid = c.loop-module.tree in
+    let new = c.trial_of.new.tree in
+    reads_turn g.T.Tree.agrees g.T.Tree.failures failed c.args.tree.now mid new (TrialsLookAt judged modules) (has_failed_trial t) i.looked c.trial_of.ensures.reads c.in_ok-trial_of.ensures.failures
+    (looks_among (g.T.Tree.agrees new) judged modules m (has_failed_trial t) (failed mid) (failed new)
+    (among_at modules c.loop-module.module-index m c.loop-module-test.true c.module-item.is) c.in_ok-trial_of.ensures.failed)

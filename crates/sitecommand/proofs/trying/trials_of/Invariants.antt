@@ -1,0 +1,17 @@
+use Rattle.std.proofs.Common.{◌≡◌, ◌<◌, true, take}
+use Rattle.filetree.specs.Agreement.{InEachPair, ReadsOn}
+use Rattle.modules.specs.Verdicts.{in_sh}
+use Rattle.modulecmd.specs.Command.{standard}
+use Rattle.sitecommand.specs.Looked.{ReadsUnlessFails, TrialsLookAt}
+use Rattle.sitecommand.specs.Tried.{AreTrials, some_failed}
+use Rattle.sitecommand.proofs.trying.trials_of.Given as goal
+
+-- those of the modules so far
+abbrev pub invariant-loop-module : goal.invariant-loop-module
+invariant-loop-module g l = record {
+  reads : ReadsOn g.T.Tree.agrees g.T.Tree.failures l.initial.tree l.tree;
+  tried : InEachPair (g.T.Tree.agrees l.tree) (λ files listings.
+      AreTrials (in_sh standard files listings) l.judged (take l.module-index l.modules) l.trials.items);
+  counted : some_failed l.trials.items ≡ true → g.T.Tree.failures l.initial.tree < g.T.Tree.failures l.tree;
+  looked : ReadsUnlessFails g.T.Tree.agrees g.T.Tree.failures g.T.Tree.failed l.initial.tree l.tree (TrialsLookAt l.judged l.modules);
+}

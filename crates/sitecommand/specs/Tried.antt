@@ -1,0 +1,45 @@
+-- What happens with the modules of an audit in the environment that is judged (own): their trials.
+use Rattle.std.specs.Prelude.{◌≡◌, Bool, true, false, List, [], ◌∷◌, Option, Some, None, string_bytes}
+use Rattle.std.specs.List.{list_any}
+use Rattle.envvars.specs.Environment.{Environment}
+use Rattle.requests.specs.Steps.{RequestContext}
+use Rattle.siteaudit.specs.declared.auditing.AuditedModule.{AuditedModule}
+use Rattle.siteaudit.specs.declared.standing.Standing.{Standing}
+use Rattle.siteaudit.specs.declared.standing.Standing.TheVariants.{Certified, Asks, OneWay, ReadsUsed, OutOfStep}
+use Rattle.siteaudit.specs.declared.standing.Standing.TheVariants.{Withheld, Clashes, Refused}
+use Rattle.trials.specs.Trials.{HasTrial}
+use Rattle.trials.specs.Views.{trial_view, has_failed}
+use Rattle.trials.specs.declared.trial.Trial.{Trial}
+
+-- A module that stands so is tried: it isn't certified, and its evaluation isn't refused.
+abbrev pub is_tried : Standing → Bool
+is_tried Certified = false
+is_tried (Asks first) = true
+is_tried (OneWay first) = true
+is_tried (ReadsUsed used) = true
+is_tried (OutOfStep variable one other) = true
+is_tried Withheld = true
+is_tried (Clashes clash) = true
+is_tried (Refused refusal) = false
+
+-- the trial of a module, in this environment; none where it isn't tried
+abbrev pub IsTrialOf : RequestContext → Environment → AuditedModule → Option Trial → Type 0
+IsTrialOf s e m None = is_tried m.standing ≡ false
+IsTrialOf s e m (Some trial) =
+    (is_tried m.standing ≡ true) × HasTrial s e (string_bytes m.name) (string_bytes m.path) (trial_view trial)
+
+-- the same of each of the modules, in their order
+abbrev pub AreTrials : RequestContext → Environment → List AuditedModule → List (Option Trial) → Type 0
+AreTrials s e [] [] = Unit {0}
+AreTrials s e [] (trial ∷ trials) = ⊥
+AreTrials s e (m ∷ ms) [] = ⊥
+AreTrials s e (m ∷ ms) (trial ∷ trials) = IsTrialOf s e m trial × AreTrials s e ms trials
+
+-- it ended because the device failed
+abbrev pub has_failed_trial : Option Trial → Bool
+has_failed_trial None = false
+has_failed_trial (Some trial) = has_failed trial
+
+-- one of them did
+abbrev pub some_failed : List (Option Trial) → Bool
+some_failed trials = list_any has_failed_trial trials

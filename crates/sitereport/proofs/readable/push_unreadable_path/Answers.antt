@@ -1,0 +1,10 @@
+use Rattle.sitereport.proofs.TextLemmas.{more}
+use Rattle.sitereport.specs.Readable.{unreadable}
+use Rattle.sitereport.proofs.readable.push_unreadable_path.Goals as goal
+
+pub returns : goal.returns
+unfolding unreadable
+returns c =
+    let r = c.push_text-2.result in
+    more r c.args.report.now.items c.push_text.new.report.items c.push_text-2.new.report.items _ _ c.in_ok-push_text.ensures
+    (more r c.push_text.new.report.items c.push_field.new.report.items c.push_text-2.new.report.items _ _ c.in_ok-push_field.ensures c.push_text-2.ensures)
