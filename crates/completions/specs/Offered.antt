@@ -1,10 +1,11 @@
 -- What is offered for completion, with the modules that can be loaded (module(1)).
 use Rattle.std.specs.Prelude.{◌≡◌, ◌⊎◌, ◌<◌, ◌≤◌, ◌==◌, ◌||◌, ℕ, Bool, true, List, [], ◌∷◌, length, if◌then◌else◌}
 use Rattle.std.specs.Prelude.{Option}
-use Rattle.std.specs.List.{All, flat_map, list_any}
+use Rattle.std.specs.List.{flat_map, list_any}
 use Rattle.message.specs.Messages.{Text}
 use Rattle.envvars.specs.Environment.{Environment}
 use Rattle.filetree.specs.Agreement.{Files, Listings, InEachPair}
+use Rattle.hidingtree.specs.Hidden.{AllFailed}
 use Rattle.search.specs.DefaultFiles.{DefaultFileResult}
 use Rattle.search.specs.Listed.{Listing, names_of}
 use Rattle.requests.specs.Steps.{modulepath}
@@ -35,10 +36,10 @@ names_in listings = flat_map (λ listing. names_of listing.1) listings
 -- those of its failures before and after: in between it has failed where there are such paths, and these are no more
 -- than its failures.
 pub record CanBeLoaded (results : Text → Text → Option DefaultFileResult → Type 0)
-    (agrees : Files → Listings → Type 0) (HasFailed : Text → Type 0) (before now : ℕ) (e : Environment) (word : Text)
+    (agrees : Files → Listings → Type 0) (has_failed : Text → Bool) (before now : ℕ) (e : Environment) (word : Text)
     (names : List Text) : Type 0 where
   pub unreadable : List Text
-  pub failed : All HasFailed unreadable
+  pub failed : AllFailed has_failed unreadable
   pub cause : (unreadable ≡ []) ⊎ (before < now)
   pub counted : length unreadable ≤ now
   pub listed : InEachPair agrees (λ files folders. (listings : List Listing)
@@ -46,9 +47,9 @@ pub record CanBeLoaded (results : Text → Text → Option DefaultFileResult →
       × (names ≡ names_in listings))
 
 -- These are the names of the kinds, where those of modules that can be loaded are such, if a kind asks for them.
-abbrev pub Offers : (Text → Text → Option DefaultFileResult → Type 0) → (Files → Listings → Type 0) → (Text → Type 0)
+abbrev pub Offers : (Text → Text → Option DefaultFileResult → Type 0) → (Files → Listings → Type 0) → (Text → Bool)
     → ℕ → ℕ → Environment → List NameKind → Text → List Text → Type 0
-Offers results agrees HasFailed before now e kinds word names =
+Offers results agrees has_failed before now e kinds word names =
     (available : List Text)
-    × (list_any is_available kinds ≡ true → CanBeLoaded results agrees HasFailed before now e word available)
+    × (list_any is_available kinds ≡ true → CanBeLoaded results agrees has_failed before now e word available)
     × (names ≡ offered e available kinds)

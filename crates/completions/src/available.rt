@@ -3,7 +3,6 @@ ghost use Rattle.std.specs.Prelude.{◌≡◌, ◌≤◌, ◌++◌, map, IfOk, I
 ghost use Rattle.filetree.specs.declared.tree.TreeFault.TheVariants as faults;
 ghost use Rattle.envvars.specs.Texts.{texts_in};
 ghost use Rattle.filetree.specs.Agreement.{FailsOnlyByDevice};
-ghost use Rattle.hidingtree.specs.Hidden.{HasFailedAt};
 ghost use Rattle.lookup.specs.DefaultFileResults.{HasResult};
 ghost use Rattle.search.specs.ListingEntries.{listing_entry_view};
 ghost use Rattle.search.specs.Listed.{names_of};
@@ -88,7 +87,7 @@ pub fn names_offered<T: Tree + Drop>(
     ensures cause { FailsOnlyByDevice (T.failures tree.old.tree) (T.failures tree.new.tree) result }
     ensures given_up { IsErrOf result faults.Device → 1000 ≤ T.failures tree.new.tree }
     ensures offered { IfOk result (λ names. spec.Offers (HasResult limits) (T.agrees tree.new.tree)
-        (HasFailedAt T.agrees T.failures T.failed tree.new.tree) (T.failures tree.old.tree) (T.failures tree.new.tree)
+        (T.failed tree.new.tree) (T.failures tree.old.tree) (T.failures tree.new.tree)
         env.now kinds.now word.now (texts_in names)) }
 {
     if !ask_for_modules(kinds) {

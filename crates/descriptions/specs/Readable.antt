@@ -1,11 +1,10 @@
 -- What `whatis` without names and `keyword` report where something can't be read (module(1)): what stands there is left
 -- out, and named.
-use Rattle.std.specs.Prelude.{◌≡◌, ◌≤◌, ◌++◌, ℕ, List, codes, flat_map, length, Option}
-use Rattle.std.specs.List.{All}
+use Rattle.std.specs.Prelude.{◌≡◌, ◌≤◌, ◌++◌, ℕ, Bool, List, codes, flat_map, length, Option}
 use Rattle.envvars.specs.Environment.{Environment}
 use Rattle.envvars.specs.Texts.{Text}
 use Rattle.filetree.specs.Agreement.{Files, Listings}
-use Rattle.hidingtree.specs.Hidden.{AgreesWithout}
+use Rattle.hidingtree.specs.Hidden.{AgreesWithout, AllFailed}
 use Rattle.modulefile.specs.Reports.{line_of}
 use Rattle.shelltext.specs.declared.shell.Shell.{Shell}
 use Rattle.tclrules.specs.declared.limits.Limits.{Limits}
@@ -23,8 +22,8 @@ pub record DescribesWithout (paths : List Text) (agrees : Files → Listings →
   pub leaves_out : left_out ≡ left ++ flat_map unreadable_line paths
 
 -- The same with some paths at which the device has failed, no more than it has failed: none, where it never did.
-abbrev pub IsReadableDescription : (Files → Listings → Type 0) → (Text → Type 0) → ℕ → Limits → Shell → Environment
+abbrev pub IsReadableDescription : (Files → Listings → Type 0) → (Text → Bool) → ℕ → Limits → Shell → Environment
     → Option Text → Text → Text → Type 0
-IsReadableDescription agrees HasFailed failures limits shell e sought text left_out =
-    (unreadable : List Text) × All HasFailed unreadable × (length unreadable ≤ failures)
+IsReadableDescription agrees has_failed failures limits shell e sought text left_out =
+    (unreadable : List Text) × AllFailed has_failed unreadable × (length unreadable ≤ failures)
     × DescribesWithout unreadable agrees limits shell e sought text left_out

@@ -2,7 +2,6 @@
 ghost use Rattle.std.specs.Prelude.{◌≡◌, ◌<◌, ◌≤◌, ◌++◌, flat_map, map, string_bytes, IfOk, IfErr, OnOk};
 ghost use Rattle.std.specs.Option.{option_map};
 ghost use Rattle.filetree.specs.Causes.{Applies};
-ghost use Rattle.hidingtree.specs.Hidden.{HasFailedAt};
 ghost use Rattle.modules.specs.Answers.{cause_of};
 ghost use Rattle.descriptions.specs.Readable.{IsReadableDescription, unreadable_line};
 
@@ -61,7 +60,7 @@ pub fn describe_readable<T: Tree + Drop>(
     limits: Limits,
 ) -> Result<Description, Refusal>
     ensures described { IfOk result (λ d. IsReadableDescription (T.agrees tree.new.tree)
-        (HasFailedAt T.agrees T.failures T.failed tree.new.tree) (T.failures tree.new.tree) limits shell env.now
+        (T.failed tree.new.tree) (T.failures tree.new.tree) limits shell env.now
         (option_map (λ t. t.now) sought.entry) (string_bytes d.text) (string_bytes d.left_out)) }
     ensures fault { IfErr result (λ refusal. Applies (cause_of refusal)
         ((T.failures tree.old.tree < T.failures tree.new.tree) × (1000 ≤ T.failures tree.new.tree)) (λ reason. ⊥)) }

@@ -1,5 +1,8 @@
 -- The path at which the device failed in a request (own).
-use Rattle.std.specs.Prelude.{◌≡◌, ◌⊎◌, ℕ, Bool, true, false, List, bytes_eq, string_bytes, String, Option, Some, None}
+use Rattle.std.specs.Prelude.{◌≡◌, ◌⊎◌, ℕ, Bool, true, List, bytes_eq, map, string_bytes, vec_items, String, Option, Some}
+use Rattle.std.specs.Prelude.{None}
+use Rattle.std.specs.List.{list_any}
+use Rattle.std.specs.declared.vec.Vec.{Vec}
 use Rattle.std.specs.declared.alloc.Global.{Global}
 use Rattle.envvars.specs.Environment.{Environment}
 use Rattle.envvars.specs.Texts.{Text}
@@ -12,10 +15,9 @@ use Rattle.tclrules.specs.declared.limits.Limits.{Limits}
 use Rattle.explanations.specs.Advised.{IsRefused}
 use Rattle.explanations.specs.Explained.{IsAccepted}
 
--- the path that a watched tree has kept is this one
-abbrev pub is_kept : Option (String Global) → List ℕ → Bool
-is_kept None path = false
-is_kept (Some kept) path = bytes_eq (string_bytes kept) path
+-- the path is among those that a watched tree has kept
+abbrev pub is_kept : Vec (String Global) Global → List ℕ → Bool
+is_kept kept path = list_any (bytes_eq path) (map string_bytes (vec_items kept))
 
 -- by each pair of maps that agrees the request looks at this path
 abbrev pub IsLookedAt : (Files → Listings → Type 0) → Limits → Shell → Environment → RequestedAction → Text → Type 0

@@ -1,7 +1,8 @@
 //! Where the device failed.
-ghost use Rattle.std.specs.Prelude.{◌≡◌, ◌<◌, false, true, string_bytes, IfErr, IfNone, IfOk, IfSome, Some};
-ghost use Rattle.std.specs.Option.{ForSome};
-ghost use Rattle.filetree.specs.Agreement.{Narrows};
+ghost use Rattle.std.specs.Prelude.{◌≡◌, ◌<◌, false, true, map, string_bytes, IfErr, IfNone, IfOk, IfSome, Some};
+ghost use Rattle.std.specs.List.{All};
+ghost use Rattle.filetree.specs.Agreement.{FailsIf, Narrows, is_device};
+ghost use Rattle.filetree.specs.declared.tree.TreeFault.TheVariants as faults;
 ghost use Rattle.requests.specs.RequestViews.{action_view};
 ghost use Rattle.givenup.specs.Causes.{is_given_up};
 ghost use Rattle.modules.specs.Answers.{cause_of};
@@ -14,40 +15,60 @@ use modules::{Refusal, Request, RequestChanges, run_changes};
 use std::alloc::{AllocError, Global};
 use tclrules::Limits;
 
-/// A tree over another, which keeps the path at which the device failed last. Memory for the path is taken before each
-/// call, since behind a failure its want would lose the path.
+/// A tree over another, which keeps the paths at which the device failed.
 #[derive(Drop)]
 struct WatchedTree<T: Tree + Drop> {
     tree: T,
     alloc: Global,
-    failed: Option<String>,
-    /// The device has failed at the path that is kept.
-    ghost failed_there: { ForSome failed (λ path. T.failed tree (string_bytes path) ≡ true) },
+    /// The paths at which the device failed, in the order of the failures.
+    failed: Vec<String>,
+    /// The device has failed at each path that is kept.
+    ghost failed_there: { All (λ path. T.failed tree path ≡ true) (map string_bytes failed.items) },
+}
+
+impl<T: Tree + Drop> WatchedTree<T> {
+    /// The fault; where it is the device's, the path is kept. Without memory for it the fault is want of memory.
+    fn keep(&mut self, path: &str, fault: TreeFault) -> TreeFault
+        requires failed { fault ≡ faults.Device → T.failed self.old.tree path.now ≡ true }
+        ensures tree { self.new.tree ≡ self.old.tree }
+        ensures failed { FailsIf (is_device result) (is_kept self.old.failed) (is_kept self.new.failed)
+            (λ at. at ≡ path.now) }
+        ensures fault { result ≡ faults.Device → fault ≡ faults.Device }
+    {
+        match fault {
+            TreeFault::OutOfMemory => TreeFault::OutOfMemory,
+            TreeFault::Device => {
+                let Ok(kept) = String::from_str(self.alloc, path) else {
+                    return TreeFault::OutOfMemory;
+                };
+                if self.failed.push(kept).is_err() {
+                    return TreeFault::OutOfMemory;
+                }
+                TreeFault::Device
+            }
+        }
+    }
 }
 
 impl<T: Tree + Drop> Tree for WatchedTree<T> {
     ghost failures = { λ t. T.failures t.tree };
 
-    ghost failed = { λ t path. is_kept t.failed path };
+    ghost failed = { λ t. is_kept t.failed };
 
     ghost agrees = { λ t files listings. T.agrees t.tree files listings };
 
     fn read(&mut self, path: &str) -> Result<Option<Vec<u8>>, TreeFault> {
-        let kept = String::from_str(self.alloc, path)?;
-        let answer = self.tree.read(path);
-        if let Err(TreeFault::Device) = &answer {
-            self.failed = Some(kept);
+        match self.tree.read(path) {
+            Ok(file) => Ok(file),
+            Err(fault) => Err(self.keep(path, fault)),
         }
-        answer
     }
 
     fn begins_with(&mut self, path: &str, prefix: &[u8]) -> Result<bool, TreeFault> {
-        let kept = String::from_str(self.alloc, path)?;
-        let answer = self.tree.begins_with(path, prefix);
-        if let Err(TreeFault::Device) = &answer {
-            self.failed = Some(kept);
+        match self.tree.begins_with(path, prefix) {
+            Ok(begins) => Ok(begins),
+            Err(fault) => Err(self.keep(path, fault)),
         }
-        answer
     }
 
     fn may_list(&self, path: &str) -> bool {
@@ -55,27 +76,23 @@ impl<T: Tree + Drop> Tree for WatchedTree<T> {
     }
 
     fn see(&mut self, path: &str, prefix: &[u8]) -> Result<SeenPath, TreeFault> {
-        let kept = String::from_str(self.alloc, path)?;
-        let answer = self.tree.see(path, prefix);
-        if let Err(TreeFault::Device) = &answer {
-            self.failed = Some(kept);
+        match self.tree.see(path, prefix) {
+            Ok(seen) => Ok(seen),
+            Err(fault) => Err(self.keep(path, fault)),
         }
-        answer
     }
 
     fn entries(&mut self, dir: &str) -> Result<Option<Vec<String>>, TreeFault> {
-        let kept = String::from_str(self.alloc, dir)?;
-        let answer = self.tree.entries(dir);
-        if let Err(TreeFault::Device) = &answer {
-            self.failed = Some(kept);
+        match self.tree.entries(dir) {
+            Ok(names) => Ok(names),
+            Err(fault) => Err(self.keep(dir, fault)),
         }
-        answer
     }
 
     ghost satisfiable = { λ t. T.satisfiable t.tree };
 }
 
-/// The path that was kept; or nothing, where the request has an outcome.
+/// The path that was kept last; or nothing, where the request has an outcome.
 ///
 /// It fails for want of memory.
 fn answer(
@@ -110,8 +127,9 @@ pub fn failed_path<T: Tree + Drop>(
     let mut watched = WatchedTree {
         tree,
         alloc,
-        failed: None,
+        failed: Vec::new(alloc),
     };
     let outcome = run_changes(alloc, request, env, &mut watched, limits);
-    answer(watched.failed, outcome)
+    let mut kept = watched.failed;
+    answer(kept.pop(), outcome)
 }

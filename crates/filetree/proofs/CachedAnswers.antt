@@ -128,6 +128,7 @@ pub one_more : (xs : List (List ℕ)) (path : List ℕ) → FailedAt (λ p. list
 one_more xs path = record {
   here = any_end (bytes_eq path) xs path ∙ or_right (list_any (bytes_eq path) xs) (bytes_eq path path) ((bytes_eq-Decides path path).1 refl);
   alone = λ p h. ⊎_elim (λ q. inl q) (λ q. inr ((bytes_eq-Decides p path).0 q)) (or_cases (list_any (bytes_eq p) xs) (bytes_eq p path) (sym (any_end (bytes_eq p) xs path) ∙ h));
+  kept = λ p h. any_end (bytes_eq p) xs path ∙ ap (λ b. b || bytes_eq p path) h;
 }
 
 pub map_end : {A B : Type 0} (f : A → B) (xs : List A) (y : A) → map f (xs ++ y ∷ []) ≡ map f xs ++ f y ∷ []

@@ -68,10 +68,11 @@ abbrev pub is_device : TreeFault → Bool
 is_device OutOfMemory = false
 is_device Device = true
 
--- By the paths with failures before and after a call: this one is among them, and no other is new.
+-- By the paths with failures before and after a call: this one is among them, no other is new, and none is forgotten.
 pub record FailedAt (before now : List ℕ → Bool) (path : List ℕ) : Type 0 where
   pub here : now path ≡ true
   pub alone : (p : List ℕ) → now p ≡ true → (before p ≡ true) ⊎ (p ≡ path)
+  pub kept : (p : List ℕ) → before p ≡ true → now p ≡ true
 
 -- The test says whether the call failed by the device. Then it failed at one path, which has the property; else
 -- nowhere.

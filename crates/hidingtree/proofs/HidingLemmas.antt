@@ -1,19 +1,18 @@
 -- Files and directories without what stands at some paths.
 use Rattle.std.proofs.Common.{◌≡◌, inr, ℕ, Bool, true, false, ◌||◌, List, [], ◌∷◌, ◌++◌, map, refl, ap, sym, subst, ◌∙◌, Option, None, bytes_eq, if◌then◌else◌}
-use Rattle.std.proofs.Common.{String, Global, string_bytes, arith}
-use Rattle.std.proofs.Math.Logic.{∥∥₁_map}
+use Rattle.std.proofs.Common.{String, Global, string_bytes, Result, Ok, Err}
 use Rattle.std.specs.Option.{ForSome}
-use Rattle.std.specs.List.{All, list_any}
+use Rattle.std.specs.List.{list_any}
 use Rattle.std.proofs.lemmas.List.{map-append}
 use Rattle.std.proofs.lemmas.Bool.{false≢true}
 use Rattle.std.proofs.lemmas.List.Elements.{All-weaker}
 use Rattle.std.proofs.lemmas.List.Folds.{list_any-append}
 use Rattle.std.proofs.lemmas.Slice.Eq.{bytes_eq-Decides}
 use Rattle.message.specs.Messages.{Text}
-use Rattle.filetree.specs.Agreement.{Files, Listings, InEachPair, Narrows, ReadsOn, FailsIf, is_device}
+use Rattle.filetree.specs.Agreement.{Files, Listings, InEachPair, Narrows, FailsAt, FailsIf, is_device}
 use Rattle.filetree.specs.declared.tree.TreeFault.{TreeFault}
 use Rattle.filetree.specs.declared.tree.TreeFault.TheVariants.{Device}
-use Rattle.hidingtree.specs.Hidden.{AgreesWithout, AreApart, FailedBefore, HasFailedAt, MayAgreeWithout, MayBeLeft, is_among, without}
+use Rattle.hidingtree.specs.Hidden.{AgreesWithout, AllFailed, AreApart, MayAgreeWithout, MayBeLeft, is_among, without}
 use Rattle.hidingtree.specs.Left.{left_without}
 
 -- one of the elements passes a test of what it stands for
@@ -152,40 +151,29 @@ in_whole_pairs hidden seen agrees P apart holds = λ files folders a.
 
 -- ---- where the device has failed
 
--- what has failed in a state has failed after it
-later : {T : Type 0} (agrees : T → Files → Listings → Type 0) (failures : T → ℕ) (failed : T → Text → Bool) (old new : T) → ReadsOn agrees failures old new
-    → (path : Text) → FailedBefore agrees failures failed old path → FailedBefore agrees failures failed new path
-later agrees failures failed old new on path h = record {
-  state = h.state;
-  there = h.there;
-  reads_on = record {
-    narrows = λ files folders a. h.reads_on.narrows files folders (on.narrows files folders a);
-    counts_failures = omega (arith, h.reads_on.counts_failures, on.counts_failures);
-  };
-}
+-- a call forgets no path with failures
+if_kept : (t : Bool) (before now : Text → Bool) (Where : Text → Type 0) → FailsIf t before now Where → (path : Text) → before path ≡ true → now path ≡ true
+if_kept false before now Where h path was = subst (λ (f : Text → Bool). f path ≡ true) (sym h) was
+if_kept true before now Where h path was = h.1.kept path was
 
-pub failed_before : {T : Type 0} (agrees : T → Files → Listings → Type 0) (failures : T → ℕ) (failed : T → Text → Bool) (old new : T) → ReadsOn agrees failures old new
-    → (path : Text) → HasFailedAt agrees failures failed old path → HasFailedAt agrees failures failed new path
-failed_before agrees failures failed old new on path h = ∥∥₁_map h (later agrees failures failed old new on path)
+failed_too : {X E : Type 0} (is_failure : E → Bool) (before now : Text → Bool) (result : Result X E) (Where : Text → Type 0) → FailsAt is_failure before now result Where
+    → (path : Text) → before path ≡ true → now path ≡ true
+failed_too is_failure before now (Ok x) Where h path was = subst (λ (f : Text → Bool). f path ≡ true) (sym h) was
+failed_too is_failure before now (Err e) Where h path was = if_kept (is_failure e) before now Where h path was
 
-pub all_failed_before : {T : Type 0} (agrees : T → Files → Listings → Type 0) (failures : T → ℕ) (failed : T → Text → Bool) (old new : T) → ReadsOn agrees failures old new
-    → (paths : List Text) → All (HasFailedAt agrees failures failed old) paths → All (HasFailedAt agrees failures failed new) paths
-all_failed_before agrees failures failed old new on paths all =
-    All-weaker (HasFailedAt agrees failures failed old) (HasFailedAt agrees failures failed new) (failed_before agrees failures failed old new on) paths all
+pub all_failed_too : {X E : Type 0} (is_failure : E → Bool) (before now : Text → Bool) (result : Result X E) (Where : Text → Type 0) → FailsAt is_failure before now result Where
+    → (paths : List Text) → AllFailed before paths → AllFailed now paths
+all_failed_too is_failure before now result Where h paths all =
+    All-weaker (λ path. before path ≡ true) (λ path. now path ≡ true) (failed_too is_failure before now result Where h) paths all
 
-pub some_failed_before : {T : Type 0} (agrees : T → Files → Listings → Type 0) (failures : T → ℕ) (failed : T → Text → Bool) (old new : T) → ReadsOn agrees failures old new
-    → (path : Option (String Global)) → ForSome path (λ p. HasFailedAt agrees failures failed old (string_bytes p)) → ForSome path (λ p. HasFailedAt agrees failures failed new (string_bytes p))
-some_failed_before agrees failures failed old new on path h = λ p e. failed_before agrees failures failed old new on (string_bytes p) (h p e)
+pub some_failed_too : {X E : Type 0} (is_failure : E → Bool) (before now : Text → Bool) (result : Result X E) (Where : Text → Type 0) → FailsAt is_failure before now result Where
+    → (path : Option (String Global)) → ForSome path (λ p. before (string_bytes p) ≡ true) → ForSome path (λ p. now (string_bytes p) ≡ true)
+some_failed_too is_failure before now result Where h path some = λ p e. failed_too is_failure before now result Where h (string_bytes p) (some p e)
 
 -- a call that fails by the device at a path leaves it among those with failures
 at_path : (t : Bool) (before now : Text → Bool) (path : Text) → FailsIf t before now (λ at. at ≡ path) → t ≡ true → now path ≡ true
 at_path false before now path h e = absurd (false≢true e)
 at_path true before now path h e = ap now (sym h.2) ∙ h.1.here
 
-pub failed_now : {T : Type 0} (agrees : T → Files → Listings → Type 0) (failures : T → ℕ) (failed : T → Text → Bool) (now : T) (before : Text → Bool) (fault : TreeFault) (path : Text)
-    → FailsIf (is_device fault) before (failed now) (λ at. at ≡ path) → fault ≡ Device → HasFailedAt agrees failures failed now path
-failed_now agrees failures failed now before fault path h is = ∣ record {
-  state = now;
-  there = at_path (is_device fault) before (failed now) path h (ap is_device is);
-  reads_on = record { narrows = λ files folders a. a; counts_failures = omega arith };
-} ∣₁
+pub failed_now : (before now : Text → Bool) (fault : TreeFault) (path : Text) → FailsIf (is_device fault) before now (λ at. at ≡ path) → fault ≡ Device → now path ≡ true
+failed_now before now fault path h is = at_path (is_device fault) before now path h (ap is_device is)

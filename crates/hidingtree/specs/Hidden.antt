@@ -1,9 +1,9 @@
 -- Files and directories without what stands at some paths (own): at such a path is no file and no directory.
 use Rattle.std.specs.Prelude.{◌≡◌, ◌⊎◌, ℕ, Bool, true, false, List, [], ◌∷◌, ◌++◌, length, nat_lt, Option, Some, None}
 use Rattle.std.specs.Prelude.{bytes_eq, if◌then◌else◌}
-use Rattle.std.specs.List.{list_any}
+use Rattle.std.specs.List.{All, list_any}
 use Rattle.message.specs.Messages.{Text}
-use Rattle.filetree.specs.Agreement.{Files, Listings, ReadsOn}
+use Rattle.filetree.specs.Agreement.{Files, Listings}
 
 -- the path is one of these
 abbrev pub is_among : List Text → Text → Bool
@@ -44,16 +44,9 @@ pub record MayAgreeWithout (hidden seen : List Text) (agrees : Files → Listing
 abbrev pub AreApart : List Text → List Text → Type 0
 AreApart hidden seen = (path : Text) → is_among hidden path ≡ true → is_among seen path ≡ false
 
--- in a state from which the tree has read on to this one, the path is among those with failures
-pub record FailedBefore {T : Type 0} (agrees : T → Files → Listings → Type 0) (failures : T → ℕ)
-    (failed : T → Text → Bool) (now : T) (path : Text) : Type 0 where
-  pub state : T
-  pub there : failed state path ≡ true
-  pub reads_on : ReadsOn agrees failures state now
-
--- The device has failed at the path.
-abbrev pub HasFailedAt : {T : Type 0} → (T → Files → Listings → Type 0) → (T → ℕ) → (T → Text → Bool) → T → Text → Type 0
-HasFailedAt agrees failures failed now path = ∥ FailedBefore agrees failures failed now path ∥₁
+-- the device has failed at each of these paths
+abbrev pub AllFailed : (Text → Bool) → List Text → Type 0
+AllFailed failed paths = All (λ path. failed path ≡ true) paths
 
 -- how many paths these are: one, or none
 abbrev pub count_of : {X : Type 0} → Option X → ℕ

@@ -1,10 +1,9 @@
 //! A tree in which nothing stands at some paths.
-ghost use Rattle.std.specs.Prelude.{◌≡◌, ◌≤◌, ◌+◌, ◌++◌, [], ◌∷◌, false, length, map, string_bytes};
+ghost use Rattle.std.specs.Prelude.{◌≡◌, ◌≤◌, ◌+◌, ◌++◌, [], ◌∷◌, false, true, length, map, string_bytes};
 ghost use Rattle.std.specs.Prelude.{IfErr, IfOk, OnOk};
 ghost use Rattle.std.specs.Option.{ForSome};
-ghost use Rattle.std.specs.List.{All};
 ghost use Rattle.filetree.specs.declared.tree.TreeFault.TheVariants as faults;
-ghost use Rattle.hidingtree.specs.Hidden.{AreApart, HasFailedAt, MayAgreeWithout, count_of, hidden_with, hides_more};
+ghost use Rattle.hidingtree.specs.Hidden.{AllFailed, AreApart, MayAgreeWithout, count_of, hidden_with, hides_more};
 ghost use Rattle.hidingtree.specs.Hidden.{is_among, without};
 ghost use Rattle.hidingtree.specs.Left.{left_without};
 
@@ -37,10 +36,9 @@ pub struct HidingTree<T: Tree + Drop> {
     /// The device has failed for each of these paths.
     ghost counted: { length hidden.items + count_of failed_at ≤ T.failures tree },
     /// The device has failed at each hidden path.
-    ghost failed: { All (HasFailedAt T.agrees T.failures T.failed tree) (map string_bytes hidden.items) },
+    ghost failed: { AllFailed (T.failed tree) (map string_bytes hidden.items) },
     /// It has failed at the path that is kept.
-    ghost failed_there: { ForSome failed_at (λ path.
-        HasFailedAt T.agrees T.failures T.failed tree (string_bytes path)) },
+    ghost failed_there: { ForSome failed_at (λ path. T.failed tree (string_bytes path) ≡ true) },
     /// Nothing was seen at a hidden path.
     ghost apart: { AreApart (map string_bytes hidden.items) (map string_bytes seen.items) },
 }
@@ -112,7 +110,7 @@ impl<T: Tree + Drop> HidingTree<T> {
     fn hide(&mut self, path: &str, fault: TreeFault) -> Result<(), TreeFault>
         requires counted { fault ≡ faults.Device
             → length self.old.hidden.items + count_of self.old.failed_at + 1 ≤ T.failures self.old.tree }
-        requires failed { fault ≡ faults.Device → HasFailedAt T.agrees T.failures T.failed self.old.tree path.now }
+        requires failed { fault ≡ faults.Device → T.failed self.old.tree path.now ≡ true }
         ensures tree { self.new.tree ≡ self.old.tree }
         ensures seen { self.new.seen ≡ self.old.seen }
         ensures hidden { OnOk result (map string_bytes self.new.hidden.items

@@ -1,10 +1,9 @@
 -- The report of `avail` over a tree (module(1)): what can't be read is left out, and named.
-use Rattle.std.specs.Prelude.{◌≡◌, ◌⊎◌, ◌<◌, ◌≤◌, ℕ, List, [], length, Option, Ok}
-use Rattle.std.specs.List.{All}
+use Rattle.std.specs.Prelude.{◌≡◌, ◌⊎◌, ◌<◌, ◌≤◌, ℕ, Bool, List, [], length, Option, Ok}
 use Rattle.message.specs.Messages.{Text}
 use Rattle.envvars.specs.Environment.{Environment}
 use Rattle.filetree.specs.Agreement.{Files, Listings, InEachPair}
-use Rattle.hidingtree.specs.Hidden.{without}
+use Rattle.hidingtree.specs.Hidden.{AllFailed, without}
 use Rattle.search.specs.DefaultFiles.{DefaultFileResult}
 use Rattle.search.specs.Listed.{Listing, Listed}
 use Rattle.requests.specs.Steps.{modulepath}
@@ -32,12 +31,12 @@ ReportsModules results paths files folders terminal e words text = (listings : L
 -- paths the device has failed. The numbers are those of its failures before and after: in between it has failed where
 -- there are such paths, and these are no more than its failures.
 pub record ReportsAvailable (results : Text → Text → Option DefaultFileResult → Type 0)
-    (agrees : Files → Listings → Type 0) (HasFailed : Text → Type 0) (before now : ℕ) (terminal : Option Terminal)
+    (agrees : Files → Listings → Type 0) (has_failed : Text → Bool) (before now : ℕ) (terminal : Option Terminal)
     (e : Environment) (given : List Text) (text : Text) : Type 0 where
   pub words : Words
   pub meaning : avail_words no_options given ≡ Ok words
   pub unreadable : List Text
-  pub failed : All HasFailed unreadable
+  pub failed : AllFailed has_failed unreadable
   pub cause : (unreadable ≡ []) ⊎ (before < now)
   pub counted : length unreadable ≤ now
   pub reports : InEachPair agrees (λ files folders.

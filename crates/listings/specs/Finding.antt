@@ -1,9 +1,8 @@
 -- Whether the search finds a module for one of some names (module(1), is-avail).
 use Rattle.std.specs.Prelude.{◌≡◌, ◌⊎◌, ◌<◌, ◌≤◌, ℕ, Bool, true, false, List, [], ◌∷◌, length, Option, Ok, Err}
-use Rattle.std.specs.List.{All}
 use Rattle.message.specs.Messages.{Text}
 use Rattle.filetree.specs.Agreement.{Files, Listings, InEachPair}
-use Rattle.hidingtree.specs.Hidden.{without}
+use Rattle.hidingtree.specs.Hidden.{AllFailed, without}
 use Rattle.search.specs.DefaultFiles.{DefaultFileResult}
 use Rattle.search.specs.Looked.{LooksAt}
 use Rattle.search.specs.Reasons.{FindReason}
@@ -37,24 +36,24 @@ SearchesLookAt results files folders modulepath (name ∷ names) at =
 -- A module is found for one of the names, or for none, elsewhere than at some paths, in each pair of maps that agrees. At
 -- each of these the device has failed, and they are no more than its failures.
 pub record FindsWithout (results : Text → Text → Option DefaultFileResult → Type 0)
-    (agrees : Files → Listings → Type 0) (HasFailed : Text → Type 0) (now : ℕ) (modulepath : Text) (names : List Text)
+    (agrees : Files → Listings → Type 0) (has_failed : Text → Bool) (now : ℕ) (modulepath : Text) (names : List Text)
     (answer : Bool) : Type 0 where
   pub unreadable : List Text
-  pub failed : All HasFailed unreadable
+  pub failed : AllFailed has_failed unreadable
   pub counted : length unreadable ≤ now
   pub finds : InEachPair agrees (λ files folders.
       IsOneFound results (without unreadable files) (without unreadable folders) modulepath names answer)
 
 -- The same, where there are such paths only if a module is found, and if the device has failed more often than before.
 pub record FindsReadable (results : Text → Text → Option DefaultFileResult → Type 0)
-    (agrees : Files → Listings → Type 0) (HasFailed : Text → Type 0) (before now : ℕ) (modulepath : Text)
+    (agrees : Files → Listings → Type 0) (has_failed : Text → Bool) (before now : ℕ) (modulepath : Text)
     (names : List Text) (answer : Bool) : Type 0 where
-  pub finds : FindsWithout results agrees HasFailed now modulepath names answer
+  pub finds : FindsWithout results agrees has_failed now modulepath names answer
   pub found : (finds.unreadable ≡ []) ⊎ (answer ≡ true)
   pub cause : (finds.unreadable ≡ []) ⊎ (before < now)
 
 -- No module is found so for one of the names, in each pair of maps that agrees; or the device has failed a thousand times.
 abbrev pub FindsNothingReadable : (Text → Text → Option DefaultFileResult → Type 0) → (Files → Listings → Type 0)
-    → (Text → Type 0) → ℕ → Text → List Text → Type 0
-FindsNothingReadable results agrees HasFailed now modulepath names =
-    FindsWithout results agrees HasFailed now modulepath names false ⊎ (1000 ≤ now)
+    → (Text → Bool) → ℕ → Text → List Text → Type 0
+FindsNothingReadable results agrees has_failed now modulepath names =
+    FindsWithout results agrees has_failed now modulepath names false ⊎ (1000 ≤ now)

@@ -2,7 +2,6 @@
 ghost use Rattle.std.specs.Prelude.{◌≡◌, ◌<◌, ◌≤◌, ◌++◌, flat_map, map, Err, IfErr, IfOk, OnOk, string_bytes};
 ghost use Rattle.envloaded.specs.LoadedEntries.{entry_view};
 ghost use Rattle.filetree.specs.Causes.{Applies};
-ghost use Rattle.hidingtree.specs.Hidden.{HasFailedAt};
 ghost use Rattle.search.specs.Listings.{listing_view};
 ghost use Rattle.search.specs.ListingEntries.{listing_entry_view};
 ghost use Rattle.filetree.specs.Modulefiles as paths;
@@ -212,7 +211,7 @@ pub fn avail_report<'a, T: Tree + Drop>(
 ) -> Result<String, ListingFault<'a>>
     ensures counts { T.failures tree.old.tree ≤ T.failures tree.new.tree }
     ensures report { IfOk result (λ text. ReportsAvailable (HasResult limits) (T.agrees tree.new.tree)
-        (HasFailedAt T.agrees T.failures T.failed tree.new.tree) (T.failures tree.old.tree) (T.failures tree.new.tree)
+        (T.failed tree.new.tree) (T.failures tree.old.tree) (T.failures tree.new.tree)
         terminal env.now (map string_bytes words.entry.now) (string_bytes text)) }
     ensures fault { IfErr result (λ e. Applies (cause_of e)
         ((T.failures tree.old.tree < T.failures tree.new.tree) × (1000 ≤ T.failures tree.new.tree))

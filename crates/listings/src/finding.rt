@@ -2,7 +2,6 @@
 ghost use Rattle.std.specs.Prelude.{◌≡◌, ◌<◌, ◌≤◌, [], map, string_bytes, IfOk, IfErr};
 ghost use Rattle.filetree.specs.Agreement.{FailsWhere, InEachPair, ReadsOn};
 ghost use Rattle.filetree.specs.Causes.{Applies};
-ghost use Rattle.hidingtree.specs.Hidden.{HasFailedAt};
 ghost use Rattle.search.specs.Looked.{LooksAt};
 ghost use Rattle.lookup.specs.DefaultFileResults.{HasResult};
 ghost use Rattle.requests.specs.Steps.{modulepath};
@@ -116,7 +115,7 @@ fn is_one_found_without<T: Tree + Drop>(
 ) -> Result<bool, ListingFault<'static>>
     ensures counts { T.failures tree.old.tree ≤ T.failures tree.new.tree }
     ensures answer { IfOk result (spec.FindsWithout (HasResult limits) (T.agrees tree.new.tree)
-        (HasFailedAt T.agrees T.failures T.failed tree.new.tree) (T.failures tree.new.tree) modulepath.now
+        (T.failed tree.new.tree) (T.failures tree.new.tree) modulepath.now
         (map string_bytes names.now)) }
     ensures fault { IfErr result (λ e. Applies (cause_of e) (1000 ≤ T.failures tree.new.tree) (λ reason. ⊥)) }
 {
@@ -145,12 +144,12 @@ pub fn is_available_where_readable<T: Tree + Drop>(
     limits: Limits,
 ) -> Result<bool, ListingFault<'static>>
     ensures answer { IfOk result (spec.FindsReadable (HasResult limits) (T.agrees tree.new.tree)
-        (HasFailedAt T.agrees T.failures T.failed tree.new.tree) (T.failures tree.old.tree) (T.failures tree.new.tree)
+        (T.failed tree.new.tree) (T.failures tree.old.tree) (T.failures tree.new.tree)
         (modulepath env.now) (map string_bytes names.now)) }
     ensures named { IfOk result (λ found. names.now ≡ [] → ⊥) }
     ensures fault { IfErr result (λ e. Applies (cause_of e) ((T.failures tree.old.tree < T.failures tree.new.tree)
         × spec.FindsNothingReadable (HasResult limits) (T.agrees tree.new.tree)
-        (HasFailedAt T.agrees T.failures T.failed tree.new.tree) (T.failures tree.new.tree)
+        (T.failed tree.new.tree) (T.failures tree.new.tree)
         (modulepath env.now) (map string_bytes names.now))
         (λ reason. (reason ≡ bad_arguments) × (names.now ≡ []))) }
 {

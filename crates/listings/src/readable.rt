@@ -1,9 +1,8 @@
 //! The modules that can be listed: what can't be read is left out, and named.
 ghost use Rattle.std.specs.Prelude.{◌≡◌, ◌⊎◌, ◌<◌, ◌≤◌, [], length, map, string_bytes, IfOk, IsErrOf};
-ghost use Rattle.std.specs.List.{All};
 ghost use Rattle.filetree.specs.declared.tree.TreeFault.TheVariants as faults;
 ghost use Rattle.filetree.specs.Agreement.{FailsOnlyByDevice, InEachPair};
-ghost use Rattle.hidingtree.specs.Hidden.{HasFailedAt};
+ghost use Rattle.hidingtree.specs.Hidden.{AllFailed};
 ghost use Rattle.search.specs.Listings.{listing_view};
 ghost use Rattle.listings.specs.Available.{ListedWithout};
 
@@ -34,7 +33,7 @@ fn list_without<T: Tree + Drop, D: DefaultFiles>(
     ensures counts { T.failures tree.old.tree ≤ T.failures tree.new.tree }
     ensures given_up { IsErrOf result faults.Device → 1000 ≤ T.failures tree.new.tree }
     ensures counted { IfOk result (λ readable. length readable.unreadable.items ≤ T.failures tree.new.tree) }
-    ensures failed { IfOk result (λ readable. All (HasFailedAt T.agrees T.failures T.failed tree.new.tree)
+    ensures failed { IfOk result (λ readable. AllFailed (T.failed tree.new.tree)
         (map string_bytes readable.unreadable.items)) }
     ensures listed { IfOk result (λ readable. InEachPair (T.agrees tree.new.tree) (λ files folders.
         ListedWithout (D.results default_files.now) (map string_bytes readable.unreadable.items) files folders
@@ -74,7 +73,7 @@ pub fn readable_modules<T: Tree + Drop, D: DefaultFiles>(
         ⊎ (T.failures tree.old.tree < T.failures tree.new.tree)) }
     ensures given_up { IsErrOf result faults.Device → 1000 ≤ T.failures tree.new.tree }
     ensures counted { IfOk result (λ readable. length readable.unreadable.items ≤ T.failures tree.new.tree) }
-    ensures failed { IfOk result (λ readable. All (HasFailedAt T.agrees T.failures T.failed tree.new.tree)
+    ensures failed { IfOk result (λ readable. AllFailed (T.failed tree.new.tree)
         (map string_bytes readable.unreadable.items)) }
     ensures listed { IfOk result (λ readable. InEachPair (T.agrees tree.new.tree) (λ files folders.
         ListedWithout (D.results default_files.now) (map string_bytes readable.unreadable.items) files folders

@@ -1,9 +1,8 @@
-use Rattle.std.proofs.Common.{◌≡◌, is_ok, List, map, string_bytes, String, Global, ap, sym, ◌∙◌}
-use Rattle.std.specs.List.{All}
+use Rattle.std.proofs.Common.{◌≡◌, Bool, true, is_ok, List, map, string_bytes, String, Global, ap, sym, ◌∙◌}
 use Rattle.std.proofs.lemmas.List.Elements.{All-push}
 use Rattle.message.specs.Messages.{Text}
 use Rattle.filetree.specs.declared.tree.TreeFault.TheVariants as faults
-use Rattle.hidingtree.specs.Hidden.{AreApart, HasFailedAt, is_among}
+use Rattle.hidingtree.specs.Hidden.{AllFailed, AreApart, is_among}
 use Rattle.hidingtree.proofs.HidingLemmas.{apart_hidden, pushed}
 use Rattle.hidingtree.proofs.hiding.HidingTree.hide.Goals as goal
 
@@ -16,7 +15,7 @@ invariant_of-self-2-clause-apart g c =
 
 pub invariant_of-self-2-clause-failed : goal.invariant_of-self-2-clause-failed
 invariant_of-self-2-clause-failed g c =
-    let Failed : Text → Type 0 = HasFailedAt g.T.Tree.agrees g.T.Tree.failures g.T.Tree.failed c.args.self.now.tree in
+    let failed : Text → Bool = g.T.Tree.failed c.args.self.now.tree in
     let is : c.args.fault ≡ faults.Device = search in
-    pushed c.args.self.now.hidden.items c.push.new.self.items c.in_ok-kept.kept c.args.path.now (is_ok c.push.result) (All Failed) c.push.ensures.items c.in_ok-kept.ensures.ok
-    c.args.self.now.failed (All-push Failed (map (λ (s : String Global). string_bytes s) c.args.self.now.hidden.items) c.args.path.now c.args.self.now.failed (c.requires.failed is))
+    pushed c.args.self.now.hidden.items c.push.new.self.items c.in_ok-kept.kept c.args.path.now (is_ok c.push.result) (AllFailed failed) c.push.ensures.items c.in_ok-kept.ensures.ok
+    c.args.self.now.failed (All-push (λ path. failed path ≡ true) (map (λ (s : String Global). string_bytes s) c.args.self.now.hidden.items) c.args.path.now c.args.self.now.failed (c.requires.failed is))

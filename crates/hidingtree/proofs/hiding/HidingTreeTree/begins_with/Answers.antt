@@ -1,7 +1,7 @@
 use Rattle.std.proofs.Common.{◌≡◌, true, ap, sym, subst, map, string_bytes, vec_items, String, Global}
 use Rattle.std.specs.declared.vec.Vec.{Vec}
-use Rattle.filetree.specs.Agreement.{InEachPair, Narrows, begins_with}
-use Rattle.hidingtree.proofs.HidingLemmas.{all_failed_before, some_failed_before, file_seen, file_hidden, fewer_left}
+use Rattle.filetree.specs.Agreement.{InEachPair, Narrows, is_device, begins_with}
+use Rattle.hidingtree.proofs.HidingLemmas.{all_failed_too, some_failed_too, file_seen, file_hidden, fewer_left}
 use Rattle.hidingtree.proofs.hiding.HidingTreeTree.begins_with.Goals as goal
 
 pub returns-in_ok-keep_seen-in-Ok-true-clause-answer : goal.returns-in_ok-keep_seen-in-Ok-true-clause-answer
@@ -27,10 +27,10 @@ returns-in_ok-hide-in-Err-clause-answer g c =
 
 pub invariant_of-self-clause-failed : goal.invariant_of-self-clause-failed
 invariant_of-self-clause-failed g c =
-    all_failed_before g.T.Tree.agrees g.T.Tree.failures g.T.Tree.failed c.args.self.now.tree c.begins_with.new.self (record { narrows = c.begins_with.ensures.narrows; counts_failures = c.begins_with.ensures.cause.counts_failures })
+    all_failed_too is_device (g.T.Tree.failed c.args.self.now.tree) (g.T.Tree.failed c.begins_with.new.self) c.begins_with.result (λ at. at ≡ c.args.path.now) c.begins_with.ensures.failed
     (map (λ (s : String Global). string_bytes s) c.args.self.now.hidden.items) c.args.self.now.failed
 
 pub invariant_of-self-clause-failed_there : goal.invariant_of-self-clause-failed_there
 invariant_of-self-clause-failed_there g c =
-    some_failed_before g.T.Tree.agrees g.T.Tree.failures g.T.Tree.failed c.args.self.now.tree c.begins_with.new.self (record { narrows = c.begins_with.ensures.narrows; counts_failures = c.begins_with.ensures.cause.counts_failures })
+    some_failed_too is_device (g.T.Tree.failed c.args.self.now.tree) (g.T.Tree.failed c.begins_with.new.self) c.begins_with.result (λ at. at ≡ c.args.path.now) c.begins_with.ensures.failed
     c.args.self.now.failed_at c.args.self.now.failed_there

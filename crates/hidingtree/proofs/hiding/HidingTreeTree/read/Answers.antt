@@ -1,7 +1,7 @@
 use Rattle.std.proofs.Common.{◌≡◌, Some, ap, sym, subst, map, string_bytes, vec_items, String, Global}
 use Rattle.std.specs.declared.vec.Vec.{Vec}
-use Rattle.filetree.specs.Agreement.{InEachPair, Narrows, file_answer}
-use Rattle.hidingtree.proofs.HidingLemmas.{all_failed_before, some_failed_before, file_seen, file_hidden, fewer_left}
+use Rattle.filetree.specs.Agreement.{InEachPair, Narrows, is_device, file_answer}
+use Rattle.hidingtree.proofs.HidingLemmas.{all_failed_too, some_failed_too, file_seen, file_hidden, fewer_left}
 use Rattle.hidingtree.proofs.hiding.HidingTreeTree.read.Goals as goal
 
 pub returns-in_ok-keep_seen-in-Ok-Some-clause-answer : goal.returns-in_ok-keep_seen-in-Ok-Some-clause-answer
@@ -27,10 +27,10 @@ returns-in_ok-hide-in-Err-clause-answer g c =
 
 pub invariant_of-self-clause-failed : goal.invariant_of-self-clause-failed
 invariant_of-self-clause-failed g c =
-    all_failed_before g.T.Tree.agrees g.T.Tree.failures g.T.Tree.failed c.args.self.now.tree c.read.new.self (record { narrows = c.read.ensures.narrows; counts_failures = c.read.ensures.cause.counts_failures })
+    all_failed_too is_device (g.T.Tree.failed c.args.self.now.tree) (g.T.Tree.failed c.read.new.self) c.read.result (λ at. at ≡ c.args.path.now) c.read.ensures.failed
     (map (λ (s : String Global). string_bytes s) c.args.self.now.hidden.items) c.args.self.now.failed
 
 pub invariant_of-self-clause-failed_there : goal.invariant_of-self-clause-failed_there
 invariant_of-self-clause-failed_there g c =
-    some_failed_before g.T.Tree.agrees g.T.Tree.failures g.T.Tree.failed c.args.self.now.tree c.read.new.self (record { narrows = c.read.ensures.narrows; counts_failures = c.read.ensures.cause.counts_failures })
+    some_failed_too is_device (g.T.Tree.failed c.args.self.now.tree) (g.T.Tree.failed c.read.new.self) c.read.result (λ at. at ≡ c.args.path.now) c.read.ensures.failed
     c.args.self.now.failed_at c.args.self.now.failed_there
