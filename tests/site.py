@@ -1,6 +1,6 @@
-"""Two whole sites, as sites write them (site.txt, whose head says how to read it, and sitefiles.txt): what `modaudit`
-says of each of their modulefiles, sessions of those that are certified, and what the others leave or how they are
-refused.
+"""Three whole sites, as sites write them (site.txt, whose head says how to read it, sitefiles.txt and cluster.txt):
+what `modaudit` says of each of their modulefiles, sessions of those that are certified, and what the others leave or
+how they are refused.
 
 The standings, the reasons and what is left are typed by hand from modaudit(1) and modulefile(5).
 """
@@ -19,15 +19,19 @@ from tests.harness import ENV, HERE, SECONDS, SH, same, true
 START = {"PATH": "/usr/bin:/bin", "HOME": "/home/u", "USER": "u"}
 
 COOKIE = "#%Module"
-PLACE = re.compile(r"((?:compiler|mpi)/[^/]+|[^/]+)/(.+)")
+PLACE = re.compile(r"((?i:compiler|mpi)/[^/]+|[^/]+)/(.+)")
 COUNTS = re.compile(
     r"Of these (\d+) modulefiles the profile admits (\d+), "
     r".* and of these (\d+) are certified\. (\d+) of the others do(?:es)? no harm"
 )
 
 # What is said of a module, besides what comes of it, and that.
-TOLD = {"reads", "asks", "used", "why", "needs", "where", "beside", "does"}
+TOLD = {"reads", "asks", "used", "why", "needs", "where", "beside", "does", "ported"}
 OUTCOMES = {"left", "at load", "at unload"}
+
+# What the head of a site says of its translation, of which this share has to be certified at least.
+PORTED_COUNTS = re.compile(r"the profile admits (\d+) of the \d+, and of these (\d+) are certified")
+CERTIFIED_SHARE = 0.9
 
 # What sh sets by itself.
 OWN = ("PWD", "OLDPWD", "_")
@@ -88,6 +92,7 @@ class Written:
         self.modulepath = ":".join(f"{root}/{start}" for start in starts)
         with open(os.path.join(HERE, name), encoding="utf-8") as file:
             self.head, *parts = re.split(r"^=== ", file.read(), flags=re.MULTILINE)
+        self.ported_counts = PORTED_COUNTS.search(" ".join(self.head.split()))
         self.files = [File(part) for part in parts]
         self.defaults = [file for file in self.files if file.standing.startswith("default ")]
         self.modules = [file for file in self.files if file not in self.defaults]
@@ -106,6 +111,7 @@ class Written:
 SITES = [
     Written("site.txt", "/sw/modulefiles", ("core", "apps", "easybuild", "spack")),
     Written("sitefiles.txt", "/apps/modules", ("base", "licensed", "eb", "stack")),
+    Written("cluster.txt", "/opt/site/modulefiles", ("Core", "ISV", "ebuild", "spackenv")),
 ]
 
 each_site = pytest.mark.parametrize("written", SITES, ids=lambda written: written.name)
@@ -154,7 +160,7 @@ class Site:
     def __init__(self, written, place, built):
         self.written = written
         self.place = str(place)
-        self.program, self.auditor = built("modulecmd"), built("modaudit")
+        self.program, self.auditor, self.porter = map(built, ("modulecmd", "modaudit", "modport"))
         for file in written.files:
             path = self.real(f"{written.root}/{file.path}")
             os.makedirs(os.path.dirname(path), exist_ok=True)
@@ -169,11 +175,29 @@ class Site:
         given = dict(other.split("=", 1) for other in others)
         return {"MODULEPATH": self.real(self.written.modulepath), **START, **given}
 
-    def audit(self):
+    def audit(self, root=None):
+        """The document on the site, or on its translation in a folder."""
+        env = self.start()
+        env["MODULEPATH"] = env["MODULEPATH"].replace(self.place, root or self.place)
         command = [self.auditor, "--json"]
-        done = subprocess.run(command, env=self.start(), capture_output=True, timeout=SECONDS, check=False)
+        done = subprocess.run(command, env=env, capture_output=True, timeout=SECONDS, check=False)
         same((done.stderr, done.returncode), (b"", 1), "standard error and status of modaudit")
         return json.loads(done.stdout)
+
+    def port(self, root):
+        """Writes each of its directories anew by modport in a folder, with the paths of that."""
+        for directory in dict.fromkeys(file.directory for file in self.written.files):
+            target = os.path.join(root, directory)
+            os.makedirs(os.path.dirname(target), exist_ok=True)
+            command = [self.porter, os.path.join(self.place, directory), target]
+            done = subprocess.run(command, env=START, capture_output=True, timeout=SECONDS, check=False)
+            true(done.returncode in (0, 1), f"the status of {command} is {done.returncode}: {done.stderr}")
+        for file in self.written.modules:
+            with open(os.path.join(root, file.path), "r+", encoding="utf-8") as opened:
+                text = opened.read().replace(self.place, root)
+                opened.seek(0)
+                opened.truncate()
+                opened.write(text)
 
     def does(self, words, env):
         """Runs a command, and has sh evaluate what it prints: the variables then. A refused one leaves them, and its
@@ -232,6 +256,28 @@ def test_how_the_modules_stand(site, written, note):
     same(found["disagreements"], [], "what the start has against the certificate")
     admitted = len(written.modules) - len(written.outside)
     note(f"{written.name}: {len(written.certified)} certified of {admitted} that the profile admits")
+
+
+def ported_standing(file):
+    said = file.only("ported").partition(";")[0] or file.standing
+    return "refused" if said == "outside" else said
+
+
+@pytest.mark.parametrize("written", [it for it in SITES if it.ported_counts], ids=lambda written: written.name)
+def test_how_the_modules_stand_once_ported(site, written, tmp_path, note):
+    """As modport writes the site, at least nine of ten of those that the profile admits are certified."""
+    laid, root = site(written), str(tmp_path / "ported")
+    laid.port(root)
+    found = {os.path.relpath(module["path"], root): module["standing"] for module in laid.audit(root)["modules"]}
+    wanted = {file.path: ported_standing(file) for file in written.modules}
+    wrong = {path: (found.get(path), word) for path, word in wanted.items() if found.get(path) != word}
+    same(wrong, {}, "translations that stand otherwise, as they are found and as they are wanted")
+    same(sorted(found), sorted(wanted), "the translations that are found")
+    admitted = [word for word in wanted.values() if word != "refused"]
+    counts = len(admitted), admitted.count("certified")
+    same(tuple(map(int, written.ported_counts.groups())), counts, "the counts of the head")
+    true(counts[1] >= CERTIFIED_SHARE * counts[0], f"{counts[1]} certified of {counts[0]}")
+    note(f"{written.name}: once ported {counts[1]} certified of {counts[0]} that the profile admits")
 
 
 # Sessions of certified modules, and with others of which it is said that they do no harm.
@@ -313,6 +359,14 @@ def test_how_those_outside_are_refused(site, written, file):
 
 @each("defaults")
 def test_the_version_without_a_version(site, written, file):
-    laid, folder = site(written), os.path.dirname(file.name)
-    env = laid.accepts(f"load {folder}", laid.start())
-    same(env["LOADEDMODULES"], f"{folder}/{file.standing.removeprefix('default ')}", f"what `load {folder}` loads")
+    """It is loaded without a version; or, where it is outside, the report has it as the default."""
+    laid, folder, needed = site(written), os.path.dirname(file.name), written.needed(file)
+    name = f"{folder}/{file.standing.removeprefix('default ')}"
+    env = laid.accepts(f"load {' '.join(needed)}", laid.start()) if needed else laid.start()
+    if written.named[name] in written.outside:
+        command = [laid.program, "sh", "avail", folder]
+        done = subprocess.run(command, env=env, capture_output=True, timeout=SECONDS, check=True)
+        true(f"{name}(default)" in done.stderr.decode().splitlines(), f"{name} is the default in {done.stderr}")
+        return
+    env = laid.accepts(f"load {folder}", env)
+    same(env["LOADEDMODULES"], ":".join([*needed, name]), f"what `load {folder}` loads")
