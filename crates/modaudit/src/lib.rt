@@ -8,13 +8,23 @@ mod progress_line;
 use hidingtree::HidingTree;
 use modulecmd::{CommandFault, DiskTree, ProcessInput, process_input, write_refusal};
 use progress_line::ProgressLine;
-use sitecommand::{AuditExit, run_audit};
+use sitecommand::{AuditExit, Layout, run_audit};
+use std::io::{IsTerminal, Stdout};
 use std::process::ExitCode;
 
 /// Says why there is no audit, and with which status the program ends.
 fn refused(rt: &HostRuntime, fault: &CommandFault) -> ExitCode {
     let _ = write_refusal(fault, &mut rt.stderr());
     ExitCode::from(AuditExit::Reported.status())
+}
+
+/// How the lines of a report stand there: in columns on a terminal, and else with tabs.
+fn layout_on(out: &Stdout) -> Layout {
+    if out.is_terminal() {
+        Layout::Columns
+    } else {
+        Layout::Tabs
+    }
 }
 
 /// Audits a site by what the process is given, and gives the status of the audit, with which the process has to end.
@@ -35,6 +45,7 @@ pub fn run(rt: HostRuntime) -> ExitCode {
     let exit = run_audit(
         alloc,
         arguments.as_slice(),
+        layout_on(&out),
         env,
         &mut tree,
         &mut progress,

@@ -15,6 +15,7 @@ use Rattle.siteaudit.specs.declared.fault.WalkFault.{WalkFault}
 use Rattle.siteaudit.specs.declared.fault.WalkFault.TheVariants as walks
 use Rattle.sitecommand.specs.Audits.{EndsJudged, WritesAudit, all_certified}
 use Rattle.sitecommand.specs.Steps.{IsPreparedAudit}
+use Rattle.sitecommand.specs.declared.layout.Layout.{Layout}
 use Rattle.sitecommand.specs.declared.running.PreparedAudit.{PreparedAudit}
 use Rattle.sitecommand.specs.declared.audit_exit.AuditExit.{AuditExit}
 use Rattle.sitecommand.proofs.DirectoryLemmas.{applies_in}
@@ -32,10 +33,10 @@ if_err_so (Ok x) P Q f h = tt
 if_err_so (Err e) P Q f h = f e h
 
 -- the end of an audit whose report was written, or the first part of it
-pub answered : (exit : AuditExit) (agrees : Files → Listings → Type 0) (HasFailed : Text → Type 0) (before now : ℕ) (e : Environment) (arguments : List Text) (answer : PreparedAudit) (out out' err err' : Option Text)
-    → IsPreparedAudit agrees HasFailed (before < now) e arguments answer → WritesAudit exit answer.is_all_certified answer.report.items out out' err err'
-    → EndsJudged exit agrees HasFailed before now e arguments out out' err err'
-answered exit agrees HasFailed before now e arguments answer out out' err err' is h =
+pub answered : (exit : AuditExit) (layout : Layout) (agrees : Files → Listings → Type 0) (has_failed : Text → Bool) (before now : ℕ) (e : Environment) (arguments : List Text) (answer : PreparedAudit) (out out' err err' : Option Text)
+    → IsPreparedAudit layout agrees has_failed (before < now) e arguments answer → WritesAudit exit answer.is_all_certified answer.report.items out out' err err'
+    → EndsJudged exit layout agrees has_failed before now e arguments out out' err err'
+answered exit layout agrees has_failed before now e arguments answer out out' err err' is h =
     let audit = is.prepared.audit in
     let tried = is.prepared.tried in
     inl (

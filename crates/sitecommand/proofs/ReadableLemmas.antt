@@ -18,7 +18,7 @@ use Rattle.filetree.specs.Agreement.{FailsIf, Files, InEachPair, Listings, Narro
 use Rattle.filetree.specs.Causes.{Cause, Applies, memory, device, because}
 use Rattle.filetree.specs.declared.tree.TreeFault.{TreeFault}
 use Rattle.filetree.specs.declared.tree.TreeFault.TheVariants as trees
-use Rattle.hidingtree.specs.Hidden.{AgreesWithout, AreApart, MayAgreeWithout, is_among, without}
+use Rattle.hidingtree.specs.Hidden.{AgreesWithout, AllFailed, AreApart, MayAgreeWithout, is_among, without}
 use Rattle.hidingtree.specs.Left.{left_without}
 use Rattle.hidingtree.proofs.HidingLemmas.{left_pairs}
 use Rattle.modulefile.specs.Judgments.{bad_edit}
@@ -136,9 +136,9 @@ found_left hidden seen agrees judged dirs withheld found apart f = record {
   holds = λ files listings a. f.holds files listings (left_pairs hidden seen agrees apart files listings a);
 }
 
-pub readable_in : (agrees : Files → Listings → Type 0) (HasFailed : Text → Type 0) (P Q : Type 0) (judged : Environment) (dirs withheld : List Text) (audit : SeenAudit) → (P → Q)
-    → IsReadable agrees HasFailed P judged dirs withheld audit → IsReadable agrees HasFailed Q judged dirs withheld audit
-readable_in agrees HasFailed P Q judged dirs withheld audit f r = record {
+pub readable_in : (agrees : Files → Listings → Type 0) (has_failed : Text → Bool) (P Q : Type 0) (judged : Environment) (dirs withheld : List Text) (audit : SeenAudit) → (P → Q)
+    → IsReadable agrees has_failed P judged dirs withheld audit → IsReadable agrees has_failed Q judged dirs withheld audit
+readable_in agrees has_failed P Q judged dirs withheld audit f r = record {
   unreadable = record { order = r.unreadable.order; failed = r.unreadable.failed; cause = so r.unreadable.cause };
   found = r.found;
 }
@@ -152,25 +152,25 @@ unfolding IsStrictlySortedBy
 sorted_nothing = tt
 
 -- where nothing fails all is read
-no_unreadable : (HasFailed : Text → Type 0) (fails : Type 0) (paths : List Text) → paths ≡ [] → AreUnreadable HasFailed fails paths
-no_unreadable HasFailed fails paths none = subst (λ (ps : List Text). AreUnreadable HasFailed fails ps) (sym none)
-    (record { order = sorted_nothing; failed = All-nil HasFailed; cause = inl refl })
+no_unreadable : (has_failed : Text → Bool) (fails : Type 0) (paths : List Text) → paths ≡ [] → AreUnreadable has_failed fails paths
+no_unreadable has_failed fails paths none = subst (λ (ps : List Text). AreUnreadable has_failed fails ps) (sym none)
+    (record { order = sorted_nothing; failed = All-nil (λ (path : Text). has_failed path ≡ true); cause = inl refl })
 
-pub readable_whole : (agrees : Files → Listings → Type 0) (HasFailed : Text → Type 0) (fails : Type 0) (judged : Environment) (dirs withheld : List Text) (found : SiteAudit) (unreadable : Vec (String Global) Global)
-    → unreadable.items ≡ [] → IsFound agrees judged dirs withheld found → IsReadable agrees HasFailed fails judged dirs withheld (record { found = found; unreadable = unreadable })
-readable_whole agrees HasFailed fails judged dirs withheld found unreadable none f =
+pub readable_whole : (agrees : Files → Listings → Type 0) (has_failed : Text → Bool) (fails : Type 0) (judged : Environment) (dirs withheld : List Text) (found : SiteAudit) (unreadable : Vec (String Global) Global)
+    → unreadable.items ≡ [] → IsFound agrees judged dirs withheld found → IsReadable agrees has_failed fails judged dirs withheld (record { found = found; unreadable = unreadable })
+readable_whole agrees has_failed fails judged dirs withheld found unreadable none f =
     let no_texts : texts_in unreadable ≡ [] = ap (λ (l : List (String Global)). map (λ (s : String Global). string_bytes s) l) none in
     record {
-      unreadable = no_unreadable HasFailed fails (texts_in unreadable) no_texts;
+      unreadable = no_unreadable has_failed fails (texts_in unreadable) no_texts;
       found = subst (λ (ps : List Text). IsFoundWithout agrees ps judged dirs withheld found) (sym no_texts) (found_whole agrees judged dirs withheld found f);
     }
 
 -- the paths that are hidden, in their order
-pub readable_left : (agrees : Files → Listings → Type 0) (HasFailed : Text → Type 0) (fails : Type 0) (judged : Environment) (dirs withheld hidden : List Text) (found : SiteAudit) (unreadable : Vec (String Global) Global)
-    → fails → IsStrictlySortedBy (slice_cmp nat_cmp) (texts_in unreadable) → AreSame (texts_in unreadable) hidden → All HasFailed hidden → IsFoundWithout agrees hidden judged dirs withheld found
-    → IsReadable agrees HasFailed fails judged dirs withheld (record { found = found; unreadable = unreadable })
-readable_left agrees HasFailed fails judged dirs withheld hidden found unreadable failed order same all f = record {
-  unreadable = record { order = order; failed = all_of_same HasFailed (texts_in unreadable) hidden same all; cause = inr failed };
+pub readable_left : (agrees : Files → Listings → Type 0) (has_failed : Text → Bool) (fails : Type 0) (judged : Environment) (dirs withheld hidden : List Text) (found : SiteAudit) (unreadable : Vec (String Global) Global)
+    → fails → IsStrictlySortedBy (slice_cmp nat_cmp) (texts_in unreadable) → AreSame (texts_in unreadable) hidden → AllFailed has_failed hidden → IsFoundWithout agrees hidden judged dirs withheld found
+    → IsReadable agrees has_failed fails judged dirs withheld (record { found = found; unreadable = unreadable })
+readable_left agrees has_failed fails judged dirs withheld hidden found unreadable failed order same all f = record {
+  unreadable = record { order = order; failed = all_of_same (λ (path : Text). has_failed path ≡ true) (texts_in unreadable) hidden same all; cause = inr failed };
   found = found_same agrees (texts_in unreadable) hidden judged dirs withheld found same f;
 }
 
@@ -214,23 +214,23 @@ device_failed agrees P judged dirs fault t (inr (inl h)) = absurd (false≢true 
 device_failed agrees P judged dirs fault t (inr (inr w)) = walk_failed agrees P judged w.0 (sym (ap is_failure w.1) ∙ t) w.3
 
 -- memory is wanting, or the device has failed so often
-pub site_given_up : (agrees : Files → Listings → Type 0) (HasFailed : Text → Type 0) (often : Type 0) (judged : Environment) (dirs : List Text) (fault : AuditFault) → IsGivenUp often fault
-    → IsSiteFault agrees HasFailed often judged dirs fault
-site_given_up agrees HasFailed often judged dirs (Refused refusal) h = given_up refusal h
-site_given_up agrees HasFailed often judged dirs BadArguments h = absurd h
-site_given_up agrees HasFailed often judged dirs EmptyModulepath h = absurd h
-site_given_up agrees HasFailed often judged dirs TooManyDirectories h = absurd h
-site_given_up agrees HasFailed often judged dirs (NotADirectory dir) h = absurd h
-site_given_up agrees HasFailed often judged dirs WriteFailed h = absurd h
+pub site_given_up : (agrees : Files → Listings → Type 0) (has_failed : Text → Bool) (often : Type 0) (judged : Environment) (dirs : List Text) (fault : AuditFault) → IsGivenUp often fault
+    → IsSiteFault agrees has_failed often judged dirs fault
+site_given_up agrees has_failed often judged dirs (Refused refusal) h = given_up refusal h
+site_given_up agrees has_failed often judged dirs BadArguments h = absurd h
+site_given_up agrees has_failed often judged dirs EmptyModulepath h = absurd h
+site_given_up agrees has_failed often judged dirs TooManyDirectories h = absurd h
+site_given_up agrees has_failed often judged dirs (NotADirectory dir) h = absurd h
+site_given_up agrees has_failed often judged dirs WriteFailed h = absurd h
 
-other_given_up : (agrees : Files → Listings → Type 0) (HasFailed : Text → Type 0) (failed often : Type 0) (judged : Environment) (dirs hidden : List Text) (fault : AuditFault) → is_failure fault ≡ false
-    → IsGivenUp failed fault → IsSiteFault agrees HasFailed often judged dirs (unless_hidden hidden fault)
-other_given_up agrees HasFailed failed often judged dirs hidden (Refused refusal) f h = given_up refusal (other_cause (cause_of refusal) failed often (λ (reason : RequestReason). ⊥) f h)
-other_given_up agrees HasFailed failed often judged dirs hidden BadArguments f h = absurd h
-other_given_up agrees HasFailed failed often judged dirs hidden EmptyModulepath f h = absurd h
-other_given_up agrees HasFailed failed often judged dirs hidden TooManyDirectories f h = absurd h
-other_given_up agrees HasFailed failed often judged dirs hidden (NotADirectory dir) f h = absurd h
-other_given_up agrees HasFailed failed often judged dirs hidden WriteFailed f h = absurd h
+other_given_up : (agrees : Files → Listings → Type 0) (has_failed : Text → Bool) (failed often : Type 0) (judged : Environment) (dirs hidden : List Text) (fault : AuditFault) → is_failure fault ≡ false
+    → IsGivenUp failed fault → IsSiteFault agrees has_failed often judged dirs (unless_hidden hidden fault)
+other_given_up agrees has_failed failed often judged dirs hidden (Refused refusal) f h = given_up refusal (other_cause (cause_of refusal) failed often (λ (reason : RequestReason). ⊥) f h)
+other_given_up agrees has_failed failed often judged dirs hidden BadArguments f h = absurd h
+other_given_up agrees has_failed failed often judged dirs hidden EmptyModulepath f h = absurd h
+other_given_up agrees has_failed failed often judged dirs hidden TooManyDirectories f h = absurd h
+other_given_up agrees has_failed failed often judged dirs hidden (NotADirectory dir) f h = absurd h
+other_given_up agrees has_failed failed often judged dirs hidden WriteFailed f h = absurd h
 
 -- with nothing hidden a fault stays
 unhidden : (fault : AuditFault) → unless_hidden [] fault ≡ fault
@@ -251,14 +251,14 @@ walk_unhidden hidden (walks.Refused refusal) = refl
 walk_unhidden hidden walks.TooManyDirectories = refl
 
 -- a fault over the whole tree that is none of the device
-pub whole_fault : (agrees : Files → Listings → Type 0) (HasFailed : Text → Type 0) (failed often : Type 0) (judged : Environment) (dirs : List Text) (fault : AuditFault) → is_failure fault ≡ false
-    → IsFoundFault agrees failed judged dirs fault → IsSiteFault agrees HasFailed often judged dirs fault
-whole_fault agrees HasFailed failed often judged dirs fault f (inl (inl d)) = subst (λ (x : AuditFault). IsSiteFault agrees HasFailed often judged dirs x) (sym d.1) (no_directory d.0 d.2)
-whole_fault agrees HasFailed failed often judged dirs fault f (inl (inr h)) =
-    subst (λ (x : AuditFault). IsSiteFault agrees HasFailed often judged dirs x) (unhidden fault) (other_given_up agrees HasFailed failed often judged dirs [] fault f h)
-whole_fault agrees HasFailed failed often judged dirs fault f (inr (inl h)) = subst (λ (x : AuditFault). IsSiteFault agrees HasFailed often judged dirs x) (sym h.0) (empty_modulepath h.1 h.2)
-whole_fault agrees HasFailed failed often judged dirs fault f (inr (inr w)) = subst (λ (x : AuditFault). IsSiteFault agrees HasFailed often judged dirs x) (sym w.1)
-    (no_walk [] w.0 w.2 (All-nil HasFailed) (other_walk agrees (AgreesWithout [] agrees) failed often judged w.0 (whole_pairs agrees) (sym (ap is_failure w.1) ∙ f) w.3))
+pub whole_fault : (agrees : Files → Listings → Type 0) (has_failed : Text → Bool) (failed often : Type 0) (judged : Environment) (dirs : List Text) (fault : AuditFault) → is_failure fault ≡ false
+    → IsFoundFault agrees failed judged dirs fault → IsSiteFault agrees has_failed often judged dirs fault
+whole_fault agrees has_failed failed often judged dirs fault f (inl (inl d)) = subst (λ (x : AuditFault). IsSiteFault agrees has_failed often judged dirs x) (sym d.1) (no_directory d.0 d.2)
+whole_fault agrees has_failed failed often judged dirs fault f (inl (inr h)) =
+    subst (λ (x : AuditFault). IsSiteFault agrees has_failed often judged dirs x) (unhidden fault) (other_given_up agrees has_failed failed often judged dirs [] fault f h)
+whole_fault agrees has_failed failed often judged dirs fault f (inr (inl h)) = subst (λ (x : AuditFault). IsSiteFault agrees has_failed often judged dirs x) (sym h.0) (empty_modulepath h.1 h.2)
+whole_fault agrees has_failed failed often judged dirs fault f (inr (inr w)) = subst (λ (x : AuditFault). IsSiteFault agrees has_failed often judged dirs x) (sym w.1)
+    (no_walk [] w.0 w.2 (All-nil (λ (path : Text). has_failed path ≡ true)) (other_walk agrees (AgreesWithout [] agrees) failed often judged w.0 (whole_pairs agrees) (sym (ap is_failure w.1) ∙ f) w.3))
 
 -- a word whose directory isn't seen: it is hidden, or isn't there
 hidden_is : (a b : Bool) → (not a && b) ≡ true → (a ≡ false) × (b ≡ true)
@@ -276,10 +276,10 @@ shown_gone hidden seen agrees dir apart (inr shown) (inl e) = inl e
 shown_gone hidden seen agrees dir apart (inr shown) (inr gone) = inr (λ files listings a.
     sym (ap (λ b. cond b None (listings dir)) shown) ∙ gone (without hidden files) (without hidden listings) (left_without hidden seen agrees apart files listings a))
 
-word_fault : (hidden seen : List Text) (agrees : Files → Listings → Type 0) (HasFailed : Text → Type 0) (often : Type 0) (judged : Environment) (dirs : List Text) (dir : String Global) (b : Bool)
-    → AreApart hidden seen → All HasFailed hidden → is_hidden hidden (string_bytes dir) ≡ b → IsFirstGone (MayAgreeWithout hidden seen agrees) dirs (string_bytes dir)
-    → IsSiteFault agrees HasFailed often judged dirs (cond b (Refused (refused_read trees.Device)) (NotADirectory dir))
-word_fault hidden seen agrees HasFailed often judged dirs dir true apart all is f =
+word_fault : (hidden seen : List Text) (agrees : Files → Listings → Type 0) (has_failed : Text → Bool) (often : Type 0) (judged : Environment) (dirs : List Text) (dir : String Global) (b : Bool)
+    → AreApart hidden seen → AllFailed has_failed hidden → is_hidden hidden (string_bytes dir) ≡ b → IsFirstGone (MayAgreeWithout hidden seen agrees) dirs (string_bytes dir)
+    → IsSiteFault agrees has_failed often judged dirs (cond b (Refused (refused_read trees.Device)) (NotADirectory dir))
+word_fault hidden seen agrees has_failed often judged dirs dir true apart all is f =
     let at = hidden_is (is_no_element (string_bytes dir)) (is_among hidden (string_bytes dir)) is in
     unreadable_directory (record {
       before = f.before;
@@ -288,9 +288,9 @@ word_fault hidden seen agrees HasFailed often judged dirs dir true apart all is 
       order = f.order;
       there = whole_directories hidden seen agrees f.before apart f.there;
       is_element = at.0;
-      failed = of_among HasFailed hidden (string_bytes dir) all at.1;
+      failed = of_among (λ (path : Text). has_failed path ≡ true) hidden (string_bytes dir) all at.1;
     })
-word_fault hidden seen agrees HasFailed often judged dirs dir false apart all is f =
+word_fault hidden seen agrees has_failed often judged dirs dir false apart all is f =
     no_directory dir (record {
       before = f.before;
       after = f.after;
@@ -300,30 +300,30 @@ word_fault hidden seen agrees HasFailed often judged dirs dir false apart all is
     })
 
 -- a fault over a tree with hidden paths that is none of the device, as one over the whole tree
-pub left_fault : (hidden seen : List Text) (agrees : Files → Listings → Type 0) (HasFailed : Text → Type 0) (failed often : Type 0) (judged : Environment) (dirs : List Text) (fault : AuditFault)
-    → AreApart hidden seen → All HasFailed hidden → is_failure fault ≡ false → IsFoundFault (MayAgreeWithout hidden seen agrees) failed judged dirs fault
-    → IsSiteFault agrees HasFailed often judged dirs (unless_hidden hidden fault)
-left_fault hidden seen agrees HasFailed failed often judged dirs fault apart all f (inl (inl d)) =
-    subst (λ (x : AuditFault). IsSiteFault agrees HasFailed often judged dirs (unless_hidden hidden x)) (sym d.1)
-    (word_fault hidden seen agrees HasFailed often judged dirs d.0 (is_hidden hidden (string_bytes d.0)) apart all refl d.2)
-left_fault hidden seen agrees HasFailed failed often judged dirs fault apart all f (inl (inr h)) = other_given_up agrees HasFailed failed often judged dirs hidden fault f h
-left_fault hidden seen agrees HasFailed failed often judged dirs fault apart all f (inr (inl h)) =
-    subst (λ (x : AuditFault). IsSiteFault agrees HasFailed often judged dirs (unless_hidden hidden x)) (sym h.0)
+pub left_fault : (hidden seen : List Text) (agrees : Files → Listings → Type 0) (has_failed : Text → Bool) (failed often : Type 0) (judged : Environment) (dirs : List Text) (fault : AuditFault)
+    → AreApart hidden seen → AllFailed has_failed hidden → is_failure fault ≡ false → IsFoundFault (MayAgreeWithout hidden seen agrees) failed judged dirs fault
+    → IsSiteFault agrees has_failed often judged dirs (unless_hidden hidden fault)
+left_fault hidden seen agrees has_failed failed often judged dirs fault apart all f (inl (inl d)) =
+    subst (λ (x : AuditFault). IsSiteFault agrees has_failed often judged dirs (unless_hidden hidden x)) (sym d.1)
+    (word_fault hidden seen agrees has_failed often judged dirs d.0 (is_hidden hidden (string_bytes d.0)) apart all refl d.2)
+left_fault hidden seen agrees has_failed failed often judged dirs fault apart all f (inl (inr h)) = other_given_up agrees has_failed failed often judged dirs hidden fault f h
+left_fault hidden seen agrees has_failed failed often judged dirs fault apart all f (inr (inl h)) =
+    subst (λ (x : AuditFault). IsSiteFault agrees has_failed often judged dirs (unless_hidden hidden x)) (sym h.0)
     (empty_modulepath (whole_directories hidden seen agrees dirs apart h.1) h.2)
-left_fault hidden seen agrees HasFailed failed often judged dirs fault apart all f (inr (inr w)) =
-    subst (λ (x : AuditFault). IsSiteFault agrees HasFailed often judged dirs (unless_hidden hidden x)) (sym w.1)
-    (subst (λ (x : AuditFault). IsSiteFault agrees HasFailed often judged dirs x) (sym (walk_unhidden hidden w.0))
+left_fault hidden seen agrees has_failed failed often judged dirs fault apart all f (inr (inr w)) =
+    subst (λ (x : AuditFault). IsSiteFault agrees has_failed often judged dirs (unless_hidden hidden x)) (sym w.1)
+    (subst (λ (x : AuditFault). IsSiteFault agrees has_failed often judged dirs x) (sym (walk_unhidden hidden w.0))
     (no_walk hidden w.0 (whole_directories hidden seen agrees dirs apart w.2) all
     (other_walk (MayAgreeWithout hidden seen agrees) (AgreesWithout hidden agrees) failed often judged w.0 (left_pairs hidden seen agrees apart) (sym (ap is_failure w.1) ∙ f) w.3)))
 
 -- what is said of how often the device failed may say less
-pub site_fault_in : {fault : AuditFault} (agrees : Files → Listings → Type 0) (HasFailed : Text → Type 0) (P Q : Type 0) (judged : Environment) (dirs : List Text) → (P → Q)
-    → IsSiteFault agrees HasFailed P judged dirs fault → IsSiteFault agrees HasFailed Q judged dirs fault
-site_fault_in agrees HasFailed P Q judged dirs f (no_directory dir h) = no_directory dir h
-site_fault_in agrees HasFailed P Q judged dirs f (unreadable_directory h) = unreadable_directory h
-site_fault_in agrees HasFailed P Q judged dirs f (empty_modulepath there h) = empty_modulepath there h
-site_fault_in agrees HasFailed P Q judged dirs f (no_walk paths walked there all h) = no_walk paths walked there all (cause_in (AgreesWithout paths agrees) P Q standard judged walked f h)
-site_fault_in agrees HasFailed P Q judged dirs f (given_up refusal h) = given_up refusal (applies_in (cause_of refusal) P Q (λ (reason : RequestReason). ⊥) f h)
+pub site_fault_in : {fault : AuditFault} (agrees : Files → Listings → Type 0) (has_failed : Text → Bool) (P Q : Type 0) (judged : Environment) (dirs : List Text) → (P → Q)
+    → IsSiteFault agrees has_failed P judged dirs fault → IsSiteFault agrees has_failed Q judged dirs fault
+site_fault_in agrees has_failed P Q judged dirs f (no_directory dir h) = no_directory dir h
+site_fault_in agrees has_failed P Q judged dirs f (unreadable_directory h) = unreadable_directory h
+site_fault_in agrees has_failed P Q judged dirs f (empty_modulepath there h) = empty_modulepath there h
+site_fault_in agrees has_failed P Q judged dirs f (no_walk paths walked there all h) = no_walk paths walked there all (cause_in (AgreesWithout paths agrees) P Q standard judged walked f h)
+site_fault_in agrees has_failed P Q judged dirs f (given_up refusal h) = given_up refusal (applies_in (cause_of refusal) P Q (λ (reason : RequestReason). ⊥) f h)
 
 -- ---- where the device failed
 

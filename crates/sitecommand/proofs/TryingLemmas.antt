@@ -1,15 +1,16 @@
 -- Trials of the modules of an audit, one after another, and what they read.
 use Rattle.std.proofs.Common.{◌≡◌, ◌+◌, ◌<◌, ◌≤◌, ℕ, zero, suc, arith, Bool, true, false, string_bytes, List, [], ◌∷◌, ◌++◌, map, take, length, get_or, Option}
-use Rattle.std.proofs.Common.{refl, ap, sym, subst, ◌∙◌, inl, inr, ◌||◌}
+use Rattle.std.proofs.Common.{String, Global, refl, ap, sym, subst, ◌∙◌, inl, inr, ◌||◌}
 use Rattle.std.proofs.lemmas.Bool.{false≢true, or_cases}
 use Rattle.std.proofs.lemmas.List.{take_more}
+use Rattle.std.proofs.lemmas.List.Elements.{All-weaker}
+use Rattle.std.specs.Option.{ForSome}
 use Rattle.std.specs.Prelude.{◌⊎◌}
 use Rattle.envvars.specs.Environment.{Environment}
 use Rattle.envvars.specs.Texts.{Text, texts_in}
 use Rattle.filetree.specs.Agreement.{FailedAt, FailsIf, Files, InEachPair, Listings, Narrows, ReadsOn}
 use Rattle.filetree.specs.Causes.{Cause, memory, device, because, Applies}
-use Rattle.hidingtree.specs.Hidden.{AgreesWithout, HasFailedAt, without}
-use Rattle.hidingtree.proofs.HidingLemmas.{all_failed_before}
+use Rattle.hidingtree.specs.Hidden.{AgreesWithout, AllFailed, without}
 use Rattle.requests.specs.Reasons.{RequestReason}
 use Rattle.requests.specs.Steps.{RequestContext}
 use Rattle.modules.specs.Answers.{cause_of, is_of_device}
@@ -30,7 +31,7 @@ use Rattle.trials.specs.declared.trial.Trial.{Trial}
 use Rattle.trials.specs.declared.trial.Trial.TheVariants.{Returns, Leaves, LoadRefused, UnloadRefused, AlreadyLoaded}
 use Rattle.trials.specs.declared.trial.Trial.TheVariants.{LoadsAnother}
 use Rattle.sitecommand.specs.Audits.{AreUnreadable, IsSiteFault, given_up}
-use Rattle.sitecommand.specs.Looked.{JudgedLooksAt, ReadsUnlessFails, SiteLooksAt, TrialsLookAt}
+use Rattle.sitecommand.specs.Looked.{JudgedLooksAt, KeepsFailed, ReadsUnlessFails, SiteLooksAt, TrialsLookAt}
 use Rattle.sitecommand.specs.Steps.{IsFoundWithout, IsReadable, IsTriedAudit}
 use Rattle.sitecommand.specs.Tried.{AreTrials, IsTrialOf, has_failed_trial, some_failed}
 use Rattle.sitecommand.specs.declared.audit_fault.AuditFault.TheVariants.{Refused}
@@ -115,6 +116,18 @@ reads_trans agrees failures old mid new h k = record {
 failed_since : (before same now : Text → Bool) (at : Text) → same ≡ before → FailedAt same now at → FailedAt before now at
 failed_since before same now at e f = subst (λ (b : Text → Bool). FailedAt b now at) e f
 
+-- one reading more forgets no path with failures
+pub keeps_turn : (fails : Bool) (old mid new : Text → Bool) (Where : Text → Type 0) → KeepsFailed old mid → FailsIf fails mid new Where → KeepsFailed old new
+keeps_turn false old mid new Where k f path h = ap (λ (b : Text → Bool). b path) f ∙ k path h
+keeps_turn true old mid new Where k f path h = f.1.kept path (k path h)
+
+-- paths with failures stay so
+pub all_kept : (before now : Text → Bool) → KeepsFailed before now → (paths : List Text) → AllFailed before paths → AllFailed now paths
+all_kept before now k paths all = All-weaker (λ path. before path ≡ true) (λ path. now path ≡ true) k paths all
+
+pub some_kept : (before now : Text → Bool) → KeepsFailed before now → (path : Option (String Global)) → ForSome path (λ p. before (string_bytes p) ≡ true) → ForSome path (λ p. now (string_bytes p) ≡ true)
+some_kept before now k path some = λ p e. k (string_bytes p) (some p e)
+
 -- one reading more
 pub reads_turn : {T : Type 0} (agrees : T → Files → Listings → Type 0) (failures : T → ℕ) (failed : T → Text → Bool) (old mid new : T) (LooksAt : Files → Listings → Text → Type 0) (fails : Bool)
     → ReadsUnlessFails agrees failures failed old mid LooksAt → ReadsOn agrees failures mid new → (fails ≡ true → failures mid < failures new)
@@ -182,8 +195,8 @@ found_later before after paths judged dirs withheld found n f = record {
 }
 
 module _ {T : Type 0} (agrees : T → Files → Listings → Type 0) (failures : T → ℕ) (failed : T → Text → Bool) (old mid new : T) (judged : Environment) (dirs withheld : List Text) (seen : SeenAudit)
-    (reads : ReadsOn agrees failures mid new)
-    (readable : IsReadable (agrees mid) (HasFailedAt agrees failures failed mid) (failures old < failures mid) judged dirs withheld seen) where
+    (reads : ReadsOn agrees failures mid new) (kept : KeepsFailed (failed mid) (failed new))
+    (readable : IsReadable (agrees mid) (failed mid) (failures old < failures mid) judged dirs withheld seen) where
   abbrev paths : List Text
   paths = texts_in seen.unreadable
 
@@ -194,10 +207,10 @@ module _ {T : Type 0} (agrees : T → Files → Listings → Type 0) (failures :
   pub tried_audit : (audit : ReadableAudit) → audit.found ≡ seen.found → audit.unreadable ≡ seen.unreadable → failures old ≤ failures mid
       → InEachPair (agrees new) (λ files listings. AreTrials (in_sh standard files listings) judged seen.found.modules.items audit.trials.items)
       → (some_failed audit.trials.items ≡ true → failures mid < failures new)
-      → IsTriedAudit (agrees new) (HasFailedAt agrees failures failed new) (failures old < failures new) judged dirs withheld audit
+      → IsTriedAudit (agrees new) (failed new) (failures old < failures new) judged dirs withheld audit
   tried_audit audit same_found same_paths counts tried ended = record {
-    unreadable = subst (λ (ps : _). AreUnreadable (HasFailedAt agrees failures failed new) (failures old < failures new) (texts_in ps)) (sym same_paths)
-        (record { order = readable.unreadable.order; failed = all_failed_before agrees failures failed mid new reads paths readable.unreadable.failed; cause = caused readable.unreadable.cause });
+    unreadable = subst (λ (ps : _). AreUnreadable (failed new) (failures old < failures new) (texts_in ps)) (sym same_paths)
+        (record { order = readable.unreadable.order; failed = all_kept (failed mid) (failed new) kept paths readable.unreadable.failed; cause = caused readable.unreadable.cause });
     found = subst (λ (ps : _). IsFoundWithout (agrees new) (texts_in ps) judged dirs withheld audit.found) (sym same_paths)
         (subst (λ (f : SiteAudit). IsFoundWithout (agrees new) paths judged dirs withheld f) (sym same_found)
         (found_later (agrees mid) (agrees new) paths judged dirs withheld seen.found reads.narrows readable.found));
@@ -236,9 +249,9 @@ module _ {T : Type 0} (agrees : T → Files → Listings → Type 0) (failures :
   })
 
 -- want of memory
-pub out_of_memory : (agrees : Files → Listings → Type 0) (HasFailed : Text → Type 0) (often : Type 0) (judged : Environment) (dirs : List Text) (refusal : Refusal) → cause_of refusal ≡ memory
-    → IsSiteFault agrees HasFailed often judged dirs (Refused refusal)
-out_of_memory agrees HasFailed often judged dirs refusal e = given_up refusal (subst (λ (c : Cause RequestReason). Applies c often (λ reason. ⊥)) (sym e) tt)
+pub out_of_memory : (agrees : Files → Listings → Type 0) (has_failed : Text → Bool) (often : Type 0) (judged : Environment) (dirs : List Text) (refusal : Refusal) → cause_of refusal ≡ memory
+    → IsSiteFault agrees has_failed often judged dirs (Refused refusal)
+out_of_memory agrees has_failed often judged dirs refusal e = given_up refusal (subst (λ (c : Cause RequestReason). Applies c often (λ reason. ⊥)) (sym e) tt)
 
 -- one of the modules is tried
 pub looks_among : (agrees : Files → Listings → Type 0) (judged : Environment) (modules : List AuditedModule) (m : AuditedModule) (fails : Bool) (before now : Text → Bool) → IsAmong m modules

@@ -5,16 +5,17 @@ use Rattle.std.specs.Cmp.Lexicographic.{slice_cmp}
 use Rattle.std.specs.Ordering.{nat_cmp}
 use Rattle.std.specs.declared.alloc.Global.{Global}
 use Rattle.std.specs.declared.string.String.{String}
-use Rattle.std.specs.List.{All, join_with_byte, list_all, list_any}
+use Rattle.std.specs.List.{join_with_byte, list_all, list_any}
 use Rattle.std.specs.List.Sorted.{IsStrictlySortedBy}
 use Rattle.std.specs.Io.KnownBytes.{Keeps, Appends}
+use Rattle.columns.specs.Columns.{aligned}
 use Rattle.envvars.specs.Texts.{Text, texts_in}
 use Rattle.envvars.specs.Environment.{Environment, with_value}
 use Rattle.filetree.specs.Agreement.{Files, Listings, InEachPair}
 use Rattle.filetree.specs.Causes.{Applies, memory}
 use Rattle.filetree.specs.Modulefiles.{directories}
 use Rattle.filetree.specs.declared.tree.TreeFault.TheVariants.{Device}
-use Rattle.hidingtree.specs.Hidden.{AgreesWithout}
+use Rattle.hidingtree.specs.Hidden.{AgreesWithout, AllFailed}
 use Rattle.requests.specs.Steps.{modulepath}
 use Rattle.modules.specs.Answers.{cause_of, refused_read}
 use Rattle.modules.specs.declared.refusal.Refusal.{Refusal}
@@ -33,6 +34,8 @@ use Rattle.sitecommand.specs.Tried.{AreTrials, some_failed}
 use Rattle.sitecommand.specs.Faults.{line_of, of_walk, usage}
 use Rattle.sitecommand.specs.declared.arguments.Format.{Format}
 use Rattle.sitecommand.specs.declared.arguments.Format.TheVariants.{Lines, Document}
+use Rattle.sitecommand.specs.declared.layout.Layout.{Layout}
+use Rattle.sitecommand.specs.declared.layout.Layout.TheVariants.{Tabs, Columns}
 use Rattle.sitecommand.specs.declared.audit_exit.AuditExit.{AuditExit}
 use Rattle.sitecommand.specs.declared.audit_exit.AuditExit.TheVariants.{AllCertified, SomeNotCertified, Helped}
 use Rattle.sitecommand.specs.declared.audit_exit.AuditExit.TheVariants.{Reported, CutShort}
@@ -91,7 +94,7 @@ pub record IsFirstGone (agrees : Files → Listings → Type 0) (dirs : List Tex
   pub gone : IsNoDirectory agrees dir
 
 -- The device has failed at one of these paths, which MODULEPATH can hold, and those before it are there.
-pub record IsFirstUnreadable (agrees : Files → Listings → Type 0) (HasFailed : Text → Type 0) (dirs : List Text)
+pub record IsFirstUnreadable (agrees : Files → Listings → Type 0) (has_failed : Text → Bool) (dirs : List Text)
     : Type 0 where
   pub before : List Text
   pub dir : Text
@@ -99,25 +102,25 @@ pub record IsFirstUnreadable (agrees : Files → Listings → Type 0) (HasFailed
   pub order : dirs ≡ before ++ dir ∷ after
   pub there : AreDirectories agrees before
   pub is_element : is_no_element dir ≡ false
-  pub failed : HasFailed dir
+  pub failed : has_failed dir ≡ true
 
 -- These paths can't be read, each once, in the order of their bytes: the device has failed at each of them. There are
 -- none where it has not failed in the call.
-pub record AreUnreadable (HasFailed : Text → Type 0) (fails : Type 0) (paths : List Text) : Type 0 where
+pub record AreUnreadable (has_failed : Text → Bool) (fails : Type 0) (paths : List Text) : Type 0 where
   pub order : IsStrictlySortedBy (slice_cmp nat_cmp) paths
-  pub failed : All HasFailed paths
+  pub failed : AllFailed has_failed paths
   pub cause : (paths ≡ []) ⊎ fails
 
 -- The site that the arguments name was audited, without what can't be read: each of their directories is there, the
 -- MODULEPATH of the audit has one, what was found is an audit of the site as it is without those paths, and its
 -- certificate holds; and each module that is neither certified nor refused was tried, where the device ended a trial only
 -- if it failed in the call.
-pub record IsAudited (agrees : Files → Listings → Type 0) (HasFailed : Text → Type 0) (fails : Type 0)
+pub record IsAudited (agrees : Files → Listings → Type 0) (has_failed : Text → Bool) (fails : Type 0)
     (e : Environment) (arguments : List Text) (wanted : Wanted) (audit : ReadableAudit) : Type 0 where
   pub asked : wanted_of arguments ≡ Some wanted
   pub directories : AreDirectories agrees wanted.directories
   pub begins : has_directory (judged_env e wanted.directories) ≡ true
-  pub unreadable : AreUnreadable HasFailed fails (texts_in audit.unreadable)
+  pub unreadable : AreUnreadable has_failed fails (texts_in audit.unreadable)
   pub exact : InEachPair (AgreesWithout (texts_in audit.unreadable) agrees) (λ files listings.
       IsAudit (judged_site e wanted files listings) wanted.without audit.found)
   pub holds : InEachPair (AgreesWithout (texts_in audit.unreadable) agrees) (λ files listings.
@@ -128,14 +131,19 @@ pub record IsAudited (agrees : Files → Listings → Type 0) (HasFailed : Text 
 
 -- ---- what is written
 
--- the report, as lines or as one JSON document
-abbrev pub text_by : Format → Wanted → ReadableAudit → Text
-text_by Lines wanted audit = report_of wanted.selection audit
-text_by Document wanted audit = document_text wanted.selection audit
+-- lines with tabs between their fields, as they are or in aligned columns
+abbrev pub laid_out : Layout → Text → Text
+laid_out Tabs lines = lines
+laid_out Columns lines = aligned lines
+
+-- the report, as lines that are laid out so, or as one JSON document
+abbrev pub text_by : Format → Layout → Wanted → ReadableAudit → Text
+text_by Lines layout wanted audit = laid_out layout (report_of wanted.selection audit)
+text_by Document layout wanted audit = document_text wanted.selection audit
 
 -- the same by what is asked for
-abbrev pub report_text : Wanted → ReadableAudit → Text
-report_text wanted audit = text_by wanted.format wanted audit
+abbrev pub report_text : Layout → Wanted → ReadableAudit → Text
+report_text layout wanted audit = text_by wanted.format layout wanted audit
 
 -- each module is certified, and all can be read
 abbrev pub all_certified : ReadableAudit → Bool
@@ -176,47 +184,47 @@ WritesHelp exit text out out' err err' = AppendsPart out out' text × WritesFaul
 -- the last are looked for: a word names no directory, and it is the first; or the device has failed at the first that
 -- can't be judged; each of them is there, and MODULEPATH has no directory, or the walk over the site, without what can't
 -- be read, has a cause. At any time memory is wanting, or the device has failed too often.
-pub data IsSiteFault (agrees : Files → Listings → Type 0) (HasFailed : Text → Type 0) (often : Type 0)
+pub data IsSiteFault (agrees : Files → Listings → Type 0) (has_failed : Text → Bool) (often : Type 0)
     (judged : Environment) (dirs : List Text) : AuditFault → Type 0 where
   no_directory : (dir : String Global) → IsFirstGone agrees dirs (string_bytes dir)
-      → IsSiteFault agrees HasFailed often judged dirs (NotADirectory dir)
-  unreadable_directory : IsFirstUnreadable agrees HasFailed dirs
-      → IsSiteFault agrees HasFailed often judged dirs (Refused (refused_read Device))
+      → IsSiteFault agrees has_failed often judged dirs (NotADirectory dir)
+  unreadable_directory : IsFirstUnreadable agrees has_failed dirs
+      → IsSiteFault agrees has_failed often judged dirs (Refused (refused_read Device))
   empty_modulepath : AreDirectories agrees dirs → has_directory judged ≡ false
-      → IsSiteFault agrees HasFailed often judged dirs EmptyModulepath
-  no_walk : (paths : List Text) (fault : WalkFault) → AreDirectories agrees dirs → All HasFailed paths
+      → IsSiteFault agrees has_failed often judged dirs EmptyModulepath
+  no_walk : (paths : List Text) (fault : WalkFault) → AreDirectories agrees dirs → AllFailed has_failed paths
       → HasCause (AgreesWithout paths agrees) often standard judged fault
-      → IsSiteFault agrees HasFailed often judged dirs (of_walk fault)
+      → IsSiteFault agrees has_failed often judged dirs (of_walk fault)
   given_up : (refusal : Refusal) → Applies (cause_of refusal) often (λ reason. ⊥)
-      → IsSiteFault agrees HasFailed often judged dirs (Refused refusal)
+      → IsSiteFault agrees has_failed often judged dirs (Refused refusal)
 
 -- The cause of a fault: an option isn't known; the site that is asked for has a cause; or memory is wanting.
-pub data IsAuditFault (agrees : Files → Listings → Type 0) (HasFailed : Text → Type 0) (often : Type 0)
+pub data IsAuditFault (agrees : Files → Listings → Type 0) (has_failed : Text → Bool) (often : Type 0)
     (e : Environment) (arguments : List Text) : AuditFault → Type 0 where
-  unknown_option : wanted_of arguments ≡ None → IsAuditFault agrees HasFailed often e arguments BadArguments
+  unknown_option : wanted_of arguments ≡ None → IsAuditFault agrees has_failed often e arguments BadArguments
   of_site : (wanted : Wanted) (fault : AuditFault) → wanted_of arguments ≡ Some wanted
-      → IsSiteFault agrees HasFailed often (judged_env e wanted.directories) wanted.directories fault
-      → IsAuditFault agrees HasFailed often e arguments fault
+      → IsSiteFault agrees has_failed often (judged_env e wanted.directories) wanted.directories fault
+      → IsAuditFault agrees has_failed often e arguments fault
   no_memory : (refusal : Refusal) → cause_of refusal ≡ memory
-      → IsAuditFault agrees HasFailed often e arguments (Refused refusal)
+      → IsAuditFault agrees has_failed often e arguments (Refused refusal)
 
 -- What an audit writes, by how it ended: its report; or nothing on standard output, and the line that says why there is
 -- none on standard error. The numbers are those of the device's failures before and after: it is given up only where it
 -- failed in between, and a thousand times in all.
-abbrev pub EndsJudged : AuditExit → (Files → Listings → Type 0) → (Text → Type 0) → ℕ → ℕ → Environment → List Text
+abbrev pub EndsJudged : AuditExit → Layout → (Files → Listings → Type 0) → (Text → Bool) → ℕ → ℕ → Environment → List Text
     → Option Text → Option Text → Option Text → Option Text → Type 0
-EndsJudged exit agrees HasFailed before now e arguments out out' err err' =
-    ((wanted : Wanted) × (audit : ReadableAudit) × IsAudited agrees HasFailed (before < now) e arguments wanted audit
-    × WritesAudit exit (all_certified audit) (report_text wanted audit) out out' err err')
-    ⊎ ((fault : AuditFault) × IsAuditFault agrees HasFailed ((before < now) × (1000 ≤ now)) e arguments fault
+EndsJudged exit layout agrees has_failed before now e arguments out out' err err' =
+    ((wanted : Wanted) × (audit : ReadableAudit) × IsAudited agrees has_failed (before < now) e arguments wanted audit
+    × WritesAudit exit (all_certified audit) (report_text layout wanted audit) out out' err err')
+    ⊎ ((fault : AuditFault) × IsAuditFault agrees has_failed ((before < now) × (1000 ≤ now)) e arguments fault
     × Keeps out out' × WritesFault exit err err' fault)
 
 -- The same, or where the arguments ask for help, that alone: then nothing is read.
-abbrev pub EndsAudit : AuditExit → Type 0 → (Files → Listings → Type 0) → (Text → Type 0) → ℕ → ℕ → Environment
+abbrev pub EndsAudit : AuditExit → Layout → Type 0 → (Files → Listings → Type 0) → (Text → Bool) → ℕ → ℕ → Environment
     → List Text → Option Text → Option Text → Option Text → Option Text → Type 0
-EndsAudit exit unread agrees HasFailed before now e arguments out out' err err' =
+EndsAudit exit layout unread agrees has_failed before now e arguments out out' err err' =
     ((asks_help arguments ≡ true) × unread × WritesHelp exit help_text out out' err err')
-    ⊎ ((asks_help arguments ≡ false) × EndsJudged exit agrees HasFailed before now e arguments out out' err err')
+    ⊎ ((asks_help arguments ≡ false) × EndsJudged exit layout agrees has_failed before now e arguments out out' err err')
 
 -- the status of the process
 abbrev pub status_of : AuditExit → ℕ

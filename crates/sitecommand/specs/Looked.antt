@@ -1,6 +1,6 @@
 -- Where a whole audit looks (own): the paths of the files and directories that it reads or lists on its way. A failure of
 -- the device at another path neither ends it nor hides anything.
-use Rattle.std.specs.Prelude.{◌≡◌, ◌⊎◌, ℕ, ◌<◌, ◌≤◌, Bool, false, List, [], ◌∷◌, ◌++◌, Some, IsSome, string_bytes}
+use Rattle.std.specs.Prelude.{◌≡◌, ◌⊎◌, ℕ, ◌<◌, ◌≤◌, Bool, true, false, List, [], ◌∷◌, ◌++◌, Some, IsSome, string_bytes}
 use Rattle.envvars.specs.Texts.{Text}
 use Rattle.envvars.specs.Environment.{Environment}
 use Rattle.filetree.specs.Agreement.{FailedAt, Files, InEachPair, Listings, ReadsOn}
@@ -58,6 +58,10 @@ abbrev pub TrialsLookAt : Environment → List AuditedModule → Files → Listi
 TrialsLookAt judged modules files listings at =
     (m : AuditedModule) × IsAmong m modules
     × TrialLooksAt (in_sh standard files listings) judged (string_bytes m.name) (string_bytes m.path) at
+
+-- no path with failures is forgotten
+abbrev pub KeepsFailed : (Text → Bool) → (Text → Bool) → Type 0
+KeepsFailed before now = (path : Text) → before path ≡ true → now path ≡ true
 
 -- By the trees before and after a call: the device failed in it, and first at this path, which the call looks at by
 -- each pair of maps that agrees with the tree right after that.

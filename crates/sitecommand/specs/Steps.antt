@@ -25,6 +25,7 @@ use Rattle.sitecommand.specs.Faults.{of_walk}
 use Rattle.modules.specs.Verdicts.{in_sh}
 use Rattle.modules.specs.declared.refusal.Refusal.{Refusal}
 use Rattle.sitecommand.specs.Tried.{AreTrials, has_failed_trial, some_failed}
+use Rattle.sitecommand.specs.declared.layout.Layout.{Layout}
 use Rattle.sitecommand.specs.declared.readable.SeenAudit.{SeenAudit}
 use Rattle.trials.specs.declared.trial.Trial.{Trial}
 use Rattle.sitecommand.specs.declared.running.PreparedAudit.{PreparedAudit}
@@ -93,36 +94,36 @@ pub record IsFoundWithout (agrees : Files → Listings → Type 0) (paths : List
       CertificateStands (site_of standard judged files listings) found)
 
 -- What is found of the site without what can't be read, and the paths of that.
-pub record IsReadable (agrees : Files → Listings → Type 0) (HasFailed : Text → Type 0) (fails : Type 0)
+pub record IsReadable (agrees : Files → Listings → Type 0) (has_failed : Text → Bool) (fails : Type 0)
     (judged : Environment) (dirs without : List Text) (audit : SeenAudit) : Type 0 where
-  pub unreadable : AreUnreadable HasFailed fails (texts_in audit.unreadable)
+  pub unreadable : AreUnreadable has_failed fails (texts_in audit.unreadable)
   pub found : IsFoundWithout agrees (texts_in audit.unreadable) judged dirs without audit.found
 
 -- The same, with the trials of the modules in the environment that is judged: the device has failed in the call where it
 -- ended one of them.
-pub record IsTriedAudit (agrees : Files → Listings → Type 0) (HasFailed : Text → Type 0) (fails : Type 0)
+pub record IsTriedAudit (agrees : Files → Listings → Type 0) (has_failed : Text → Bool) (fails : Type 0)
     (judged : Environment) (dirs without : List Text) (audit : ReadableAudit) : Type 0 where
-  pub unreadable : AreUnreadable HasFailed fails (texts_in audit.unreadable)
+  pub unreadable : AreUnreadable has_failed fails (texts_in audit.unreadable)
   pub found : IsFoundWithout agrees (texts_in audit.unreadable) judged dirs without audit.found
   pub tried : InEachPair agrees (λ files listings.
       AreTrials (in_sh standard files listings) judged audit.found.modules.items audit.trials.items)
   pub failed : some_failed audit.trials.items ≡ true → fails
 
--- What is to be written of an audit of what is asked for.
-pub record IsPrepared (agrees : Files → Listings → Type 0) (HasFailed : Text → Type 0) (fails : Type 0)
+-- What is to be written of an audit of what is asked for, where its lines are laid out so.
+pub record IsPrepared (layout : Layout) (agrees : Files → Listings → Type 0) (has_failed : Text → Bool) (fails : Type 0)
     (e : Environment) (wanted : Wanted) (answer : PreparedAudit) : Type 0 where
   pub audit : ReadableAudit
-  pub tried : IsTriedAudit agrees HasFailed fails (judged_env e wanted.directories) wanted.directories wanted.without
+  pub tried : IsTriedAudit agrees has_failed fails (judged_env e wanted.directories) wanted.directories wanted.without
       audit
   pub certified : answer.is_all_certified ≡ all_certified audit
-  pub report : answer.report.items ≡ report_text wanted audit
+  pub report : answer.report.items ≡ report_text layout wanted audit
 
 -- the same of an audit by its arguments
-pub record IsPreparedAudit (agrees : Files → Listings → Type 0) (HasFailed : Text → Type 0) (fails : Type 0)
-    (e : Environment) (arguments : List Text) (answer : PreparedAudit) : Type 0 where
+pub record IsPreparedAudit (layout : Layout) (agrees : Files → Listings → Type 0) (has_failed : Text → Bool)
+    (fails : Type 0) (e : Environment) (arguments : List Text) (answer : PreparedAudit) : Type 0 where
   pub wanted : Wanted
   pub asked : wanted_of arguments ≡ Some wanted
-  pub prepared : IsPrepared agrees HasFailed fails e wanted answer
+  pub prepared : IsPrepared layout agrees has_failed fails e wanted answer
 
 -- the cause of a fault, where the site is judged in this environment and words name these directories
 abbrev pub IsFoundFault : (Files → Listings → Type 0) → Type 0 → Environment → List Text → AuditFault → Type 0

@@ -6,6 +6,7 @@ mod arguments;
 mod audit_exit;
 mod audit_fault;
 mod directories;
+mod layout;
 mod readable;
 mod running;
 mod trying;
@@ -13,4 +14,5 @@ mod unreadable;
 
 pub use audit_exit::AuditExit;
 pub use audit_fault::{AuditFault, write_fault};
+pub use layout::Layout;
 pub use running::run_audit;

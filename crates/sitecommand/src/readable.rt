@@ -2,7 +2,6 @@
 ghost use Rattle.std.specs.Prelude.{◌≡◌, ◌<◌, ◌≤◌, map, IfOk, IfErr, IfSome, string_bytes};
 ghost use Rattle.filetree.specs.Agreement.{FailsWhere, ReadsOn};
 ghost use Rattle.hidingtree.specs.Hidden as hidden;
-ghost use Rattle.hidingtree.specs.Hidden.{HasFailedAt};
 ghost use Rattle.modules.specs.Answers.{is_failure};
 ghost use Rattle.sitecommand.specs.Audits.{IsSiteFault};
 ghost use Rattle.sitecommand.specs.Faults as spec;
@@ -148,7 +147,7 @@ fn audit_seen<T: Tree + Drop, P: WalkProgress>(
         (map string_bytes tree.new.hidden.items) judged.now (map string_bytes directories.now)
         (map string_bytes without.now))) }
     ensures refused { IfErr result (IsSiteFault (T.agrees tree.new.tree)
-        (HasFailedAt T.agrees T.failures T.failed tree.new.tree) (1000 ≤ T.failures tree.new.tree) judged.now
+        (T.failed tree.new.tree) (1000 ≤ T.failures tree.new.tree) judged.now
         (map string_bytes directories.now)) }
 {
     match audit_wanted(alloc, directories, without, judged, tree, progress) {
@@ -175,11 +174,11 @@ fn audit_without<T: Tree + Drop, P: WalkProgress>(
 ) -> Result<SeenAudit, AuditFault>
     ensures counts { T.failures tree.old.tree ≤ T.failures tree.new.tree }
     ensures found { IfOk result (IsReadable (T.agrees tree.new.tree)
-        (HasFailedAt T.agrees T.failures T.failed tree.new.tree)
+        (T.failed tree.new.tree)
         (T.failures tree.old.tree ≤ T.failures tree.new.tree) judged.now (map string_bytes directories.now)
         (map string_bytes without.now)) }
     ensures refused { IfErr result (IsSiteFault (T.agrees tree.new.tree)
-        (HasFailedAt T.agrees T.failures T.failed tree.new.tree) (1000 ≤ T.failures tree.new.tree) judged.now
+        (T.failed tree.new.tree) (1000 ≤ T.failures tree.new.tree) judged.now
         (map string_bytes directories.now)) }
 {
     for _ in 0..MOST_HIDDEN {
@@ -210,11 +209,11 @@ pub(crate) fn audit_readable<T: Tree + Drop, P: WalkProgress>(
     ensures reads { ReadsUnlessFails T.agrees T.failures T.failed tree.old.tree tree.new.tree
         (SiteLooksAt judged.now (map string_bytes directories.now)) }
     ensures found { IfOk result (IsReadable (T.agrees tree.new.tree)
-        (HasFailedAt T.agrees T.failures T.failed tree.new.tree)
+        (T.failed tree.new.tree)
         (T.failures tree.old.tree < T.failures tree.new.tree) judged.now (map string_bytes directories.now)
         (map string_bytes without.now)) }
     ensures refused { IfErr result (IsSiteFault (T.agrees tree.new.tree)
-        (HasFailedAt T.agrees T.failures T.failed tree.new.tree)
+        (T.failed tree.new.tree)
         ((T.failures tree.old.tree < T.failures tree.new.tree) × (1000 ≤ T.failures tree.new.tree)) judged.now
         (map string_bytes directories.now)) }
 {

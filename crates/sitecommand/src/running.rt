@@ -1,7 +1,6 @@
 //! Runs an audit (modaudit(1)): its arguments, what it finds, and what it writes.
 ghost use Rattle.std.specs.Prelude.{◌≡◌, ◌<◌, ◌≤◌, map, IfOk, IfErr, string_bytes};
 ghost use Rattle.std.specs.List.{list_all};
-ghost use Rattle.hidingtree.specs.Hidden.{HasFailedAt};
 ghost use Rattle.siteaudit.specs.Audits.{is_certified};
 ghost use Rattle.sitecommand.specs.ArgumentViews.{wanted_view};
 ghost use Rattle.sitecommand.specs.Audits as spec;
@@ -14,6 +13,7 @@ use crate::arguments::{AuditArguments, Format, asks_help, wanted_of};
 use crate::audit_exit::AuditExit;
 use crate::audit_fault::{AuditFault, write_fault};
 use crate::directories::judged_env;
+use crate::layout::Layout;
 use crate::trying::audit_tried;
 use envvars::Env;
 use filetree::Tree;
@@ -41,12 +41,13 @@ struct PreparedAudit {
 fn report_of(
     alloc: Global,
     wanted: &AuditArguments,
+    layout: Layout,
     audit: &ReadableAudit,
 ) -> Result<Vec<u8>, AllocError>
-    ensures { IfOk result (λ report. report.items ≡ spec.report_text (wanted_view wanted.now) audit.now) }
+    ensures { IfOk result (λ report. report.items ≡ spec.report_text layout (wanted_view wanted.now) audit.now) }
 {
     match wanted.format {
-        Format::Lines => line_report(alloc, wanted.selection, audit),
+        Format::Lines => layout.laid_out(alloc, line_report(alloc, wanted.selection, audit)?),
         Format::Document => json_report(alloc, wanted.selection, audit),
     }
 }
@@ -71,17 +72,17 @@ fn is_all_certified(audit: &ReadableAudit) -> bool
 fn prepare<T: Tree + Drop, P: WalkProgress>(
     alloc: Global,
     wanted: &AuditArguments,
+    layout: Layout,
     env: Env,
     tree: &mut HidingTree<T>,
     progress: &mut P,
 ) -> Result<PreparedAudit, AuditFault>
     ensures reads { ReadsUnlessFails T.agrees T.failures T.failed tree.old.tree tree.new.tree
         (JudgedLooksAt (judged_env env (wanted_view wanted.now).directories) (wanted_view wanted.now).directories) }
-    ensures answered { IfOk result (IsPrepared (T.agrees tree.new.tree)
-        (HasFailedAt T.agrees T.failures T.failed tree.new.tree)
+    ensures answered { IfOk result (IsPrepared layout (T.agrees tree.new.tree) (T.failed tree.new.tree)
         (T.failures tree.old.tree < T.failures tree.new.tree) env (wanted_view wanted.now)) }
     ensures refused { IfErr result (IsSiteFault (T.agrees tree.new.tree)
-        (HasFailedAt T.agrees T.failures T.failed tree.new.tree)
+        (T.failed tree.new.tree)
         ((T.failures tree.old.tree < T.failures tree.new.tree) × (1000 ≤ T.failures tree.new.tree))
         (judged_env env (wanted_view wanted.now).directories) (wanted_view wanted.now).directories) }
 {
@@ -95,7 +96,7 @@ fn prepare<T: Tree + Drop, P: WalkProgress>(
         tree,
         progress,
     )?;
-    let report = report_of(alloc, wanted, &audit)?;
+    let report = report_of(alloc, wanted, layout, &audit)?;
     Ok(PreparedAudit {
         is_all_certified: is_all_certified(&audit),
         report,
@@ -106,23 +107,23 @@ fn prepare<T: Tree + Drop, P: WalkProgress>(
 fn answer_of<T: Tree + Drop, P: WalkProgress>(
     alloc: Global,
     args: &[String],
+    layout: Layout,
     env: Env,
     tree: &mut HidingTree<T>,
     progress: &mut P,
 ) -> Result<PreparedAudit, AuditFault>
     ensures reads { ReadsUnlessFails T.agrees T.failures T.failed tree.old.tree tree.new.tree
         (AuditCommandLooksAt env (map string_bytes args.now)) }
-    ensures answered { IfOk result (IsPreparedAudit (T.agrees tree.new.tree)
-        (HasFailedAt T.agrees T.failures T.failed tree.new.tree)
+    ensures answered { IfOk result (IsPreparedAudit layout (T.agrees tree.new.tree) (T.failed tree.new.tree)
         (T.failures tree.old.tree < T.failures tree.new.tree) env (map string_bytes args.now)) }
     ensures refused { IfErr result (IsAuditFault (T.agrees tree.new.tree)
-        (HasFailedAt T.agrees T.failures T.failed tree.new.tree)
+        (T.failed tree.new.tree)
         ((T.failures tree.old.tree < T.failures tree.new.tree) × (1000 ≤ T.failures tree.new.tree)) env
         (map string_bytes args.now)) }
 {
     match wanted_of(alloc, args)? {
         None => Err(AuditFault::BadArguments),
-        Some(wanted) => prepare(alloc, &wanted, env, tree, progress),
+        Some(wanted) => prepare(alloc, &wanted, layout, env, tree, progress),
     }
 }
 
@@ -167,6 +168,7 @@ fn write_help<W: Write, E: Write>(text: &str, out: &mut W, err: &mut E) -> Audit
 fn run_judged<T: Tree + Drop, P: WalkProgress, W: Write, E: Write>(
     alloc: Global,
     args: &[String],
+    layout: Layout,
     env: Env,
     tree: &mut HidingTree<T>,
     progress: &mut P,
@@ -175,11 +177,11 @@ fn run_judged<T: Tree + Drop, P: WalkProgress, W: Write, E: Write>(
 ) -> AuditExit
     ensures reads { ReadsUnlessFails T.agrees T.failures T.failed tree.old.tree tree.new.tree
         (AuditCommandLooksAt env (map string_bytes args.now)) }
-    ensures ended { EndsJudged result (T.agrees tree.new.tree) (HasFailedAt T.agrees T.failures T.failed tree.new.tree)
+    ensures ended { EndsJudged result layout (T.agrees tree.new.tree) (T.failed tree.new.tree)
         (T.failures tree.old.tree) (T.failures tree.new.tree) env (map string_bytes args.now)
         (W.contents out.old) (W.contents out.new) (E.contents err.old) (E.contents err.new) }
 {
-    let answer = answer_of(alloc, args, env, tree, progress);
+    let answer = answer_of(alloc, args, layout, env, tree, progress);
     // Nothing is under way any more, and the streams are free for what is written.
     progress.evaluated(0, 0);
     match answer {
@@ -195,14 +197,15 @@ fn run_judged<T: Tree + Drop, P: WalkProgress, W: Write, E: Write>(
 /// program is called, and nothing else is done. A word that begins with `-` and is no such option is refused (56), but
 /// not after the word `--`; after that the first word that names no directory is a fault of its own, before anything of
 /// the site is read, and so is one at which the device fails (43), and a MODULEPATH without a directory. Each file of the
-/// site is read once, and the report goes to standard output. It names the other files and directories that can't be
-/// read, each once: the device failed at each of them, and the audit is one of what stands elsewhere. There is none (43)
-/// only where the device failed in this call, and a thousand times in all.
+/// site is read once, and the report goes to standard output, its lines laid out as is said. It names the other files and
+/// directories that can't be read, each once: the device failed at each of them, and the audit is one of what stands
+/// elsewhere. There is none (43) only where the device failed in this call, and a thousand times in all.
 ///
 /// Where there is a fault before the report is made, nothing is written but the line that says why, to standard error.
 pub fn run_audit<T: Tree + Drop, P: WalkProgress, W: Write, E: Write>(
     alloc: Global,
     args: &[String],
+    layout: Layout,
     env: Env,
     tree: &mut HidingTree<T>,
     progress: &mut P,
@@ -211,13 +214,13 @@ pub fn run_audit<T: Tree + Drop, P: WalkProgress, W: Write, E: Write>(
 ) -> AuditExit
     ensures reads { ReadsUnlessFails T.agrees T.failures T.failed tree.old.tree tree.new.tree
         (AuditCommandLooksAt env (map string_bytes args.now)) }
-    ensures ended { EndsAudit result (tree.new ≡ tree.old) (T.agrees tree.new.tree)
-        (HasFailedAt T.agrees T.failures T.failed tree.new.tree) (T.failures tree.old.tree) (T.failures tree.new.tree) env
+    ensures ended { EndsAudit result layout (tree.new ≡ tree.old) (T.agrees tree.new.tree)
+        (T.failed tree.new.tree) (T.failures tree.old.tree) (T.failures tree.new.tree) env
         (map string_bytes args.now) (W.contents out.old) (W.contents out.new) (E.contents err.old)
         (E.contents err.new) }
 {
     if asks_help(args) {
         return write_help(HELP, out, err);
     }
-    run_judged(alloc, args, env, tree, progress, out, err)
+    run_judged(alloc, args, layout, env, tree, progress, out, err)
 }

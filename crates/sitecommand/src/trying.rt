@@ -1,6 +1,5 @@
 //! What happens with the modules of an audit in the environment that is judged.
 ghost use Rattle.std.specs.Prelude.{◌≡◌, ◌<◌, ◌≤◌, true, map, IfOk, IfErr, string_bytes};
-ghost use Rattle.hidingtree.specs.Hidden.{HasFailedAt};
 ghost use Rattle.sitecommand.specs.Audits.{IsSiteFault};
 ghost use Rattle.filetree.specs.Agreement.{FailsIf, InEachPair, ReadsOn};
 ghost use Rattle.filetree.specs.Causes.{memory};
@@ -8,7 +7,7 @@ ghost use Rattle.modules.specs.Answers.{cause_of};
 ghost use Rattle.modules.specs.Verdicts.{in_sh};
 ghost use Rattle.modulecmd.specs.Command.{standard};
 ghost use Rattle.trials.specs.Trials.{TrialLooksAt};
-ghost use Rattle.sitecommand.specs.Looked.{JudgedLooksAt, ReadsUnlessFails, TrialsLookAt};
+ghost use Rattle.sitecommand.specs.Looked.{JudgedLooksAt, KeepsFailed, ReadsUnlessFails, TrialsLookAt};
 ghost use Rattle.sitecommand.specs.Steps.{IsTriedAudit, is_failed_trial};
 ghost use Rattle.sitecommand.specs.Tried as spec;
 ghost use Rattle.sitecommand.specs.Tried.{AreTrials, IsTrialOf, has_failed_trial, some_failed};
@@ -87,6 +86,7 @@ fn trials_of<T: Tree>(
     ensures failures { IfOk result (λ trials.
         some_failed trials.items ≡ true → T.failures tree.old < T.failures tree.new) }
     ensures cause { IfErr result (λ refusal. cause_of refusal ≡ memory) }
+    ensures kept { KeepsFailed (T.failed tree.old) (T.failed tree.new) }
     ensures failed { ReadsUnlessFails T.agrees T.failures T.failed tree.old tree.new
         (TrialsLookAt judged.now modules.now) }
 {
@@ -112,11 +112,11 @@ pub(crate) fn audit_tried<T: Tree + Drop, P: WalkProgress>(
     ensures reads { ReadsUnlessFails T.agrees T.failures T.failed tree.old.tree tree.new.tree
         (JudgedLooksAt judged.now (map string_bytes directories.now)) }
     ensures found { IfOk result (IsTriedAudit (T.agrees tree.new.tree)
-        (HasFailedAt T.agrees T.failures T.failed tree.new.tree)
+        (T.failed tree.new.tree)
         (T.failures tree.old.tree < T.failures tree.new.tree) judged.now (map string_bytes directories.now)
         (map string_bytes without.now)) }
     ensures refused { IfErr result (IsSiteFault (T.agrees tree.new.tree)
-        (HasFailedAt T.agrees T.failures T.failed tree.new.tree)
+        (T.failed tree.new.tree)
         ((T.failures tree.old.tree < T.failures tree.new.tree) × (1000 ≤ T.failures tree.new.tree)) judged.now
         (map string_bytes directories.now)) }
 {

@@ -1,8 +1,7 @@
-use Rattle.std.proofs.Common.{◌<◌, ◌≤◌, List, map, string_bytes, String, sym, ◌∙◌, inl, inr}
+use Rattle.std.proofs.Common.{Bool, ◌<◌, ◌≤◌, List, map, string_bytes, String, sym, ◌∙◌, inl, inr}
 use Rattle.std.specs.declared.alloc.Global.{Global}
 use Rattle.envvars.specs.Texts.{Text}
-use Rattle.hidingtree.proofs.HidingLemmas.{all_failed_before, some_failed_before}
-use Rattle.hidingtree.specs.Hidden.{HasFailedAt}
+use Rattle.hidingtree.proofs.HidingLemmas.{all_failed_too, some_failed_too}
 use Rattle.sitecommand.specs.Audits.{IsSiteFault}
 use Rattle.sitecommand.specs.Faults.{is_failure}
 use Rattle.sitecommand.specs.Looked.{SiteLooksAt}
@@ -17,36 +16,36 @@ texts l = map (λ s. string_bytes s) l
 
 pub invariant_of-tree-clause-failed : goal.invariant_of-tree-clause-failed
 invariant_of-tree-clause-failed g c =
-    all_failed_before g.T.Tree.agrees g.T.Tree.failures g.T.Tree.failed c.args.tree.now.tree c.audit_wanted.new.tree c.audit_wanted.ensures.reads (texts c.args.tree.now.hidden.items) c.args.tree.now.failed
+    all_failed_too is_failure (g.T.Tree.failed c.args.tree.now.tree) (g.T.Tree.failed c.audit_wanted.new.tree) c.audit_wanted.result _ c.audit_wanted.ensures.failed (texts c.args.tree.now.hidden.items) c.args.tree.now.failed
 
 pub invariant_of-tree-clause-failed_there : goal.invariant_of-tree-clause-failed_there
 invariant_of-tree-clause-failed_there g c =
-    some_failed_before g.T.Tree.agrees g.T.Tree.failures g.T.Tree.failed c.args.tree.now.tree c.audit_wanted.new.tree c.audit_wanted.ensures.reads c.args.tree.now.failed_at c.args.tree.now.failed_there
+    some_failed_too is_failure (g.T.Tree.failed c.args.tree.now.tree) (g.T.Tree.failed c.audit_wanted.new.tree) c.audit_wanted.result _ c.audit_wanted.ensures.failed c.args.tree.now.failed_at c.args.tree.now.failed_there
 
 pub returns-in-Ok-clause-found : goal.returns-in-Ok-clause-found
 returns-in-Ok-clause-found g c =
     let tree = c.audit_wanted.new.tree in
-    readable_whole (g.T.Tree.agrees tree) (HasFailedAt g.T.Tree.agrees g.T.Tree.failures g.T.Tree.failed tree) (g.T.Tree.failures c.args.tree.now.tree < g.T.Tree.failures tree) c.args.judged.now
+    readable_whole (g.T.Tree.agrees tree) (g.T.Tree.failed tree) (g.T.Tree.failures c.args.tree.now.tree < g.T.Tree.failures tree) c.args.judged.now
     (texts c.args.directories.now) (texts c.args.without.now) c.in-Ok.found c.new.result c.new.ensures.items c.in-Ok.ensures.found
 
 pub returns-else-is_failure-clause-refused : goal.returns-else-is_failure-clause-refused
 returns-else-is_failure-clause-refused g c =
     let tree = c.audit_wanted.new.tree in
-    whole_fault (g.T.Tree.agrees tree) (HasFailedAt g.T.Tree.agrees g.T.Tree.failures g.T.Tree.failed tree) _ ((g.T.Tree.failures c.args.tree.now.tree < g.T.Tree.failures tree) × (1000 ≤ g.T.Tree.failures tree))
+    whole_fault (g.T.Tree.agrees tree) (g.T.Tree.failed tree) _ ((g.T.Tree.failures c.args.tree.now.tree < g.T.Tree.failures tree) × (1000 ≤ g.T.Tree.failures tree))
     c.args.judged.now (texts c.args.directories.now) c.in-Err.fault (sym c.is_failure.ensures ∙ c.if-is_failure.false) c.in-Err.ensures.refused
 
 pub returns-then-is_failure-clause-refused : goal.returns-then-is_failure-clause-refused
 returns-then-is_failure-clause-refused g c =
     let tree = c.audit_without.new.tree in
     let agrees = g.T.Tree.agrees tree.tree in
-    let HasFailed : Text → Type 0 = HasFailedAt g.T.Tree.agrees g.T.Tree.failures g.T.Tree.failed tree.tree in
+    let has_failed : Text → Bool = g.T.Tree.failed tree.tree in
     let often = 1000 ≤ g.T.Tree.failures tree.tree in
     let first = g.T.Tree.failures c.args.tree.now.tree in
     let was = g.T.Tree.failures c.audit_wanted.new.tree in
     let dirs = texts c.args.directories.now in
     let fails = device_failed (g.T.Tree.agrees c.audit_wanted.new.tree) (first < was) c.args.judged.now dirs c.in-Err.fault (sym c.is_failure.ensures ∙ c.if-is_failure.true) c.in-Err.ensures.refused in
-    if_err_so c.audit_without.result (IsSiteFault agrees HasFailed often c.args.judged.now dirs) (IsSiteFault agrees HasFailed ((first < g.T.Tree.failures tree.tree) × often) c.args.judged.now dirs)
-    (λ fault h. site_fault_in agrees HasFailed often ((first < g.T.Tree.failures tree.tree) × often) c.args.judged.now dirs (λ o. (fails_before first was (g.T.Tree.failures tree.tree) c.audit_without.ensures.counts fails, o)) h)
+    if_err_so c.audit_without.result (IsSiteFault agrees has_failed often c.args.judged.now dirs) (IsSiteFault agrees has_failed ((first < g.T.Tree.failures tree.tree) × often) c.args.judged.now dirs)
+    (λ fault h. site_fault_in agrees has_failed often ((first < g.T.Tree.failures tree.tree) × often) c.args.judged.now dirs (λ o. (fails_before first was (g.T.Tree.failures tree.tree) c.audit_without.ensures.counts fails, o)) h)
     c.audit_without.ensures.refused
 
 pub returns-in-Ok-clause-reads : goal.returns-in-Ok-clause-reads
@@ -74,6 +73,6 @@ returns-then-is_failure-clause-found g c =
     let dirs = texts c.args.directories.now in
     let fails = device_failed (g.T.Tree.agrees c.audit_wanted.new.tree) (first < was) c.args.judged.now dirs c.in-Err.fault (sym c.is_failure.ensures ∙ c.if-is_failure.true) c.in-Err.ensures.refused in
     IfOk-weaker c.audit_without.result _ _
-    (λ audit h. readable_in (g.T.Tree.agrees tree.tree) (HasFailedAt g.T.Tree.agrees g.T.Tree.failures g.T.Tree.failed tree.tree) (was ≤ g.T.Tree.failures tree.tree) (first < g.T.Tree.failures tree.tree) c.args.judged.now dirs
+    (λ audit h. readable_in (g.T.Tree.agrees tree.tree) (g.T.Tree.failed tree.tree) (was ≤ g.T.Tree.failures tree.tree) (first < g.T.Tree.failures tree.tree) c.args.judged.now dirs
     (texts c.args.without.now) audit (λ k. fails_before first was (g.T.Tree.failures tree.tree) k fails) h)
     c.audit_without.ensures.found

@@ -1,6 +1,5 @@
 use Rattle.std.proofs.Common.{◌<◌, ◌≤◌}
 use Rattle.std.proofs.lemmas.Result.{err_from_is_err_and}
-use Rattle.hidingtree.specs.Hidden.{HasFailedAt}
 use Rattle.modules.specs.declared.refusal.Refusal.TheVariants.{OutOfMemory}
 use Rattle.sitecommand.specs.ArgumentViews.{wanted_view}
 use Rattle.sitecommand.specs.Audits.{given_up, judged_env}
@@ -16,7 +15,7 @@ returns-in_err-judged-clause-refused g c =
     let often = (failures < failures) × (1000 ≤ failures) in
     let wanted = wanted_view c.args.wanted.now in
     let fault = c.in_err-judged.field-0.0 in
-    rw (p.1, p.2) (site_given_up (g.T.Tree.agrees tree) (HasFailedAt g.T.Tree.agrees g.T.Tree.failures g.T.Tree.failed tree) often (judged_env c.args.env wanted.directories) wanted.directories fault
+    rw (p.1, p.2) (site_given_up (g.T.Tree.agrees tree) (g.T.Tree.failed tree) often (judged_env c.args.env wanted.directories) wanted.directories fault
     (given_up_in fault ⊥ often (λ (x : ⊥). absurd x) c.in_err-judged.ensures.cause))
 
 pub returns-in_err-audit-clause-refused : goal.returns-in_err-audit-clause-refused

@@ -1,10 +1,9 @@
-use Rattle.std.proofs.Common.{List, map, string_bytes, String, refl}
+use Rattle.std.proofs.Common.{List, map, string_bytes, String, refl, inl}
 use Rattle.std.specs.declared.alloc.Global.{Global}
 use Rattle.envvars.specs.Texts.{Text}
-use Rattle.hidingtree.specs.Hidden.{HasFailedAt}
-use Rattle.hidingtree.proofs.HidingLemmas.{all_failed_before, some_failed_before}
-use Rattle.sitecommand.specs.Looked.{SiteLooksAt}
-use Rattle.sitecommand.proofs.TryingLemmas.{counts_unless, out_of_memory, reads_with_trials, tried_audit}
+use Rattle.sitecommand.specs.Looked.{JudgedLooksAt, SiteLooksAt}
+use Rattle.sitecommand.proofs.ReadableLemmas.{reads_wider}
+use Rattle.sitecommand.proofs.TryingLemmas.{all_kept, counts_unless, out_of_memory, reads_with_trials, some_kept, tried_audit}
 use Rattle.sitecommand.proofs.trying.audit_tried.Goals as goal
 
 abbrev texts : List (String Global) → List Text
@@ -13,12 +12,12 @@ texts l = map (λ s. string_bytes s) l
 pub invariant_of-tree-clause-failed : goal.invariant_of-tree-clause-failed
 invariant_of-tree-clause-failed g c =
     let tree = c.audit_readable.new.tree in
-    all_failed_before g.T.Tree.agrees g.T.Tree.failures g.T.Tree.failed tree.tree c.trials_of.new.tree c.trials_of.ensures.reads (texts tree.hidden.items) tree.failed
+    all_kept (g.T.Tree.failed tree.tree) (g.T.Tree.failed c.trials_of.new.tree) c.trials_of.ensures.kept (texts tree.hidden.items) tree.failed
 
 pub invariant_of-tree-clause-failed_there : goal.invariant_of-tree-clause-failed_there
 invariant_of-tree-clause-failed_there g c =
     let tree = c.audit_readable.new.tree in
-    some_failed_before g.T.Tree.agrees g.T.Tree.failures g.T.Tree.failed tree.tree c.trials_of.new.tree c.trials_of.ensures.reads tree.failed_at tree.failed_there
+    some_kept (g.T.Tree.failed tree.tree) (g.T.Tree.failed c.trials_of.new.tree) c.trials_of.ensures.kept tree.failed_at tree.failed_there
 
 pub returns-in-Ok-clause-reads : goal.returns-in-Ok-clause-reads
 returns-in-Ok-clause-reads g c =
@@ -28,7 +27,7 @@ returns-in-Ok-clause-reads g c =
     let judged = c.args.judged.now in
     let dirs = texts c.args.directories.now in
     let seen = c.in_ok-found.field-0 in
-    reads_with_trials g.T.Tree.agrees g.T.Tree.failures g.T.Tree.failed old mid new judged dirs (texts c.args.without.now) seen c.in-Ok.ensures.reads c.in_ok-found.ensures.found
+    reads_with_trials g.T.Tree.agrees g.T.Tree.failures g.T.Tree.failed old mid new judged dirs (texts c.args.without.now) seen c.in-Ok.ensures.reads c.trials_of.ensures.kept c.in_ok-found.ensures.found
     c.walks.ensures.modules c.in_ok-found.ensures.reads (rw c.as_slice.ensures.value at c.in-Ok.ensures.failed)
 
 pub returns-in-Ok-clause-found : goal.returns-in-Ok-clause-found
@@ -39,7 +38,7 @@ returns-in-Ok-clause-found g c =
     let judged = c.args.judged.now in
     let dirs = texts c.args.directories.now in
     let seen = c.in_ok-found.field-0 in
-    tried_audit g.T.Tree.agrees g.T.Tree.failures g.T.Tree.failed old mid new judged dirs (texts c.args.without.now) seen c.in-Ok.ensures.reads c.in_ok-found.ensures.found
+    tried_audit g.T.Tree.agrees g.T.Tree.failures g.T.Tree.failed old mid new judged dirs (texts c.args.without.now) seen c.in-Ok.ensures.reads c.trials_of.ensures.kept c.in_ok-found.ensures.found
     (record { found = seen.found; unreadable = seen.unreadable; trials = c.in-Ok.trials }) refl refl
     (counts_unless g.T.Tree.agrees g.T.Tree.failures g.T.Tree.failed old mid (SiteLooksAt judged dirs) c.in_ok-found.ensures.reads)
     (rw c.as_slice.ensures.value at c.in-Ok.ensures.tried) c.in-Ok.ensures.failures
@@ -52,10 +51,17 @@ returns-in-Err-clause-reads g c =
     let judged = c.args.judged.now in
     let dirs = texts c.args.directories.now in
     let seen = c.in_ok-found.field-0 in
-    reads_with_trials g.T.Tree.agrees g.T.Tree.failures g.T.Tree.failed old mid new judged dirs (texts c.args.without.now) seen c.in-Err.ensures.reads c.in_ok-found.ensures.found
+    reads_with_trials g.T.Tree.agrees g.T.Tree.failures g.T.Tree.failed old mid new judged dirs (texts c.args.without.now) seen c.in-Err.ensures.reads c.trials_of.ensures.kept c.in_ok-found.ensures.found
     c.walks.ensures.modules c.in_ok-found.ensures.reads (rw c.as_slice.ensures.value at c.in-Err.ensures.failed)
 
 pub returns-in-Err-clause-refused : goal.returns-in-Err-clause-refused
 returns-in-Err-clause-refused g c =
     let tree = c.trials_of.new.tree in
-    out_of_memory (g.T.Tree.agrees tree) (HasFailedAt g.T.Tree.agrees g.T.Tree.failures g.T.Tree.failed tree) _ c.args.judged.now (texts c.args.directories.now) c.in-Err.refusal c.in-Err.ensures.cause
+    out_of_memory (g.T.Tree.agrees tree) (g.T.Tree.failed tree) _ c.args.judged.now (texts c.args.directories.now) c.in-Err.refusal c.in-Err.ensures.cause
+
+pub returns-in_err-found-clause-reads : goal.returns-in_err-found-clause-reads
+returns-in_err-found-clause-reads g c =
+    let judged = c.args.judged.now in
+    let dirs = texts c.args.directories.now in
+    reads_wider g.T.Tree.agrees g.T.Tree.failures g.T.Tree.failed c.args.tree.now.tree c.audit_readable.new.tree.tree (SiteLooksAt judged dirs) (JudgedLooksAt judged dirs)
+    (λ files listings at h. inl h) c.in_err-found.ensures.reads

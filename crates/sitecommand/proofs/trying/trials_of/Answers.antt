@@ -3,7 +3,7 @@ use Rattle.modules.specs.Verdicts.{in_sh}
 use Rattle.modulecmd.specs.Command.{standard}
 use Rattle.sitecommand.specs.Looked.{TrialsLookAt}
 use Rattle.sitecommand.specs.Tried.{has_failed_trial}
-use Rattle.sitecommand.proofs.TryingLemmas.{among_at, counted_turn, looks_among, reads_turn, trials_turn}
+use Rattle.sitecommand.proofs.TryingLemmas.{among_at, counted_turn, keeps_turn, looks_among, reads_turn, trials_turn}
 use Rattle.sitecommand.proofs.trying.trials_of.Goals as goal
 
 pub loop-module-preserved : goal.loop-module-preserved
@@ -23,6 +23,7 @@ loop-module-preserved g c =
           c.in_ok-push.ensures.items (i.tried files listings (c.trial_of.ensures.reads.narrows files listings k)) (c.in_ok-trial_of.ensures.tried files listings k);
       counted = counted_turn c.loop-module.trials.items c.push.new.self.items t (g.T.Tree.failures old) (g.T.Tree.failures mid) (g.T.Tree.failures new) c.in_ok-push.ensures.items
           i.reads.counts_failures c.trial_of.ensures.reads.counts_failures i.counted c.in_ok-trial_of.ensures.failures;
+      kept = keeps_turn (has_failed_trial t) (failed old) (failed mid) (failed new) _ i.kept c.in_ok-trial_of.ensures.failed;
       looked = reads_turn g.T.Tree.agrees g.T.Tree.failures failed old mid new (TrialsLookAt judged modules) (has_failed_trial t) i.looked c.trial_of.ensures.reads c.in_ok-trial_of.ensures.failures
           (looks_among (g.T.Tree.agrees new) judged modules m (has_failed_trial t) (failed mid) (failed new)
           (among_at modules c.loop-module.module-index m c.loop-module-test.true c.module-item.is) c.in_ok-trial_of.ensures.failed);
@@ -41,3 +42,8 @@ returns-in_err-push-clause-failed g c =
     reads_turn g.T.Tree.agrees g.T.Tree.failures failed c.args.tree.now mid new (TrialsLookAt judged modules) (has_failed_trial t) i.looked c.trial_of.ensures.reads c.in_ok-trial_of.ensures.failures
     (looks_among (g.T.Tree.agrees new) judged modules m (has_failed_trial t) (failed mid) (failed new)
     (among_at modules c.loop-module.module-index m c.loop-module-test.true c.module-item.is) c.in_ok-trial_of.ensures.failed)
+
+pub returns-in_err-push-clause-kept : goal.returns-in_err-push-clause-kept
+returns-in_err-push-clause-kept g c =
+    let failed = g.T.Tree.failed in
+    keeps_turn (has_failed_trial c.in_ok-trial_of.field-0) (failed c.args.tree.now) (failed c.loop-module.tree) (failed c.trial_of.new.tree) _ c.loop-module.invariant.kept c.in_ok-trial_of.ensures.failed

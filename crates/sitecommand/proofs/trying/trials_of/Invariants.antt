@@ -2,7 +2,7 @@ use Rattle.std.proofs.Common.{◌≡◌, ◌<◌, true, take}
 use Rattle.filetree.specs.Agreement.{InEachPair, ReadsOn}
 use Rattle.modules.specs.Verdicts.{in_sh}
 use Rattle.modulecmd.specs.Command.{standard}
-use Rattle.sitecommand.specs.Looked.{ReadsUnlessFails, TrialsLookAt}
+use Rattle.sitecommand.specs.Looked.{KeepsFailed, ReadsUnlessFails, TrialsLookAt}
 use Rattle.sitecommand.specs.Tried.{AreTrials, some_failed}
 use Rattle.sitecommand.proofs.trying.trials_of.Given as goal
 
@@ -13,5 +13,6 @@ invariant-loop-module g l = record {
   tried : InEachPair (g.T.Tree.agrees l.tree) (λ files listings.
       AreTrials (in_sh standard files listings) l.judged (take l.module-index l.modules) l.trials.items);
   counted : some_failed l.trials.items ≡ true → g.T.Tree.failures l.initial.tree < g.T.Tree.failures l.tree;
+  kept : KeepsFailed (g.T.Tree.failed l.initial.tree) (g.T.Tree.failed l.tree);
   looked : ReadsUnlessFails g.T.Tree.agrees g.T.Tree.failures g.T.Tree.failed l.initial.tree l.tree (TrialsLookAt l.judged l.modules);
 }

@@ -1,0 +1,4 @@
+-- Lines in aligned columns (own).
+pub mod Columns
+pub mod Views
+pub mod Laws
