@@ -21,15 +21,15 @@ use Rattle.siteaudit.specs.declared.walk.Evaluation.{Evaluation}
 use Rattle.siteaudit.specs.Walks.{IsWalk, AreEvaluations}
 use Rattle.siteaudit.specs.declared.auditing.AuditedModule.{AuditedModule}
 use Rattle.siteaudit.specs.Audits.{is_withheld, remaining, audited_file, AllStand, certified_files, AreFirstReads}
-use Rattle.siteaudit.specs.Audits.{asking_among, AreAskingClashes}
-use Rattle.siteaudit.specs.declared.auditing.AskingClash.{AskingClash}
+use Rattle.siteaudit.specs.Audits.{HaveFurther}
 use Rattle.siteaudit.specs.SettledRuns.{settled_module, AreUsedReads}
-use Rattle.siteaudit.specs.Findings.{Shown, judged_of, steps_in, reads_along, modules_with, AreStandings}
+use Rattle.siteaudit.specs.Findings.{Shown, judged_of, steps_in, aside_in, reads_along, AreModulesWith, AreStandings}
 use Rattle.siteaudit.specs.Folders.{AreBadDefaultFiles}
 use Rattle.siteaudit.specs.Parts.{PartsAreAudits}
-use Rattle.siteaudit.proofs.Judged.{IsJudging, steps_are, certified_are, all_stand, files_are, reads_are, certified_files_are, asking_are}
+use Rattle.siteaudit.proofs.Judged.{IsJudging, steps_are, certified_are, all_stand, files_are, reads_are, certified_files_are}
 use Rattle.siteaudit.proofs.Evaluations.{same_files}
 use Rattle.siteaudit.proofs.FirstReads.{first_reads}
+use Rattle.siteaudit.proofs.Further.{all_further}
 use Rattle.siteaudit.proofs.UsedReads.{same_used, user_settled, answers_shown}
 use Rattle.siteaudit.proofs.Unknown.{mentioned_alike}
 use Rattle.siteaudit.proofs.HangingLemmas.{hanging_alike}
@@ -46,19 +46,19 @@ evaluated_all : Laws → (site : Site) (dirs : List Text) (outs : List Evaluated
 evaluated_all laws site dirs outs w = record { modules = λ m. laws.modules site dirs (map (λ (o : Evaluated). o.0) outs) w.directories w.modules m; evaluated = w.evaluated }
 
 -- how the modules stand
-record AreJudgedRight (site : Site) (without : List Text) (ms : List Module) (outs : List Evaluated) (modules : List AuditedModule) (found : List UsedVariable) (clashes : List AskingClash) : Type 0 where
+record AreJudgedRight (site : Site) (without : List Text) (ms : List Module) (outs : List Evaluated) (modules : List AuditedModule) (found : List UsedVariable) : Type 0 where
   files : map audited_file modules ≡ map (λ (o : Evaluated). o.0) outs
   reads : map (λ (m : AuditedModule). texts_in m.reads) modules ≡ map (λ (o : Evaluated). without_repeats (reads_of o)) outs
   standing : AllStand site without ms modules
   used : AreFirstReads (settled_among outs) modules
   uses : found ≡ each_once (certificate ms)
   certain : certified_files modules ≡ map file_of (certified ms)
-  asking : AreAskingClashes (filter is_in_step ms) (asking_among outs) clashes
+  further : HaveFurther (filter is_in_step ms) (settled_among outs) outs modules
 
 judged_right : Laws → (site : Site) (without : List Text) (es : List Evaluation) (outs : List Evaluated) (modules : List AuditedModule)
-    (uses : List UsedVariable) (clashes : List AskingClash) → AreEvaluated site outs → AreEvaluations es outs → AreStandings without es modules uses clashes
-    → AreJudgedRight site without (remaining without (candidates_among outs)) outs modules uses clashes
-judged_right laws site without es outs modules uses clashes all h s =
+    (uses : List UsedVariable) → AreEvaluated site outs → AreEvaluations es outs → AreStandings without es modules uses
+    → AreJudgedRight site without (remaining without (candidates_among outs)) outs modules uses
+judged_right laws site without es outs modules uses all h s =
     let shown : List Shown = s.by_themselves.shown in
     let ms : List Module = remaining without (candidates_among outs) in
     let readers : List Module = map settled_module es in
@@ -78,19 +78,19 @@ judged_right laws site without es outs modules uses clashes all h s =
       used = same;
       users = λ n v x a u. user_settled es outs n v x h a u;
     } in
-    let standings_are : modules ≡ modules_with (map (judged_of without) shown) s.answers = s.standings ∙ ap (λ js. modules_with js s.answers) s.by_themselves.kept in
+    let with_these : AreModulesWith (map (judged_of without) shown) s.answers s.beside modules = subst (λ js. AreModulesWith js s.answers s.beside modules) s.by_themselves.kept s.standings in
     let sure : without_clashes (filter is_in_step ms) s.answers ≡ certified ms = certified_are ms s.answers answers in
+    let beside : AreAnswers (filter is_in_step ms) (flat_map aside_in shown) s.beside = subst (λ (l : List Module). AreAnswers l (flat_map aside_in shown) s.beside) step
+    (subst (λ (l : List Module). AreAnswers s.in_step l s.beside) s.by_themselves.others s.answered_beside) in
     record {
-      files = ap (map audited_file) standings_are ∙ files_are without shown outs s.answers h';
-      reads = ap (map (λ (m : AuditedModule). texts_in m.reads)) standings_are ∙ reads_are without shown outs s.answers h';
-      standing = subst (AllStand site without ms) (sym standings_are)
-          (all_stand site without outs ms readers shown outs s.answers judging h' s.by_themselves.right answered shown_answers (λ o a. (all.evaluated o a, a)));
-      used = subst (AreFirstReads (settled_among outs)) (sym standings_are) (first_reads without es outs shown s.answers h s.by_themselves.right answered);
+      files = files_are without shown outs s.answers s.beside modules h' with_these;
+      reads = reads_are without shown outs s.answers s.beside modules h' with_these;
+      standing = all_stand site without outs ms readers shown outs s.answers s.beside modules judging h' s.by_themselves.right answered shown_answers (λ o a. (all.evaluated o a, a)) with_these;
+      used = first_reads without es outs shown s.answers s.beside modules h s.by_themselves.right answered with_these;
       uses = s.certified ∙ ap (λ (l : List Module). each_once (used_by_modules l)) (ap (λ (l : List Module). without_clashes l s.answers) step ∙ sure);
-      certain = ap certified_files standings_are ∙ (certified_files_are without (filter is_in_step ms) shown s.answers s.by_themselves.right shown_answers
-          ∙ ap (map file_of) (ap (λ (l : List Module). without_clashes l s.answers) steps ∙ sure));
-      asking = subst (λ (l : List Module). AreAskingClashes l (asking_among outs) clashes) step
-          (subst (λ (l : List Module). AreAskingClashes s.in_step l clashes) (s.by_themselves.asks ∙ asking_are shown outs h' s.by_themselves.right) s.beside);
+      certain = certified_files_are without (filter is_in_step ms) shown s.answers s.beside modules s.by_themselves.right shown_answers with_these
+          ∙ ap (map file_of) (ap (λ (l : List Module). without_clashes l s.answers) steps ∙ sure);
+      further = all_further without es outs (filter is_in_step ms) shown outs s.answers s.beside modules h h' s.by_themselves.right answered beside with_these;
     }
 
 -- ---- the whole
@@ -103,7 +103,7 @@ parts_are_audits laws site without walk found (outs, w, h) parts =
     let ms : List Module = remaining without (candidates_among outs) in
     let all_candidates = (laws.settled site outs all).1 in
     let some : AreAmongCandidates site ms = λ m a. (all_candidates m).0 (filtered (λ (k : Module). not (is_withheld without k.name)) (candidates_among outs) m a).0 in
-    let right = judged_right laws site without es outs found.modules.items (map used_view found.certificate.items) found.asking_clashes.items all h parts.standings in (
+    let right = judged_right laws site without es outs found.modules.items (map used_view found.certificate.items) all h parts.standings in (
       record {
         dirs = dirs;
         outcomes = outs;
@@ -115,7 +115,7 @@ parts_are_audits laws site without walk found (outs, w, h) parts =
         used = right.used;
         certificate = right.uses;
         missing_directories = parts.missing_directories;
-        asking = right.asking;
+        further = right.further;
         hanging = parts.hanging ∙ hanging_alike site es outs h;
         no_modulefiles = parts.no_modulefiles;
         unread_default_files = parts.unread;

@@ -1,7 +1,8 @@
 -- A module that stands as one whose reads are used names the first of them, and the first module that uses it.
-use Rattle.std.proofs.Common.{◌≡◌, inl, inr, Bool, true, false, cond, ◌||◌, List, [], ◌∷◌, map, find, Option, Some, None, Result, Ok, Err, refl}
-use Rattle.std.proofs.Common.{ap, sym, ◌∙◌, subst, string_bytes}
+use Rattle.std.proofs.Common.{◌≡◌, Bool, true, false, cond, ◌||◌, List, [], ◌∷◌, map, find, Option, Some, None, Result}
+use Rattle.std.proofs.Common.{Ok, Err, String, Global, refl, ap, sym, ◌∙◌, subst, string_bytes}
 use Rattle.std.specs.List.{list_any, cons_option, AllByRecursion}
+use Rattle.std.specs.declared.vec.Vec.{Vec}
 use Rattle.envvars.specs.Texts.{Text, texts_in}
 use Rattle.modulefile.specs.Records.{Record}
 use Rattle.modulefile.specs.RecordViews.{record_view}
@@ -11,21 +12,25 @@ use Rattle.modules.specs.declared.refusal.Refusal.{Refusal}
 use Rattle.requests.specs.Reasons.{RequestReason}
 use Rattle.settled.specs.Ways.{FileRuns, is_settled}
 use Rattle.sitereads.specs.Reads.{uses_variable}
-use Rattle.sitereads.specs.Answers.{IsUsedRead}
+use Rattle.sitereads.specs.Answers.{IsAnswer, IsUsedRead}
 use Rattle.sitereads.specs.declared.readers.UsedRead.{UsedRead}
 use Rattle.sitelaws.specs.Sites.{SiteModule, Evaluated, with_records, settled_of, settled_among}
 use Rattle.sitecertificate.specs.declared.answers.Clash.{Clash}
+use Rattle.siteaudit.specs.declared.auditing.AuditedModule.{AuditedModule}
+use Rattle.siteaudit.specs.declared.judgement.OwnStanding.TheVariants.{Decided, Open}
 use Rattle.siteaudit.specs.declared.walk.EvaluatedFile.{EvaluatedFile}
 use Rattle.siteaudit.specs.declared.walk.Evaluation.{Evaluation}
+use Rattle.siteaudit.specs.declared.standing.Standing.{Standing}
 use Rattle.siteaudit.specs.declared.standing.Standing.TheVariants.{Certified, Asks, OneWay, ReadsUsed, OutOfStep}
 use Rattle.siteaudit.specs.declared.standing.Standing.TheVariants.{Withheld, Clashes, Refused}
 use Rattle.siteaudit.specs.declared.standing.ModuleFinding.{ModuleFinding}
-use Rattle.siteaudit.specs.declared.standing.ModuleFinding.TheVariants.{Stands, Asking, InStep}
+use Rattle.siteaudit.specs.declared.standing.ModuleFinding.TheVariants as findings
 use Rattle.siteaudit.specs.Audits.{is_withheld, IsFirstRead, AreFirstReads}
 use Rattle.siteaudit.specs.Walks.{IsOutcome, AreEvaluations}
-use Rattle.siteaudit.specs.SettledRuns.{reads_where_settled, settled_records, settled_module, evaluated_file}
-use Rattle.siteaudit.specs.Findings.{IsFindingOf, IsFinding, standing_of, Shown, judged_of, IsShown, standing_by, standing_with}
-use Rattle.siteaudit.specs.Findings.{answers_left, modules_with}
+use Rattle.siteaudit.specs.SettledRuns.{settled_records, settled_module, evaluated_file}
+use Rattle.siteaudit.specs.Findings.{IsFinding, own_standing, Shown, judged_of, IsShown, first_answer, standing_by, standing_with}
+use Rattle.siteaudit.specs.Findings.{answers_left, beside_left, AreModulesWith}
+use Rattle.siteaudit.proofs.Judged.{StandsFirst, shows_first}
 use Rattle.siteaudit.proofs.SettledFiles.{records_same}
 use Rattle.siteaudit.proofs.UsedReads.{AnswersShown}
 
@@ -94,54 +99,54 @@ read_same es outs reads used h a = record {
   path = a.path;
 }
 
+-- the answers are those of the settled ones
+pub answer_same : (es : List Evaluation) (outs : List Evaluated) (reads : List Text) (used : Option UsedRead) → AreEvaluations es outs → IsAnswer (map settled_module es) reads used
+    → IsAnswer (settled_among outs) reads used
+answer_same es outs reads None h a = sym (λ i. find (λ (v : Text). any_same v es outs h i) reads) ∙ a
+answer_same es outs reads (Some used) h a = read_same es outs reads used h a
+
 -- ---- one module
 
+by_answer : (settled : List Module) (reads : List Text) (answer : Option Clash) → IsFirstRead settled reads (standing_by answer)
+by_answer settled reads None = tt
+by_answer settled reads (Some clash) = tt
+
+in_step_first : (settled : List Module) (reads : List Text) (withheld : Bool) (answers : List (Option Clash)) → IsFirstRead settled reads (standing_with (cond withheld (Decided Withheld) Open) answers)
+in_step_first settled reads true answers = tt
+in_step_first settled reads false answers = by_answer settled reads (first_answer answers)
+
 -- what stands so by itself was answered so
-answered_by : (rs : List Record) (unkept : Option Question) (u : Option UsedRead) (w : UsedRead) → IsFindingOf unkept rs u (Stands (ReadsUsed w)) → u ≡ Some w
-answered_by rs None None w (inl (t, f)) = absurd f
-answered_by rs None (Some x) w (inl (t, f)) = cc
-answered_by rs None u w (inr (first, one, is)) = absurd (cc)
-answered_by rs (Some first) u w is = absurd is
+used_first : (readers : List Module) (reads : List Text) (unkept : Option Question) (rs : List Record) (u : Option UsedRead) (first : Standing) → IsAnswer readers reads u → StandsFirst unkept rs u first
+    → IsFirstRead readers reads first
+used_first readers reads unkept rs u Certified a f = tt
+used_first readers reads unkept rs u (Asks first) a f = tt
+used_first readers reads unkept rs u (OneWay first) a f = tt
+used_first readers reads unkept rs u (ReadsUsed w) a f = subst (IsAnswer readers reads) f.2 a
+used_first readers reads unkept rs u (OutOfStep v x y) a f = tt
+used_first readers reads unkept rs u Withheld a f = tt
+used_first readers reads unkept rs u (Clashes clash) a f = tt
+used_first readers reads unkept rs u (Refused refusal) a f = tt
 
-by_settled : (ms : List Module) (b : Bool) (reads : List Text) (w : UsedRead) → IsUsedRead ms (cond b reads []) w → IsUsedRead ms reads w
-by_settled ms true reads w a = a
-by_settled ms false reads w a = absurd (let none : None ≡ Some _ = a.variable in cc)
+shown_first : (readers : List Module) (reads : List Text) (outcome : Result EvaluatedFile Refusal) (u : Option UsedRead) (finding : ModuleFinding) (withheld : Bool) (answers : List (Option Clash)) → IsAnswer readers reads u
+    → IsFinding outcome u finding → IsFirstRead readers reads (standing_with (own_standing withheld finding) answers)
+shown_first readers reads outcome u (findings.Refused refusal) withheld answers a f = tt
+shown_first readers reads (Err refusal) u (findings.Stands first further records) withheld answers a f = absurd (cc)
+shown_first readers reads (Ok file) u (findings.Stands first further records) withheld answers a f =
+    let rs : List Record = map record_view file.records.items in
+    used_first readers reads file.unkept rs u first a (shows_first file.unkept rs u first further records f)
+shown_first readers reads outcome u (findings.InStep records) withheld answers a f = in_step_first readers reads withheld answers
 
-used_of : (readers : List Module) (outcome : Result EvaluatedFile Refusal) (reads : List Text) (u : Option UsedRead) (w : UsedRead) → IsFinding outcome u (Stands (ReadsUsed w))
-    → ((x : UsedRead) → u ≡ Some x → IsUsedRead readers (reads_where_settled outcome reads) x) → IsUsedRead readers reads w
-used_of readers (Ok file) reads u w f answers = by_settled readers _ reads w (answers w (answered_by (map record_view file.records.items) file.unkept u w f))
-used_of readers (Err refusal) reads u w f answers = absurd (cc)
-
-answer_is : (readers : List Module) (s : Shown) → AnswersShown readers s → (x : UsedRead) → s.1 ≡ Some x → IsUsedRead readers (reads_where_settled s.0.outcome (texts_in s.0.reads)) x
-answer_is readers (e, None, finding) a x same = absurd (cc)
-answer_is readers (e, Some y, finding) a x same = let is : y ≡ x = cc in subst (IsUsedRead readers (reads_where_settled e.outcome (texts_in e.reads))) is a
-
-by_answers : (settled : List Module) (reads : List Text) (answers : List (Option Clash)) → IsFirstRead settled reads (standing_by answers)
-by_answers settled reads [] = tt
-by_answers settled reads (None ∷ answers) = tt
-by_answers settled reads (Some clash ∷ answers) = tt
-
-one_first : (es : List Evaluation) (outs : List Evaluated) (e : Evaluation) (u : Option UsedRead) (finding : ModuleFinding) (withheld : Bool) (answers : List (Option Clash)) → AreEvaluations es outs
-    → IsFinding e.outcome u finding → AnswersShown (map settled_module es) (e, u, finding) → IsFirstRead (settled_among outs) (texts_in e.reads) (standing_with (standing_of withheld finding) answers)
-one_first es outs e u (Asking first records) withheld answers h f a = tt
-one_first es outs e u (InStep records) true answers h f a = tt
-one_first es outs e u (InStep records) false answers h f a = by_answers (settled_among outs) (texts_in e.reads) answers
-one_first es outs e u (Stands Certified) withheld answers h f a = tt
-one_first es outs e u (Stands (Asks first)) withheld answers h f a = tt
-one_first es outs e u (Stands (OneWay first)) withheld answers h f a = tt
-one_first es outs e u (Stands (ReadsUsed w)) withheld answers h f a =
-    read_same es outs (texts_in e.reads) w h
-    (used_of (map settled_module es) e.outcome (texts_in e.reads) u w f (answer_is (map settled_module es) (e, u, Stands (ReadsUsed w)) a))
-one_first es outs e u (Stands (OutOfStep v x y)) withheld answers h f a = tt
-one_first es outs e u (Stands Withheld) withheld answers h f a = tt
-one_first es outs e u (Stands (Clashes clash)) withheld answers h f a = tt
-one_first es outs e u (Stands (Refused refusal)) withheld answers h f a = tt
-
-pub first_reads : (without : List Text) (es : List Evaluation) (outs : List Evaluated) (shown : List Shown) (answers : List (Option Clash)) → AreEvaluations es outs → AllByRecursion IsShown shown
-    → AllByRecursion (AnswersShown (map settled_module es)) shown → AreFirstReads (settled_among outs) (modules_with (map (judged_of without) shown) answers)
-first_reads without es outs [] answers h f a = tt
-first_reads without es outs ((e, u, finding) ∷ shown) answers h (right, rest) (answer, others) =
-    let withheld : Bool = is_withheld without (string_bytes e.name) in (
-      one_first es outs e u finding withheld answers h right answer,
-      first_reads without es outs shown (answers_left (standing_of withheld finding) answers) h rest others,
+pub first_reads : (without : List Text) (es : List Evaluation) (outs : List Evaluated) (shown : List Shown) (answers beside : List (Option Clash)) (modules : List AuditedModule) → AreEvaluations es outs
+    → AllByRecursion IsShown shown → AllByRecursion (AnswersShown (map settled_module es)) shown → AreModulesWith (map (judged_of without) shown) answers beside modules
+    → AreFirstReads (settled_among outs) modules
+first_reads without es outs [] answers beside [] h f a k = tt
+first_reads without es outs [] answers beside (x ∷ modules) h f a k = absurd k
+first_reads without es outs (s ∷ shown) answers beside [] h f a k = absurd k
+first_reads without es outs ((e, u, finding) ∷ shown) answers beside (x ∷ modules) h (right, rest) (answer, others) (k, ks) =
+    let withheld : Bool = is_withheld without (string_bytes e.name) in
+    let reads : texts_in x.reads ≡ texts_in e.reads = ap (λ (l : Vec (String Global) Global). texts_in l) k.reads in
+    let first : IsFirstRead (settled_among outs) (texts_in e.reads) (standing_with (own_standing withheld finding) answers) =
+    shown_first (settled_among outs) (texts_in e.reads) e.outcome u finding withheld answers (answer_same es outs (texts_in e.reads) u h answer) right in (
+      subst (λ (l : List Text). IsFirstRead (settled_among outs) l x.standing) (sym reads) (subst (IsFirstRead (settled_among outs) (texts_in e.reads)) (sym k.standing) first),
+      first_reads without es outs shown (answers_left (own_standing withheld finding) answers) (beside_left (own_standing withheld finding) beside) modules h rest others ks,
     )

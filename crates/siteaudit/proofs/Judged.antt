@@ -1,7 +1,8 @@
 -- How modules stand by what each shows by itself, and by what is answered of clashes.
 use Rattle.std.proofs.Common.{◌≡◌, inl, inr, Bool, true, false, cond, not, ◌&&◌, List, [], ◌∷◌, ◌++◌, map, filter, find}
-use Rattle.std.proofs.Common.{Option, Some, None, Result, Ok, Err, refl, ap, sym, ◌∙◌, subst}
-use Rattle.std.specs.Prelude.{filter_map, flat_map, is_none, string_bytes}
+use Rattle.std.proofs.Common.{Option, Some, None, Result, Ok, Err, String, Global, refl, ap, sym, ◌∙◌, subst}
+use Rattle.std.specs.Prelude.{filter_map, flat_map, is_none, MatchOption, string_bytes}
+use Rattle.std.specs.declared.vec.Vec.{Vec}
 use Rattle.std.specs.Option.{option_map}
 use Rattle.std.specs.List.{list_all, list_any, cons_option, AllByRecursion}
 use Rattle.std.proofs.lemmas.Bool.{false≢true, and_parts, and_from}
@@ -9,6 +10,7 @@ use Rattle.envvars.specs.Texts.{Text, has, texts_in}
 use Rattle.envvars.specs.Fields.{colon, without_repeats}
 use Rattle.envvars.proofs.TextLemmas.{bytes_eq-same}
 use Rattle.modulefile.specs.RecordViews.{record_view}
+use Rattle.modulefile.specs.declared.records.Record as code
 use Rattle.modulerun.specs.declared.question.Question.{Question}
 use Rattle.modulerun.specs.Questions.{question_view}
 use Rattle.modulefile.specs.Records.{Record}
@@ -22,6 +24,7 @@ use Rattle.sitereads.specs.Answers.{IsUsedRead, IsAnswer}
 use Rattle.sitereads.specs.declared.readers.UsedRead.{UsedRead}
 use Rattle.sitecertificate.specs.RecordUses.{used_by, used_by_modules, IsAmong, Uses, modulepath, same_use, use_alike}
 use Rattle.sitecertificate.specs.RecordUses.{are_in_step, is_in_step}
+use Rattle.sitecertificate.specs.UseViews.{use_view}
 use Rattle.sitecertificate.specs.Certificates.{certified}
 use Rattle.sitecertificate.proofs.UsedLemmas.{by_test, by_cases, cons_first, cons_later}
 use Rattle.sitecertificate.proofs.Exact.{all_each, in_step, in_filter}
@@ -30,27 +33,31 @@ use Rattle.sitecertificate.proofs.Answered.{answered_none, answers_are}
 use Rattle.sitelaws.specs.Sites.{Site, SiteModule, file_of, with_records, EvaluatesTo, HasSettledRecords, HasFreeReads}
 use Rattle.sitelaws.specs.Sites.{AreSettledModules, AreCandidates, Evaluated, settled_of, settled_among, reads_none}
 use Rattle.sitelaws.specs.Sites.{candidates_among, reads_of}
-use Rattle.sitelaws.specs.Standings.{IsFirstUnkept, IsUsedTwice}
+use Rattle.sitelaws.specs.Standings.{IsFirstUnkept, IsFirstOneWay, IsUsedTwice}
 use Rattle.sitecertificate.specs.ClashAnswers.{AreAnswers, without_clashes}
 use Rattle.sitecertificate.specs.declared.answers.Clash.{Clash}
 use Rattle.siteaudit.specs.Walks.{IsOfRuns, IsOutcome, AreEvaluations}
 use Rattle.siteaudit.specs.declared.standing.Standing.{Standing}
+use Rattle.siteaudit.specs.declared.standing.Standing.TheVariants as ways
 use Rattle.siteaudit.specs.declared.standing.Standing.TheVariants.{Certified, Asks, OneWay, ReadsUsed, OutOfStep}
-use Rattle.siteaudit.specs.declared.standing.Standing.TheVariants.{Withheld, Clashes, Refused}
+use Rattle.siteaudit.specs.declared.standing.Standing.TheVariants.{Withheld, Clashes}
+use Rattle.siteaudit.specs.declared.standing.UnlikeUses.{UnlikeUses}
 use Rattle.siteaudit.specs.declared.auditing.AuditedModule.{AuditedModule}
-use Rattle.siteaudit.specs.declared.judgement.JudgedModule.{JudgedModule}
+use Rattle.siteaudit.specs.declared.judgement.OwnStanding.{OwnStanding}
+use Rattle.siteaudit.specs.declared.judgement.OwnStanding.TheVariants.{Decided, Open}
 use Rattle.siteaudit.specs.declared.standing.ModuleFinding.{ModuleFinding}
-use Rattle.siteaudit.specs.declared.standing.ModuleFinding.TheVariants.{Stands, Asking, InStep}
+use Rattle.siteaudit.specs.declared.standing.ModuleFinding.TheVariants.{Refused, Stands, InStep}
 use Rattle.siteaudit.specs.Audits.{is_withheld, remaining, StandsAs, audited_file, AllStand, is_certified, certified_files}
-use Rattle.siteaudit.specs.Audits as audits
-use Rattle.siteaudit.specs.SettledRuns.{reads_where_settled, evaluated_file}
+use Rattle.siteaudit.specs.Audits.{listed, out_of_step}
+use Rattle.siteaudit.specs.SettledRuns.{evaluated_file}
 use Rattle.siteaudit.specs.declared.walk.EvaluatedFile.{EvaluatedFile}
 use Rattle.siteaudit.specs.declared.walk.Evaluation.{Evaluation}
-use Rattle.siteaudit.specs.Findings.{IsUseFinding, IsSettledFinding, IsAskingFinding, IsFindingOf, IsFinding, standing_of}
-use Rattle.siteaudit.specs.Findings.{steps_of, asking_of, Shown, judged_of, steps_in, asking_in, IsShown, standing_by, standing_with, answers_left}
-use Rattle.siteaudit.specs.Findings.{modules_with}
+use Rattle.siteaudit.specs.Findings.{AreUnlike, IsFindingOf, IsFinding, own_standing, steps_of}
+use Rattle.siteaudit.specs.Findings.{Shown, judged_of, steps_in, IsShown, first_answer, later_answers, standing_by, standing_with}
+use Rattle.siteaudit.specs.Findings.{answers_left, beside_left, IsModuleWith, AreModulesWith}
 use Rattle.siteaudit.proofs.Evaluations.{same_file}
-use Rattle.siteaudit.proofs.SettledFiles.{kept_same, settled_same, has_once}
+use Rattle.siteaudit.proofs.SettledFiles.{kept_same, has_once}
+use Rattle.siteaudit.proofs.StandingLemmas.{not_found}
 use Rattle.siteaudit.proofs.UsedReads.{found_passes, has_text, uses_some, none_used, some_used, AnswersShown}
 
 -- ---- tests
@@ -121,33 +128,65 @@ by_withheld : (without : List Text) (m : SiteModule) (rs : List Record) (rest : 
 by_withheld without m rs rest true o t = out_step without (with_records m rs) rest o
 by_withheld without m rs rest false o t = kept_step without (with_records m rs) rest o t
 
--- what a settled one with these records shows decides whether it is a candidate in step
-in_step_of_use : (without : List Text) (m : SiteModule) (rs : List Record) (finding : ModuleFinding) (rest : List Module) → list_all can_return rs ≡ true → IsUseFinding rs finding
-    → steps_of without m finding ++ stepping without rest ≡ stepping without (with_records m rs ∷ rest)
-in_step_of_use without m rs (Stands Certified) rest t f = absurd f
-in_step_of_use without m rs (Stands (Asks first)) rest t f = absurd f
-in_step_of_use without m rs (Stands (OneWay first)) rest t f = absurd f
-in_step_of_use without m rs (Stands (ReadsUsed used)) rest t f = absurd f
-in_step_of_use without m rs (Stands (OutOfStep v x y)) rest t f = left_step without (with_records m rs) rest (no_step m rs _ _ _ f)
-in_step_of_use without m rs (Stands Withheld) rest t f = absurd f
-in_step_of_use without m rs (Stands (Clashes clash)) rest t f = absurd f
-in_step_of_use without m rs (Stands (Refused refusal)) rest t f = absurd f
-in_step_of_use without m rs (Asking first records) rest t f = absurd f
-in_step_of_use without m rs (InStep records) rest t f =
-    ap (λ (l : List Record). cond (is_withheld without m.name) [] (with_records m l ∷ []) ++ stepping without rest) f.1
-    ∙ by_withheld without m rs rest (is_withheld without m.name) refl (and_from (list_all can_return rs) (are_in_step (used_by rs)) t f.0)
+-- ---- what a module shows by itself
 
--- one that stands so is no step
-no_steps : (without : List Text) (m : SiteModule) (finding : ModuleFinding) (standing : Standing) (rest : List Module) → finding ≡ Stands standing
-    → steps_of without m finding ++ stepping without rest ≡ stepping without rest
-no_steps without m finding standing rest e = ap (λ (k : ModuleFinding). steps_of without m k ++ stepping without rest) e
+-- it stands so first
+abbrev pub StandsFirst : Option Question → List Record → Option UsedRead → Standing → Type 0
+StandsFirst unkept rs used Certified = ⊥
+StandsFirst unkept rs used (Asks first) = unkept ≡ Some first
+StandsFirst unkept rs used (OneWay first) = (unkept ≡ None) × IsFirstOneWay rs (record_view first)
+StandsFirst unkept rs used (ReadsUsed u) = (unkept ≡ None) × (list_all can_return rs ≡ true) × (used ≡ Some u)
+StandsFirst unkept rs used (OutOfStep v x y) =
+    (unkept ≡ None) × (list_all can_return rs ≡ true) × (used ≡ None) × IsUsedTwice rs (string_bytes v) (use_view x) (use_view y)
+StandsFirst unkept rs used Withheld = ⊥
+StandsFirst unkept rs used (Clashes clash) = ⊥
+StandsFirst unkept rs used (ways.Refused refusal) = ⊥
 
--- so is one that asks
-asking_steps : (without : List Text) (m : SiteModule) (first : Question) (rs : List Record) (finding : ModuleFinding) (rest : List Module) → IsAskingFinding first rs finding
-    → steps_of without m finding ++ stepping without rest ≡ stepping without rest
-asking_steps without m first rs (Stands standing) rest is = absurd is
-asking_steps without m first rs (Asking question records) rest is = refl
-asking_steps without m first rs (InStep records) rest is = absurd is
+-- it stands in no way by itself
+record ShowsNone (unkept : Option Question) (rs : List Record) (used : Option UsedRead) : Type 0 where
+  kept : unkept ≡ None
+  returns : list_all can_return rs ≡ true
+  free : used ≡ None
+  steps : are_in_step (used_by rs) ≡ true
+
+head_is : (x y : Standing) (xs ys : List Standing) → x ∷ xs ≡ y ∷ ys → x ≡ y
+head_is x y xs ys e = cc
+
+module _ (rs : List Record) where
+  abbrev StandingsBy : Option Question → Option code.Record → Option UsedRead → Option UnlikeUses → List Standing
+  StandingsBy unkept one_way used unlike = listed Asks unkept ++ (listed OneWay one_way ++ (listed ReadsUsed used ++ listed out_of_step unlike))
+
+  first_is : (unkept : Option Question) (one_way : Option code.Record) (used : Option UsedRead) (unlike : Option UnlikeUses) (first : Standing) (others : List Standing)
+      → option_map record_view one_way ≡ find (λ r. not (can_return r)) rs → MatchOption unlike (are_in_step (used_by rs) ≡ true) (AreUnlike (used_by rs))
+      → StandingsBy unkept one_way used unlike ≡ first ∷ others → StandsFirst unkept rs used first
+  first_is (Some q) one_way used unlike first others r s e =
+      subst (StandsFirst (Some q) rs used) (head_is (Asks q) first (StandingsBy None one_way used unlike) others e) refl
+  first_is None (Some x) used unlike first others r s e =
+      subst (StandsFirst None rs used) (head_is (OneWay x) first (StandingsBy None None used unlike) others e) (refl, sym r)
+  first_is None None (Some u) unlike first others r s e =
+      subst (StandsFirst None rs (Some u)) (head_is (ReadsUsed u) first (StandingsBy None None None unlike) others e) (refl, not_found can_return rs (sym r), refl)
+  first_is None None None (Some x) first others r s e =
+      subst (StandsFirst None rs None) (head_is (out_of_step x) first [] others e)
+      (refl, not_found can_return rs (sym r), refl, record { first = s.first; second = s.second; differ = s.differ })
+  first_is None None None None first others r s e = absurd (cc)
+
+  none_is : (unkept : Option Question) (one_way : Option code.Record) (used : Option UsedRead) (unlike : Option UnlikeUses)
+      → option_map record_view one_way ≡ find (λ r. not (can_return r)) rs → MatchOption unlike (are_in_step (used_by rs) ≡ true) (AreUnlike (used_by rs))
+      → StandingsBy unkept one_way used unlike ≡ [] → ShowsNone unkept rs used
+  none_is (Some q) one_way used unlike r s e = absurd (cc)
+  none_is None (Some x) used unlike r s e = absurd (cc)
+  none_is None None (Some u) unlike r s e = absurd (cc)
+  none_is None None None (Some x) r s e = absurd (cc)
+  none_is None None None None r s e = record { kept = refl; returns = not_found can_return rs (sym r); free = refl; steps = s }
+
+pub shows_first : (unkept : Option Question) (rs : List Record) (used : Option UsedRead) (first : Standing) (further : Vec Standing Global) (records : Vec code.Record Global)
+    → IsFindingOf unkept rs used (Stands first further records) → StandsFirst unkept rs used first
+shows_first unkept rs used first further records (standings, are, by) =
+    first_is rs unkept are.one_way used are.unlike first further.items are.returns are.steps (sym are.all ∙ by.0)
+
+shows_none : (unkept : Option Question) (rs : List Record) (used : Option UsedRead) (records : Vec code.Record Global)
+    → IsFindingOf unkept rs used (InStep records) → ShowsNone unkept rs used
+shows_none unkept rs used records (standings, are, by) = none_is rs unkept are.one_way used are.unlike are.returns are.steps (sym are.all ∙ by.0)
 
 abbrev Outcome : Type 0
 Outcome = Result (FileRuns RequestReason) RequestReason
@@ -174,18 +213,6 @@ decided ms used reads m runs None same a e =
 decided ms used reads m runs (Some u) same a e =
     ap not (one_used used reads (reads_in runs) e ∙ (ap (λ (l : List UsedVariable). list_any (λ p. has p.0 reads) l) (sym same) ∙ some_used ms reads (string_bytes u.variable) a.variable))
 
--- a settled module
-settled_step : (without : List Text) (m : SiteModule) (runs : Runs) (used : List UsedVariable) (u : Option UsedRead) (finding : ModuleFinding) (outs : List Evaluated) → list_all can_return runs.first.records ≡ true
-    → is_settled runs ≡ true → ReadsDecided used (m, Ok runs) u → IsSettledFinding runs.first.records u finding
-    → steps_of without m finding ++ stepping without (filter_map settled_of outs) ≡ stepping without (candidates_by (reads_none used (m, Ok runs)) (m, Ok runs) outs)
-settled_step without m runs used None finding outs t settled free f =
-    in_step_of_use without m runs.first.records finding (filter_map settled_of outs) t f
-    ∙ (ap (λ (b : Bool). stepping without (cons_option (cond b (Some (with_records m runs.first.records)) None) (filter_map settled_of outs))) (sym settled)
-    ∙ ap (λ (b : Bool). stepping without (candidates_by b (m, Ok runs) outs)) (sym free))
-settled_step without m runs used (Some u) finding outs t settled free f =
-    no_steps without m finding (ReadsUsed u) (filter_map settled_of outs) f
-    ∙ ap (λ (b : Bool). stepping without (candidates_by b (m, Ok runs) outs)) (sym free)
-
 not_settled : (m : SiteModule) (runs : Runs) → is_settled runs ≡ false → settled_of (m, Ok runs) ≡ None
 not_settled m runs e = rw e refl
 
@@ -194,10 +221,9 @@ pub record OfFile (file : EvaluatedFile) (reads : List Text) (runs : Runs) : Typ
   pub of : IsOfRuns file runs
   pub texts : reads ≡ without_repeats (reads_in runs)
 
--- the reads of a settled file
-settled_reading : (file : EvaluatedFile) (reads : List Text) (runs : Runs) → OfFile file reads runs → is_settled runs ≡ true → SameTexts (reads_where_settled (Ok file) reads) (reads_in runs)
-settled_reading file reads runs o t v =
-    ap (λ (b : Bool). has v (cond b reads [])) (settled_same file runs o.of ∙ t) ∙ (ap (has v) o.texts ∙ has_once v (reads_in runs))
+-- the code has the same variables
+same_reads : (file : EvaluatedFile) (reads : List Text) (runs : Runs) → OfFile file reads runs → SameTexts reads (reads_in runs)
+same_reads file reads runs o v = ap (has v) o.texts ∙ has_once v (reads_in runs)
 
 kept_by : (file : EvaluatedFile) (runs : Runs) → IsOfRuns file runs → file.unkept ≡ None → keep_answers runs ≡ true
 kept_by file runs of e = sym (kept_same file runs of) ∙ ap (λ (o : Option Question). is_none o) e
@@ -205,43 +231,78 @@ kept_by file runs of e = sym (kept_same file runs of) ∙ ap (λ (o : Option Que
 unkept_by : (file : EvaluatedFile) (runs : Runs) (first : Question) → IsOfRuns file runs → file.unkept ≡ Some first → keep_answers runs ≡ false
 unkept_by file runs first of e = sym (kept_same file runs of) ∙ ap (λ (o : Option Question). is_none o) e
 
+-- a module with these runs, where it is settled and whether its reads are free is known
+abbrev added_by : List Text → SiteModule → Runs → Bool → Bool → List Evaluated → List Module
+added_by without m runs settled free outs =
+    stepping without (cond free (cons_option (cond settled (Some (with_records m runs.first.records)) None) (filter_map settled_of outs)) (filter_map settled_of outs))
+
+by_settled : (without : List Text) (m : SiteModule) (runs : Runs) (used : List UsedVariable) (outs : List Evaluated) (settled free : Bool) → is_settled runs ≡ settled → reads_none used (m, Ok runs) ≡ free
+    → added_by without m runs settled free outs ≡ stepping without (candidates_by (reads_none used (m, Ok runs)) (m, Ok runs) outs)
+by_settled without m runs used outs settled free s f =
+    ap (λ (b : Bool). added_by without m runs b free outs) (sym s) ∙ (ap (λ (b : Bool). added_by without m runs (is_settled runs) b outs) (sym f) ∙ by_free (reads_none used (m, Ok runs)))
+  where
+    by_free : (b : Bool) → added_by without m runs (is_settled runs) b outs ≡ stepping without (candidates_by b (m, Ok runs) outs)
+    by_free true = refl
+    by_free false = refl
+
+settled_by : (file : EvaluatedFile) (reads : List Text) (runs : Runs) → OfFile file reads runs → file.unkept ≡ None → list_all can_return runs.first.records ≡ true → is_settled runs ≡ true
+settled_by file reads runs o k t = and_from _ _ (kept_by file runs o.of k) t
+
+unsettled_step : (without : List Text) (m : SiteModule) (runs : Runs) (used : List UsedVariable) (outs : List Evaluated) → is_settled runs ≡ false
+    → stepping without (filter_map settled_of outs) ≡ stepping without (candidates_by (reads_none used (m, Ok runs)) (m, Ok runs) outs)
+unsettled_step without m runs used outs f = ap (stepping without) (unsettled (reads_none used (m, Ok runs)) (m, Ok runs) outs (not_settled m runs f))
+
+-- one that stands by itself is no candidate in step
+stands_step : (without : List Text) (m : SiteModule) (file : EvaluatedFile) (reads : List Text) (runs : Runs) (ms : List Module) (used : List UsedVariable) (u : Option UsedRead) (first : Standing) (outs : List Evaluated)
+    → OfFile file reads runs → used_by_modules ms ≡ used → IsAnswer ms reads u → StandsFirst file.unkept runs.first.records u first
+    → stepping without (filter_map settled_of outs) ≡ stepping without (candidates_by (reads_none used (m, Ok runs)) (m, Ok runs) outs)
+stands_step without m file reads runs ms used u Certified outs o same a f = absurd f
+stands_step without m file reads runs ms used u (Asks first) outs o same a f =
+    unsettled_step without m runs used outs (first_false _ _ (unkept_by file runs first o.of f))
+stands_step without m file reads runs ms used u (OneWay first) outs o same a f =
+    unsettled_step without m runs used outs (second_false _ _ (not_all can_return runs.first.records (record_view first) f.1))
+stands_step without m file reads runs ms used u (ReadsUsed w) outs o same a f =
+    let read : IsAnswer ms reads (Some w) = subst (IsAnswer ms reads) f.2 a in
+    let taken : reads_none used (m, Ok runs) ≡ false = decided ms used reads m runs (Some w) same read (same_reads file reads runs o) in
+    ap (λ (b : Bool). stepping without (candidates_by b (m, Ok runs) outs)) (sym taken)
+stands_step without m file reads runs ms used u (OutOfStep v x y) outs o same a f =
+    let free : reads_none used (m, Ok runs) ≡ true = decided ms used reads m runs None same (subst (IsAnswer ms reads) f.2 a) (same_reads file reads runs o) in
+    left_step without (with_records m runs.first.records) (filter_map settled_of outs) (no_step m runs.first.records _ _ _ f.3)
+    ∙ by_settled without m runs used outs true true (settled_by file reads runs o f.0 f.1) free
+stands_step without m file reads runs ms used u Withheld outs o same a f = absurd f
+stands_step without m file reads runs ms used u (Clashes clash) outs o same a f = absurd f
+stands_step without m file reads runs ms used u (ways.Refused refusal) outs o same a f = absurd f
+
 -- what a file shows decides whether its module is a candidate in step
 file_step : (without : List Text) (m : SiteModule) (file : EvaluatedFile) (reads : List Text) (runs : Runs) (ms : List Module) (used : List UsedVariable) (u : Option UsedRead) (finding : ModuleFinding) (outs : List Evaluated)
-    (unkept : Option Question) → file.unkept ≡ unkept → OfFile file reads runs
-    → used_by_modules ms ≡ used → IsAnswer ms (reads_where_settled (Ok file) reads) u
-    → IsFindingOf unkept runs.first.records u finding
+    → OfFile file reads runs → used_by_modules ms ≡ used → IsAnswer ms reads u → IsFindingOf file.unkept runs.first.records u finding
     → steps_of without m finding ++ stepping without (filter_map settled_of outs) ≡ stepping without (candidates_by (reads_none used (m, Ok runs)) (m, Ok runs) outs)
-file_step without m file reads runs ms used u finding outs None e o same a (inl (t, f)) =
-    let settled : is_settled runs ≡ true = and_from _ _ (kept_by file runs o.of e) t in
-    settled_step without m runs used u finding outs t settled
-    (decided ms used (reads_where_settled (Ok file) reads) m runs u same a (settled_reading file reads runs o settled)) f
-file_step without m file reads runs ms used u finding outs None e o same a (inr (first, one, is)) =
-    let n : list_all can_return runs.first.records ≡ false = not_all can_return runs.first.records (record_view first) one in
-    let no : is_settled runs ≡ false = second_false _ _ n in
-    no_steps without m finding (OneWay first) (filter_map settled_of outs) is
-    ∙ ap (stepping without) (unsettled (reads_none used (m, Ok runs)) (m, Ok runs) outs (not_settled m runs no))
-file_step without m file reads runs ms used u finding outs (Some first) e o same a is =
-    let no : is_settled runs ≡ false = first_false _ _ (unkept_by file runs first o.of e) in
-    asking_steps without m first runs.first.records finding (filter_map settled_of outs) is
-    ∙ ap (stepping without) (unsettled (reads_none used (m, Ok runs)) (m, Ok runs) outs (not_settled m runs no))
+file_step without m file reads runs ms used u (Refused refusal) outs o same a (standings, are, by) = absurd by
+file_step without m file reads runs ms used u (Stands first further records) outs o same a f =
+    stands_step without m file reads runs ms used u first outs o same a (shows_first file.unkept runs.first.records u first further records f)
+file_step without m file reads runs ms used u (InStep records) outs o same a f =
+    let n = shows_none file.unkept runs.first.records u records f in
+    let free : reads_none used (m, Ok runs) ≡ true = decided ms used reads m runs None same (subst (IsAnswer ms reads) n.free a) (same_reads file reads runs o) in
+    ap (λ (l : List Record). cond (is_withheld without m.name) [] (with_records m l ∷ []) ++ stepping without (filter_map settled_of outs)) f.2.1
+    ∙ (by_withheld without m runs.first.records (filter_map settled_of outs) (is_withheld without m.name) refl (and_from (list_all can_return runs.first.records) (are_in_step (used_by runs.first.records)) n.returns n.steps)
+    ∙ by_settled without m runs used outs true true (settled_by file reads runs o n.kept n.returns) free)
 
 -- the records of the code are those of the definitions
-of_records : (file : EvaluatedFile) (runs : Runs) (u : Option UsedRead) (finding : ModuleFinding) → IsOfRuns file runs → IsFindingOf file.unkept (map record_view file.records.items) u finding
+pub of_records : (file : EvaluatedFile) (runs : Runs) (u : Option UsedRead) (finding : ModuleFinding) → IsOfRuns file runs → IsFindingOf file.unkept (map record_view file.records.items) u finding
     → IsFindingOf file.unkept runs.first.records u finding
 of_records file runs u finding of f = subst (λ (rs : List Record). IsFindingOf file.unkept rs u finding) of.records f
 
-reads_by : (reads : List Text) (m : SiteModule) (out : Outcome) (runs : Runs) → out ≡ Ok runs → reads ≡ without_repeats (reads_of (m, out)) → reads ≡ without_repeats (reads_in runs)
+pub reads_by : (reads : List Text) (m : SiteModule) (out : Outcome) (runs : Runs) → out ≡ Ok runs → reads ≡ without_repeats (reads_of (m, out)) → reads ≡ without_repeats (reads_in runs)
 reads_by reads m out runs same e = e ∙ ap (λ (x : Outcome). without_repeats (reads_of (m, x))) same
 
 step_one : (without : List Text) (m : SiteModule) (outcome : Result EvaluatedFile Refusal) (reads : List Text) (out : Outcome) (ms : List Module) (used : List UsedVariable) (u : Option UsedRead)
-    (finding : ModuleFinding) (outs : List Evaluated) → IsOutcome outcome out → reads ≡ without_repeats (reads_of (m, out)) → used_by_modules ms ≡ used → IsAnswer ms (reads_where_settled outcome reads) u
-    → IsFinding outcome u finding
+    (finding : ModuleFinding) (outs : List Evaluated) → IsOutcome outcome out → reads ≡ without_repeats (reads_of (m, out)) → used_by_modules ms ≡ used → IsAnswer ms reads u → IsFinding outcome u finding
     → steps_of without m finding ++ stepping without (filter_map settled_of outs) ≡ stepping without (candidates_by (reads_none used (m, out)) (m, out) outs)
 step_one without m (Err refusal) reads out ms used u finding outs o texts same a f =
-    no_steps without m finding (Refused refusal) (filter_map settled_of outs) f
+    ap (λ (k : ModuleFinding). steps_of without m k ++ stepping without (filter_map settled_of outs)) f
     ∙ ap (stepping without) (unsettled (reads_none used (m, out)) (m, out) outs (ap (λ (x : Outcome). settled_of (m, x)) o.2))
 step_one without m (Ok file) reads out ms used u finding outs (runs, is, of) texts same a f =
-    file_step without m file reads runs ms used u finding outs file.unkept refl (record { of = of; texts = reads_by reads m out runs is texts }) same a (of_records file runs u finding of f)
+    file_step without m file reads runs ms used u finding outs (record { of = of; texts = reads_by reads m out runs is texts }) same a (of_records file runs u finding of f)
     ∙ sym (ap (λ (x : Outcome). stepping without (candidates_by (reads_none used (m, x)) (m, x) outs)) is)
 
 -- the modules in step are the candidates that are
@@ -286,16 +347,16 @@ certified_are ms answers h = answers_are (in_step_of ms) (in_step_of ms) answers
 
 -- the answers of the modules after this one
 left_by : (all more : List Module) (n : Module) (withheld : Bool) (answers : List (Option Clash)) → AreAnswers all (cond withheld [] (n ∷ []) ++ more) answers
-    → AreAnswers all more (answers_left (cond withheld (Some Withheld) None) answers)
+    → AreAnswers all more (answers_left (cond withheld (Decided Withheld) Open) answers)
 left_by all more n true answers h = h
 left_by all more n false [] h = absurd h
 left_by all more n false (answer ∷ answers) h = h.1
 
 more_answers : (without : List Text) (all more : List Module) (m : SiteModule) (finding : ModuleFinding) (answers : List (Option Clash))
     → AreAnswers all (steps_of without m finding ++ more) answers
-    → AreAnswers all more (answers_left (standing_of (is_withheld without m.name) finding) answers)
-more_answers without all more m (Stands standing) answers h = h
-more_answers without all more m (Asking first records) answers h = h
+    → AreAnswers all more (answers_left (own_standing (is_withheld without m.name) finding) answers)
+more_answers without all more m (Refused refusal) answers h = h
+more_answers without all more m (Stands first further records) answers h = h
 more_answers without all more m (InStep records) answers h = left_by all more (with_records m (map record_view records.items)) (is_withheld without m.name) answers h
 
 -- the module of an outcome with its records, where it is settled and its reads are free, is a candidate, and remains
@@ -320,7 +381,7 @@ one_of_them site without outs ms readers m runs j a settled free =
 
 -- a module in step by its answer
 answered : (site : Site) (without : List Text) (ms : List Module) (m : SiteModule) (runs : Runs) (answers : List (Option Clash)) (more : List Module) → IsOneOfThem site without ms m runs
-    → is_withheld without m.name ≡ false → is_in_step (with_records m runs.first.records) ≡ true → AreAnswers (in_step_of ms) (with_records m runs.first.records ∷ more) answers → StandsAs site without ms m (standing_by answers)
+    → is_withheld without m.name ≡ false → is_in_step (with_records m runs.first.records) ≡ true → AreAnswers (in_step_of ms) (with_records m runs.first.records ∷ more) answers → StandsAs site without ms m (standing_by (first_answer answers))
 answered site without ms m runs [] more p o t h = absurd h
 answered site without ms m runs (None ∷ answers) more p o t h =
     let n : Module = with_records m runs.first.records in
@@ -345,26 +406,9 @@ answered site without ms m runs (Some clash ∷ answers) more p o t h =
 answered_by : (site : Site) (without : List Text) (ms : List Module) (m : SiteModule) (runs : Runs) (withheld : Bool) (answers : List (Option Clash)) (more : List Module) → IsOneOfThem site without ms m runs
     → is_withheld without m.name ≡ withheld → is_in_step (with_records m runs.first.records) ≡ true
     → AreAnswers (in_step_of ms) (cond withheld [] (with_records m runs.first.records ∷ []) ++ more) answers
-    → StandsAs site without ms m (standing_with (cond withheld (Some Withheld) None) answers)
+    → StandsAs site without ms m (standing_with (cond withheld (Decided Withheld) Open) answers)
 answered_by site without ms m runs true answers more p o t h = (o, (runs.first.records, p.records, p.free, in_step (with_records m runs.first.records) t))
 answered_by site without ms m runs false answers more p o t h = answered site without ms m runs answers more p o t h
-
--- a candidate by what it uses
-stands_by_use : (site : Site) (without : List Text) (ms : List Module) (m : SiteModule) (runs : Runs) (finding : ModuleFinding) (answers : List (Option Clash)) (more : List Module) → IsOneOfThem site without ms m runs
-    → list_all can_return runs.first.records ≡ true → IsUseFinding runs.first.records finding → AreAnswers (in_step_of ms) (steps_of without m finding ++ more) answers
-    → StandsAs site without ms m (standing_with (standing_of (is_withheld without m.name) finding) answers)
-stands_by_use site without ms m runs (Stands Certified) answers more p t f h = absurd f
-stands_by_use site without ms m runs (Stands (Asks first)) answers more p t f h = absurd f
-stands_by_use site without ms m runs (Stands (OneWay first)) answers more p t f h = absurd f
-stands_by_use site without ms m runs (Stands (ReadsUsed used)) answers more p t f h = absurd f
-stands_by_use site without ms m runs (Stands (OutOfStep v x y)) answers more p t f h = (runs.first.records, p.records, p.free, f)
-stands_by_use site without ms m runs (Stands Withheld) answers more p t f h = absurd f
-stands_by_use site without ms m runs (Stands (Clashes clash)) answers more p t f h = absurd f
-stands_by_use site without ms m runs (Stands (Refused refusal)) answers more p t f h = absurd f
-stands_by_use site without ms m runs (Asking first records) answers more p t f h = absurd f
-stands_by_use site without ms m runs (InStep records) answers more p t f h =
-    answered_by site without ms m runs (is_withheld without m.name) answers more p refl (and_from (list_all can_return runs.first.records) (are_in_step (used_by runs.first.records)) t f.0)
-    (subst (λ (l : List Record). AreAnswers (in_step_of ms) (cond (is_withheld without m.name) [] (with_records m l ∷ []) ++ more) answers) f.1 h)
 
 -- one that reads what a settled module uses
 stands_by_read : (site : Site) (without : List Text) (outs : List Evaluated) (ms readers : List Module) (m : SiteModule) (runs : Runs) (reads : List Text) (u : UsedRead) → IsJudging site without outs ms readers → EvaluatesTo site m (Ok runs)
@@ -385,178 +429,161 @@ stands_by_read site without outs ms readers m runs reads u j e settled same a =
       ),
     )
 
-stands_settled : (site : Site) (without : List Text) (outs : List Evaluated) (ms readers : List Module) (m : SiteModule) (runs : Runs) (reads : List Text) (u : Option UsedRead) (finding : ModuleFinding) (answers : List (Option Clash)) (more : List Module)
-    → IsJudging site without outs ms readers → EvaluatesTo site m (Ok runs) → IsAmong (m, Ok runs) outs → is_settled runs ≡ true → list_all can_return runs.first.records ≡ true
-    → SameTexts reads (reads_in runs) → IsAnswer readers reads u → IsSettledFinding runs.first.records u finding → AreAnswers (in_step_of ms) (steps_of without m finding ++ more) answers
-    → StandsAs site without ms m (standing_with (standing_of (is_withheld without m.name) finding) answers)
-stands_settled site without outs ms readers m runs reads None finding answers more j e among settled t same a f h =
-    stands_by_use site without ms m runs finding answers more
-    (one_of_them site without outs ms readers m runs j among settled (decided readers (used_by_modules (settled_among outs)) reads m runs None j.used a same)) t f h
-stands_settled site without outs ms readers m runs reads (Some u) finding answers more j e among settled t same a f h =
-    subst (λ (k : ModuleFinding). StandsAs site without ms m (standing_with (standing_of (is_withheld without m.name) k) answers)) (sym f) (stands_by_read site without outs ms readers m runs reads u j e settled same a)
-
 first_unkept : (file : EvaluatedFile) (runs : Runs) (first : Question) → IsOfRuns file runs → file.unkept ≡ Some first → IsFirstUnkept runs (question_view first)
 first_unkept file runs first of e = sym of.unkept ∙ ap (option_map question_view) e
 
+-- one that stands by itself
+stands_first : (site : Site) (without : List Text) (outs : List Evaluated) (ms readers : List Module) (m : SiteModule) (file : EvaluatedFile) (reads : List Text) (runs : Runs) (u : Option UsedRead) (first : Standing)
+    → IsJudging site without outs ms readers → EvaluatesTo site m (Ok runs) → IsAmong (m, Ok runs) outs → OfFile file reads runs → IsAnswer readers reads u
+    → StandsFirst file.unkept runs.first.records u first → StandsAs site without ms m first
+stands_first site without outs ms readers m file reads runs u Certified j e among o a f = absurd f
+stands_first site without outs ms readers m file reads runs u (Asks first) j e among o a f = (runs, e, first_unkept file runs first o.of f)
+stands_first site without outs ms readers m file reads runs u (OneWay first) j e among o a f = (runs, e, kept_by file runs o.of f.0, f.1)
+stands_first site without outs ms readers m file reads runs u (ReadsUsed w) j e among o a f =
+    stands_by_read site without outs ms readers m runs reads w j e (settled_by file reads runs o f.0 f.1) (same_reads file reads runs o) (subst (IsAnswer readers reads) f.2 a)
+stands_first site without outs ms readers m file reads runs u (OutOfStep v x y) j e among o a f =
+    let p = one_of_them site without outs ms readers m runs j among (settled_by file reads runs o f.0 f.1)
+    (decided readers (used_by_modules (settled_among outs)) reads m runs None j.used (subst (IsAnswer readers reads) f.2 a) (same_reads file reads runs o)) in
+    (runs.first.records, p.records, p.free, f.3)
+stands_first site without outs ms readers m file reads runs u Withheld j e among o a f = absurd f
+stands_first site without outs ms readers m file reads runs u (Clashes clash) j e among o a f = absurd f
+stands_first site without outs ms readers m file reads runs u (ways.Refused refusal) j e among o a f = absurd f
+
 stands_file : (site : Site) (without : List Text) (outs : List Evaluated) (ms readers : List Module) (m : SiteModule) (file : EvaluatedFile) (reads : List Text) (runs : Runs) (u : Option UsedRead) (finding : ModuleFinding)
-    (answers : List (Option Clash)) (more : List Module) (unkept : Option Question) → file.unkept ≡ unkept → IsJudging site without outs ms readers → EvaluatesTo site m (Ok runs) → IsAmong (m, Ok runs) outs
-    → OfFile file reads runs → IsAnswer readers (reads_where_settled (Ok file) reads) u → IsFindingOf unkept runs.first.records u finding
-    → AreAnswers (in_step_of ms) (steps_of without m finding ++ more) answers → StandsAs site without ms m (standing_with (standing_of (is_withheld without m.name) finding) answers)
-stands_file site without outs ms readers m file reads runs u finding answers more None k j e among o a (inl (t, f)) h =
-    let settled : is_settled runs ≡ true = and_from _ _ (kept_by file runs o.of k) t in
-    stands_settled site without outs ms readers m runs (reads_where_settled (Ok file) reads) u finding answers more j e among settled t (settled_reading file reads runs o settled) a f h
-stands_file site without outs ms readers m file reads runs u finding answers more None k j e among o a (inr (first, one, is)) h =
-    subst (λ (x : ModuleFinding). StandsAs site without ms m (standing_with (standing_of (is_withheld without m.name) x) answers)) (sym is)
-    (runs, e, kept_by file runs o.of k, one)
-stands_file site without outs ms readers m file reads runs u (Stands standing) answers more (Some first) k j e among o a is h = absurd is
-stands_file site without outs ms readers m file reads runs u (Asking question records) answers more (Some first) k j e among o a is h =
-    (runs, e, first_unkept file runs question o.of (k ∙ ap (λ (q : Question). Some q) (sym is.0)))
-stands_file site without outs ms readers m file reads runs u (InStep records) answers more (Some first) k j e among o a is h = absurd is
+    (answers : List (Option Clash)) (more : List Module) → IsJudging site without outs ms readers → EvaluatesTo site m (Ok runs) → IsAmong (m, Ok runs) outs
+    → OfFile file reads runs → IsAnswer readers reads u → IsFindingOf file.unkept runs.first.records u finding
+    → AreAnswers (in_step_of ms) (steps_of without m finding ++ more) answers → StandsAs site without ms m (standing_with (own_standing (is_withheld without m.name) finding) answers)
+stands_file site without outs ms readers m file reads runs u (Refused refusal) answers more j e among o a (standings, are, by) h = absurd by
+stands_file site without outs ms readers m file reads runs u (Stands first further records) answers more j e among o a f h =
+    stands_first site without outs ms readers m file reads runs u first j e among o a (shows_first file.unkept runs.first.records u first further records f)
+stands_file site without outs ms readers m file reads runs u (InStep records) answers more j e among o a f h =
+    let n = shows_none file.unkept runs.first.records u records f in
+    let p = one_of_them site without outs ms readers m runs j among (settled_by file reads runs o n.kept n.returns)
+    (decided readers (used_by_modules (settled_among outs)) reads m runs None j.used (subst (IsAnswer readers reads) n.free a) (same_reads file reads runs o)) in
+    answered_by site without ms m runs (is_withheld without m.name) answers more p refl (and_from (list_all can_return runs.first.records) (are_in_step (used_by runs.first.records)) n.returns n.steps)
+    (subst (λ (l : List Record). AreAnswers (in_step_of ms) (cond (is_withheld without m.name) [] (with_records m l ∷ []) ++ more) answers) f.2.1 h)
 
 stands_one : (site : Site) (without : List Text) (outs : List Evaluated) (ms readers : List Module) (m : SiteModule) (outcome : Result EvaluatedFile Refusal) (reads : List Text)
     (out : Outcome) (u : Option UsedRead) (finding : ModuleFinding) (answers : List (Option Clash)) (more : List Module)
     → IsJudging site without outs ms readers → IsOutcome outcome out → reads ≡ without_repeats (reads_of (m, out)) → IsFinding outcome u finding → EvaluatesTo site m out → IsAmong (m, out) outs
-    → IsAnswer readers (reads_where_settled outcome reads) u → AreAnswers (in_step_of ms) (steps_of without m finding ++ more) answers
-    → StandsAs site without ms m (standing_with (standing_of (is_withheld without m.name) finding) answers)
+    → IsAnswer readers reads u → AreAnswers (in_step_of ms) (steps_of without m finding ++ more) answers
+    → StandsAs site without ms m (standing_with (own_standing (is_withheld without m.name) finding) answers)
 stands_one site without outs ms readers m (Err refusal) reads out u finding answers more j o texts f e among a h =
-    subst (λ (k : ModuleFinding). StandsAs site without ms m (standing_with (standing_of (is_withheld without m.name) k) answers)) (sym f) (o.0, o.1, subst (EvaluatesTo site m) o.2 e)
+    subst (λ (k : ModuleFinding). StandsAs site without ms m (standing_with (own_standing (is_withheld without m.name) k) answers)) (sym f) (o.0, o.1, subst (EvaluatesTo site m) o.2 e)
 stands_one site without outs ms readers m (Ok file) reads out u finding answers more j (runs, is, of) texts f e among a h =
-    stands_file site without outs ms readers m file reads runs u finding answers more file.unkept refl j (subst (EvaluatesTo site m) is e)
+    stands_file site without outs ms readers m file reads runs u finding answers more j (subst (EvaluatesTo site m) is e)
     (subst (λ (x : Outcome). IsAmong (m, x) outs) is among) (record { of = of; texts = reads_by reads m out runs is texts }) a (of_records file runs u finding of f) h
 
+-- the file of a module is that of its evaluation
+file_with : (without : List Text) (s : Shown) (answers beside : List (Option Clash)) (m : AuditedModule) → IsModuleWith (judged_of without s) answers beside m → audited_file m ≡ evaluated_file s.0
+file_with without (e, u, finding) answers beside m k = λ i. record { name = string_bytes (k.name i); path = string_bytes (k.path i) }
+
 -- each module stands so
-pub all_stand : (site : Site) (without : List Text) (all : List Evaluated) (ms readers : List Module) (shown : List Shown) (outs : List Evaluated) (answers : List (Option Clash)) → IsJudging site without all ms readers
-    → AreEvaluations (map (λ s. s.0) shown) outs → AllByRecursion IsShown shown → AllByRecursion (AnswersShown readers) shown
+pub all_stand : (site : Site) (without : List Text) (all : List Evaluated) (ms readers : List Module) (shown : List Shown) (outs : List Evaluated) (answers beside : List (Option Clash)) (modules : List AuditedModule)
+    → IsJudging site without all ms readers → AreEvaluations (map (λ s. s.0) shown) outs → AllByRecursion IsShown shown → AllByRecursion (AnswersShown readers) shown
     → AreAnswers (in_step_of ms) (flat_map (steps_in without) shown) answers → ((o : Evaluated) → IsAmong o outs → EvaluatesTo site o.0 o.1 × IsAmong o all)
-    → AllStand site without ms (modules_with (map (judged_of without) shown) answers)
-all_stand site without all ms readers [] outs answers j e h r a each = tt
-all_stand site without all ms readers (s ∷ shown) [] answers j e h r a each = absurd e
-all_stand site without all ms readers ((e, u, finding) ∷ shown) ((m, out) ∷ outs) answers j (one, more) (right, rest) (answer, others) a each =
+    → AreModulesWith (map (judged_of without) shown) answers beside modules → AllStand site without ms modules
+all_stand site without all ms readers [] outs answers beside [] j e h r a each k = tt
+all_stand site without all ms readers [] outs answers beside (x ∷ modules) j e h r a each k = absurd k
+all_stand site without all ms readers (s ∷ shown) [] answers beside modules j e h r a each k = absurd e
+all_stand site without all ms readers (s ∷ shown) (o ∷ outs) answers beside [] j e h r a each k = absurd k
+all_stand site without all ms readers ((e, u, finding) ∷ shown) ((m, out) ∷ outs) answers beside (x ∷ modules) j (one, more) (right, rest) (answer, others) a each (k, ks) =
     let file : m ≡ evaluated_file e = same_file e (m, out) one in
-    let own = each (m, out) (inl refl) in (
-      stands_one site without all ms readers (evaluated_file e) e.outcome (texts_in e.reads) out u finding answers (flat_map (steps_in without) shown) j one.outcome one.reads right
-          (subst (λ (k : SiteModule). EvaluatesTo site k out) file own.0) (subst (λ (k : SiteModule). IsAmong (k, out) all) file own.1) answer a,
-      all_stand site without all ms readers shown outs (answers_left (standing_of (is_withheld without (string_bytes e.name)) finding) answers) j more rest others
+    let own = each (m, out) (inl refl) in
+    let standing : OwnStanding = own_standing (is_withheld without (string_bytes e.name)) finding in
+    let stands : StandsAs site without ms (evaluated_file e) (standing_with standing answers) =
+    stands_one site without all ms readers (evaluated_file e) e.outcome (texts_in e.reads) out u finding answers (flat_map (steps_in without) shown) j one.outcome one.reads right
+    (subst (λ (k : SiteModule). EvaluatesTo site k out) file own.0) (subst (λ (k : SiteModule). IsAmong (k, out) all) file own.1) answer a in (
+      subst (λ (n : SiteModule). StandsAs site without ms n x.standing) (sym (file_with without (e, u, finding) answers beside x k))
+          (subst (StandsAs site without ms (evaluated_file e)) (sym k.standing) stands),
+      all_stand site without all ms readers shown outs (answers_left standing answers) (beside_left standing beside) modules j more rest others
           (more_answers without (in_step_of ms) (flat_map (steps_in without) shown) (evaluated_file e) finding answers a)
-          (λ o b. each o (inr b)),
+          (λ o b. each o (inr b)) ks,
     )
 
 -- ---- the files of the modules
 
-pub files_are : (without : List Text) (shown : List Shown) (outs : List Evaluated) (answers : List (Option Clash)) → AreEvaluations (map (λ s. s.0) shown) outs
-    → map audited_file (modules_with (map (judged_of without) shown) answers) ≡ map (λ (o : Evaluated). o.0) outs
-files_are without [] [] answers e = refl
-files_are without [] (o ∷ outs) answers e = absurd e
-files_are without (s ∷ shown) [] answers e = absurd e
-files_are without ((e, u, finding) ∷ shown) ((m, out) ∷ outs) answers (one, more) =
-    ap (λ (l : List SiteModule). evaluated_file e ∷ l) (files_are without shown outs (answers_left (standing_of (is_withheld without (string_bytes e.name)) finding) answers) more)
-    ∙ ap (λ (k : SiteModule). k ∷ map (λ (o : Evaluated). o.0) outs) (sym (same_file e (m, out) one))
+pub files_are : (without : List Text) (shown : List Shown) (outs : List Evaluated) (answers beside : List (Option Clash)) (modules : List AuditedModule) → AreEvaluations (map (λ s. s.0) shown) outs
+    → AreModulesWith (map (judged_of without) shown) answers beside modules → map audited_file modules ≡ map (λ (o : Evaluated). o.0) outs
+files_are without [] [] answers beside [] e k = refl
+files_are without [] [] answers beside (x ∷ modules) e k = absurd k
+files_are without [] (o ∷ outs) answers beside modules e k = absurd e
+files_are without (s ∷ shown) [] answers beside modules e k = absurd e
+files_are without (s ∷ shown) (o ∷ outs) answers beside [] e k = absurd k
+files_are without ((e, u, finding) ∷ shown) ((m, out) ∷ outs) answers beside (x ∷ modules) (one, more) (k, ks) =
+    let standing : OwnStanding = own_standing (is_withheld without (string_bytes e.name)) finding in
+    let file : audited_file x ≡ m = file_with without (e, u, finding) answers beside x k ∙ sym (same_file e (m, out) one) in
+    let rest : map audited_file modules ≡ map (λ (o : Evaluated). o.0) outs = files_are without shown outs (answers_left standing answers) (beside_left standing beside) modules more ks in
+    λ i. file i ∷ rest i
 
 -- and what they read
 
-pub reads_are : (without : List Text) (shown : List Shown) (outs : List Evaluated) (answers : List (Option Clash)) → AreEvaluations (map (λ s. s.0) shown) outs
-    → map (λ (m : AuditedModule). texts_in m.reads) (modules_with (map (judged_of without) shown) answers) ≡ map (λ (o : Evaluated). without_repeats (reads_of o)) outs
-reads_are without [] [] answers e = refl
-reads_are without [] (o ∷ outs) answers e = absurd e
-reads_are without (s ∷ shown) [] answers e = absurd e
-reads_are without ((e, u, finding) ∷ shown) ((m, out) ∷ outs) answers (one, more) =
-    ap (λ (l : List (List Text)). texts_in e.reads ∷ l) (reads_are without shown outs (answers_left (standing_of (is_withheld without (string_bytes e.name)) finding) answers) more)
-    ∙ ap (λ (l : List Text). l ∷ map (λ (o : Evaluated). without_repeats (reads_of o)) outs) one.reads
+pub reads_are : (without : List Text) (shown : List Shown) (outs : List Evaluated) (answers beside : List (Option Clash)) (modules : List AuditedModule) → AreEvaluations (map (λ s. s.0) shown) outs
+    → AreModulesWith (map (judged_of without) shown) answers beside modules
+    → map (λ (m : AuditedModule). texts_in m.reads) modules ≡ map (λ (o : Evaluated). without_repeats (reads_of o)) outs
+reads_are without [] [] answers beside [] e k = refl
+reads_are without [] [] answers beside (x ∷ modules) e k = absurd k
+reads_are without [] (o ∷ outs) answers beside modules e k = absurd e
+reads_are without (s ∷ shown) [] answers beside modules e k = absurd e
+reads_are without (s ∷ shown) (o ∷ outs) answers beside [] e k = absurd k
+reads_are without ((e, u, finding) ∷ shown) ((m, out) ∷ outs) answers beside (x ∷ modules) (one, more) (k, ks) =
+    let standing : OwnStanding = own_standing (is_withheld without (string_bytes e.name)) finding in
+    let reads : texts_in x.reads ≡ without_repeats (reads_of (m, out)) = ap (λ (l : Vec (String Global) Global). texts_in l) k.reads ∙ one.reads in
+    let rest : map (λ (m : AuditedModule). texts_in m.reads) modules ≡ map (λ (o : Evaluated). without_repeats (reads_of o)) outs =
+    reads_are without shown outs (answers_left standing answers) (beside_left standing beside) modules more ks in
+    λ i. reads i ∷ rest i
 
--- a finding that is decided is no certificate
-abbrev is_certificate : ModuleFinding → Bool
-is_certificate (Stands standing) = is_certified standing
-is_certificate (Asking first records) = false
-is_certificate (InStep records) = false
+-- ---- the certified ones
 
-by_use : (rs : List Record) (standing : Standing) → IsUseFinding rs (Stands standing) → is_certified standing ≡ false
-by_use rs Certified f = absurd f
-by_use rs (Asks first) f = refl
-by_use rs (OneWay first) f = refl
-by_use rs (ReadsUsed used) f = refl
-by_use rs (OutOfStep v x y) f = refl
-by_use rs Withheld f = refl
-by_use rs (Clashes clash) f = refl
-by_use rs (Refused refusal) f = refl
+-- one that stands by itself isn't certified
+uncertified : (unkept : Option Question) (rs : List Record) (u : Option UsedRead) (first : Standing) → StandsFirst unkept rs u first → is_certified first ≡ false
+uncertified unkept rs u Certified f = absurd f
+uncertified unkept rs u (Asks first) f = refl
+uncertified unkept rs u (OneWay first) f = refl
+uncertified unkept rs u (ReadsUsed used) f = refl
+uncertified unkept rs u (OutOfStep v x y) f = refl
+uncertified unkept rs u Withheld f = refl
+uncertified unkept rs u (Clashes clash) f = refl
+uncertified unkept rs u (ways.Refused refusal) f = refl
 
-undecided_file : (standing : Standing) (rs : List Record) (unkept : Option Question) (u : Option UsedRead) → IsFindingOf unkept rs u (Stands standing) → is_certified standing ≡ false
-undecided_file standing rs None None (inl (t, f)) = by_use rs standing f
-undecided_file standing rs None (Some used) (inl (t, f)) = ap is_certificate f
-undecided_file standing rs None u (inr (first, one, is)) = ap is_certificate is
-undecided_file standing rs (Some first) u is = absurd is
+uncertified_by : (outcome : Result EvaluatedFile Refusal) (u : Option UsedRead) (first : Standing) (further : Vec Standing Global) (records : Vec code.Record Global) → IsFinding outcome u (Stands first further records)
+    → is_certified first ≡ false
+uncertified_by (Err refusal) u first further records f = absurd (cc)
+uncertified_by (Ok file) u first further records f =
+    uncertified file.unkept (map record_view file.records.items) u first (shows_first file.unkept (map record_view file.records.items) u first further records f)
 
-undecided : (standing : Standing) (outcome : Result EvaluatedFile Refusal) (u : Option UsedRead) → IsFinding outcome u (Stands standing) → is_certified standing ≡ false
-undecided standing (Err refusal) u f = ap is_certificate f
-undecided standing (Ok file) u f = undecided_file standing (map record_view file.records.items) file.unkept u f
+not_listed : (x : AuditedModule) (modules : List AuditedModule) → is_certified x.standing ≡ false → certified_files (x ∷ modules) ≡ certified_files modules
+not_listed x modules f = rw f refl
 
--- one that others decide, by whether it is withheld
-abbrev kept_by_test : Evaluation → Bool → JudgedModule
-kept_by_test e withheld = record { name = e.name; path = e.path; reads = e.reads; standing = cond withheld (Some Withheld) None }
+first_listed : (x : AuditedModule) (modules : List AuditedModule) → is_certified x.standing ≡ true → certified_files (x ∷ modules) ≡ audited_file x ∷ certified_files modules
+first_listed x modules t = rw t refl
 
-by_left : (e : Evaluation) (n : Module) (withheld : Bool) (rest : List Module) (judged : List JudgedModule) (answers : List (Option Clash)) (all : List Module)
-    → file_of n ≡ evaluated_file e → AreAnswers all (cond withheld [] (n ∷ []) ++ rest) answers
-    → ((later : List (Option Clash)) → AreAnswers all rest later → certified_files (modules_with judged later) ≡ map file_of (without_clashes rest later))
-    → certified_files (modules_with (kept_by_test e withheld ∷ judged) answers) ≡ map file_of (without_clashes (cond withheld [] (n ∷ []) ++ rest) answers)
-by_left e n true rest judged answers all same a more = more answers a
-by_left e n false rest judged [] all same a more = absurd a
-by_left e n false rest judged (None ∷ answers) all same a more = λ i. sym same i ∷ more answers a.1 i
-by_left e n false rest judged (Some clash ∷ answers) all same a more = more answers a.1
+-- one for whom others decide, by whether it is withheld
+by_left : (x : AuditedModule) (e : Evaluation) (n : Module) (withheld : Bool) (rest : List Module) (answers : List (Option Clash)) (all : List Module) (modules : List AuditedModule)
+    → audited_file x ≡ evaluated_file e → file_of n ≡ evaluated_file e → x.standing ≡ standing_with (cond withheld (Decided Withheld) Open) answers → AreAnswers all (cond withheld [] (n ∷ []) ++ rest) answers
+    → certified_files modules ≡ map file_of (without_clashes rest (answers_left (cond withheld (Decided Withheld) Open) answers))
+    → certified_files (x ∷ modules) ≡ map file_of (without_clashes (cond withheld [] (n ∷ []) ++ rest) answers)
+by_left x e n true rest answers all modules file same s a more = not_listed x modules (ap is_certified s) ∙ more
+by_left x e n false rest [] all modules file same s a more = absurd a
+by_left x e n false rest (None ∷ answers) all modules file same s a more =
+    first_listed x modules (ap is_certified s) ∙ (λ i. (file ∙ sym same) i ∷ more i)
+by_left x e n false rest (Some clash ∷ answers) all modules file same s a more = not_listed x modules (ap is_certified s) ∙ more
 
 -- the certified ones are those whose answers are that they clash with none
-pub certified_files_are : (without : List Text) (all : List Module) (shown : List Shown) (answers : List (Option Clash)) → AllByRecursion IsShown shown → AreAnswers all (flat_map (steps_in without) shown) answers
-    → certified_files (modules_with (map (judged_of without) shown) answers) ≡ map file_of (without_clashes (flat_map (steps_in without) shown) answers)
-certified_files_are without all [] answers h a = refl
-certified_files_are without all ((e, u, Stands standing) ∷ shown) answers (right, rest) a =
-    let no : is_certified standing ≡ false = undecided standing e.outcome u right in
-    rw no (certified_files_are without all shown answers rest a)
-certified_files_are without all ((e, u, Asking first records) ∷ shown) answers (right, rest) a = certified_files_are without all shown answers rest a
-certified_files_are without all ((e, u, InStep records) ∷ shown) answers (right, rest) a =
-    by_left e (with_records (evaluated_file e) (map record_view records.items)) (is_withheld without (string_bytes e.name)) (flat_map (steps_in without) shown) (map (judged_of without) shown) answers all refl a
-    (λ later b. certified_files_are without all shown later rest b)
-
--- ---- those that ask
-
-abbrev asks_by : Bool → Module → List Module → List Module
-asks_by kept n rest = cons_option (cond kept None (Some n)) rest
-
--- what a module shows decides whether it asks
-asking_file : (m : SiteModule) (file : EvaluatedFile) (runs : Runs) (u : Option UsedRead) (finding : ModuleFinding) (unkept : Option Question) (rest : List Module) → file.unkept ≡ unkept → IsOfRuns file runs
-    → IsFindingOf unkept runs.first.records u finding → asking_of m finding ++ rest ≡ asks_by (keep_answers runs) (with_records m runs.first.records) rest
-asking_file m file runs u finding None rest k of f =
-    rw (kept_by file runs of k) (none_asks runs.first.records u finding f)
-  where
-    by_use_asks : (rs : List Record) (finding : ModuleFinding) → IsUseFinding rs finding → asking_of m finding ++ rest ≡ rest
-    by_use_asks rs (Stands standing) f = refl
-    by_use_asks rs (Asking first records) f = absurd f
-    by_use_asks rs (InStep records) f = refl
-
-    of_standing : (finding : ModuleFinding) (standing : Standing) → finding ≡ Stands standing → asking_of m finding ++ rest ≡ rest
-    of_standing finding standing e = ap (λ (k : ModuleFinding). asking_of m k ++ rest) e
-
-    none_asks : (rs : List Record) (u : Option UsedRead) (finding : ModuleFinding) → IsFindingOf None rs u finding → asking_of m finding ++ rest ≡ rest
-    none_asks rs None finding (inl (t, f)) = by_use_asks rs finding f
-    none_asks rs (Some used) finding (inl (t, f)) = of_standing finding (ReadsUsed used) f
-    none_asks rs u finding (inr (first, one, is)) = of_standing finding (OneWay first) is
-asking_file m file runs u (Stands standing) (Some first) rest k of f = absurd f
-asking_file m file runs u (Asking question records) (Some first) rest k of f =
-    rw (unkept_by file runs first of k) (ap (λ (rs : List Record). with_records m rs ∷ rest) f.1)
-asking_file m file runs u (InStep records) (Some first) rest k of f = absurd f
-
-asking_one : (m : SiteModule) (outcome : Result EvaluatedFile Refusal) (out : Outcome) (u : Option UsedRead) (finding : ModuleFinding) (rest : List Module) → IsOutcome outcome out → IsFinding outcome u finding
-    → asking_of m finding ++ rest ≡ cons_option (audits.asking_of (m, out)) rest
-asking_one m (Err refusal) out u finding rest o f =
-    ap (λ (k : ModuleFinding). asking_of m k ++ rest) f ∙ sym (ap (λ (x : Outcome). cons_option (audits.asking_of (m, x)) rest) o.2)
-asking_one m (Ok file) out u finding rest (runs, is, of) f =
-    asking_file m file runs u finding file.unkept rest refl of (of_records file runs u finding of f)
-    ∙ sym (ap (λ (x : Outcome). cons_option (audits.asking_of (m, x)) rest) is)
-
--- those that ask are the same by both
-pub asking_are : (shown : List Shown) (outs : List Evaluated) → AreEvaluations (map (λ s. s.0) shown) outs → AllByRecursion IsShown shown
-    → flat_map asking_in shown ≡ audits.asking_among outs
-asking_are [] [] e h = refl
-asking_are [] (o ∷ outs) e h = absurd e
-asking_are (s ∷ shown) [] e h = absurd e
-asking_are ((e, u, finding) ∷ shown) ((m, out) ∷ outs) (one, more) (right, rest) =
-    ap (λ (l : List Module). asking_of (evaluated_file e) finding ++ l) (asking_are shown outs more rest)
-    ∙ (asking_one (evaluated_file e) e.outcome out u finding (audits.asking_among outs) one.outcome right
-    ∙ ap (λ (k : SiteModule). cons_option (audits.asking_of (k, out)) (audits.asking_among outs)) (sym (same_file e (m, out) one)))
+pub certified_files_are : (without : List Text) (all : List Module) (shown : List Shown) (answers beside : List (Option Clash)) (modules : List AuditedModule) → AllByRecursion IsShown shown
+    → AreAnswers all (flat_map (steps_in without) shown) answers → AreModulesWith (map (judged_of without) shown) answers beside modules
+    → certified_files modules ≡ map file_of (without_clashes (flat_map (steps_in without) shown) answers)
+certified_files_are without all [] answers beside [] h a k = refl
+certified_files_are without all [] answers beside (x ∷ modules) h a k = absurd k
+certified_files_are without all (s ∷ shown) answers beside [] h a k = absurd k
+certified_files_are without all ((e, u, Refused refusal) ∷ shown) answers beside (x ∷ modules) (right, rest) a (k, ks) =
+    not_listed x modules (ap is_certified k.standing) ∙ certified_files_are without all shown answers beside modules rest a ks
+certified_files_are without all ((e, u, Stands first further records) ∷ shown) answers beside (x ∷ modules) (right, rest) a (k, ks) =
+    not_listed x modules (ap is_certified k.standing ∙ uncertified_by e.outcome u first further records right)
+    ∙ certified_files_are without all shown answers (later_answers beside) modules rest a ks
+certified_files_are without all ((e, u, InStep records) ∷ shown) answers beside (x ∷ modules) (right, rest) a (k, ks) =
+    let withheld : Bool = is_withheld without (string_bytes e.name) in
+    by_left x e (with_records (evaluated_file e) (map record_view records.items)) withheld (flat_map (steps_in without) shown) answers all modules
+    (file_with without (e, u, InStep records) answers beside x k) refl k.standing a
+    (certified_files_are without all shown (answers_left (own_standing withheld (InStep records)) answers) (beside_left (own_standing withheld (InStep records)) beside) modules rest
+    (more_answers without all (flat_map (steps_in without) shown) (evaluated_file e) (InStep records) answers a) ks)

@@ -9,7 +9,7 @@ use Rattle.siteaudit.specs.declared.standing.ModuleFinding.{ModuleFinding}
 use Rattle.siteaudit.specs.declared.walk.Evaluation.{Evaluation}
 use Rattle.siteaudit.specs.declared.judgement.JudgedModule.{JudgedModule}
 use Rattle.sitereads.specs.declared.readers.UsedRead.{UsedRead}
-use Rattle.siteaudit.specs.Findings.{Shown, IsFinding, IsShown, judged_of, steps_in, asking_in, AreJudged}
+use Rattle.siteaudit.specs.Findings.{Shown, IsFinding, IsShown, judged_of, steps_in, aside_in, AreJudged}
 
 all_more : {X : Type 0} (P : X → Type 0) (xs : List X) (x : X) → AllByRecursion P xs → P x → AllByRecursion P (xs ++ x ∷ [])
 all_more P [] x h p = (p, tt)
@@ -18,9 +18,9 @@ all_more P (y ∷ xs) x h p = (h.0, all_more P xs x h.1 p)
 -- one module more
 pub judged_more : (without : List Text) (es : List Evaluation) (us : List (Option UsedRead)) (js new : List JudgedModule) (ms more ks others : List Module) (e : Evaluation) (u : Option UsedRead) (finding : ModuleFinding)
     → AreJudged without es us js ms ks → IsFinding e.outcome u finding
-    → new ≡ js ++ judged_of without (e, u, finding) ∷ [] → more ≡ ms ++ steps_in without (e, u, finding) → others ≡ ks ++ asking_in (e, u, finding)
+    → new ≡ js ++ judged_of without (e, u, finding) ∷ [] → more ≡ ms ++ steps_in without (e, u, finding) → others ≡ ks ++ aside_in (e, u, finding)
     → AreJudged without (es ++ e ∷ []) (us ++ u ∷ []) new more others
-judged_more without es us js new ms more ks others e u finding h right kept steps asks =
+judged_more without es us js new ms more ks others e u finding h right kept steps aside =
     let one : Shown = (e, u, finding) in
     record {
       shown = h.shown ++ one ∷ [];
@@ -30,6 +30,6 @@ judged_more without es us js new ms more ks others e u finding h right kept step
       kept = kept ∙ (ap (λ (l : List JudgedModule). l ++ judged_of without one ∷ []) h.kept ∙ sym (map-append (judged_of without) h.shown (one ∷ [])));
       steps = steps ∙ (ap (λ (l : List Module). l ++ steps_in without one) h.steps
           ∙ (ap (λ (l : List Module). flat_map (steps_in without) h.shown ++ l) (sym (append-nil (steps_in without one))) ∙ sym (flat_map-append (steps_in without) h.shown (one ∷ []))));
-      asks = asks ∙ (ap (λ (l : List Module). l ++ asking_in one) h.asks
-          ∙ (ap (λ (l : List Module). flat_map asking_in h.shown ++ l) (sym (append-nil (asking_in one))) ∙ sym (flat_map-append asking_in h.shown (one ∷ []))));
+      others = aside ∙ (ap (λ (l : List Module). l ++ aside_in one) h.others
+          ∙ (ap (λ (l : List Module). flat_map aside_in h.shown ++ l) (sym (append-nil (aside_in one))) ∙ sym (flat_map-append aside_in h.shown (one ∷ []))));
     }

@@ -15,6 +15,7 @@ mod Evaluations
 mod UsedReads
 mod Judged
 mod FirstReads
+mod Further
 mod OnceEach
 mod Unknown
 mod HangingLemmas
@@ -26,3 +27,4 @@ mod MissingLemmas
 mod UnreadLemmas
 mod Looked
 mod Audited
+pub mod WithoutVersionLemmas

@@ -1,7 +1,7 @@
 -- What a module shows by itself: its first record that unloading doesn't undo, and uses that differ.
 use Rattle.std.proofs.Common.{◌≡◌, inl, inr, ℕ, ◌+◌, ◌-◌, ◌<◌, ◌≤◌, Bool, true, false, not, ◌&&◌, ◌||◌, List, [], ◌∷◌}
 use Rattle.std.proofs.Common.{◌++◌, map, find, length, get_or, take, Some, None, refl, sym, ap, ◌∙◌, subst, arith, zero}
-use Rattle.std.proofs.Common.{suc, string_bytes}
+use Rattle.std.proofs.Common.{suc, string_bytes, append_assoc, option_to_list, Option}
 use Rattle.std.specs.Prelude.{bytes_eq, position}
 use Rattle.std.specs.List.{list_all, position_from}
 use Rattle.std.proofs.lemmas.Bool.{false≢true, and_parts, and_from}
@@ -139,3 +139,15 @@ pub item_among : {X : Type 0} (xs : List X) (i : ℕ) (x : X) → i < length xs 
 item_among [] i x l e = absurd (omega arith)
 item_among (y ∷ xs) zero x l e = inl e
 item_among (y ∷ xs) (suc i) x l e = inr (item_among xs i x (omega arith) e)
+
+-- ---- standings, one after another
+
+pub gathered : {X : Type 0} (a b c d : Option X) (none first second third all : List X) → none ≡ [] → first ≡ none ++ option_to_list a → second ≡ first ++ option_to_list b
+    → third ≡ second ++ option_to_list c → all ≡ third ++ option_to_list d → all ≡ option_to_list a ++ (option_to_list b ++ (option_to_list c ++ option_to_list d))
+gathered {X} a b c d none first second third all n f s t e =
+    let begun : first ≡ option_to_list a = f ∙ ap (λ (l : List X). l ++ option_to_list a) n in
+    let two : second ≡ option_to_list a ++ option_to_list b = s ∙ ap (λ (l : List X). l ++ option_to_list b) begun in
+    let three : third ≡ (option_to_list a ++ option_to_list b) ++ option_to_list c = t ∙ ap (λ (l : List X). l ++ option_to_list c) two in
+    e ∙ (ap (λ (l : List X). l ++ option_to_list d) three
+    ∙ (append_assoc (option_to_list a ++ option_to_list b) (option_to_list c) (option_to_list d)
+    ∙ append_assoc (option_to_list a) (option_to_list b) (option_to_list c ++ option_to_list d)))

@@ -26,7 +26,7 @@ use Rattle.siteaudit.specs.declared.walk.Evaluation.{Evaluation}
 use Rattle.siteaudit.proofs.SettledFiles.{records_same}
 use Rattle.siteaudit.specs.Walks.{IsOutcome, AreEvaluations}
 use Rattle.settled.specs.Ways.{FileRuns, is_settled}
-use Rattle.siteaudit.specs.SettledRuns.{settled_records, settled_reads, settled_module}
+use Rattle.siteaudit.specs.SettledRuns.{settled_records, read_by, settled_module}
 use Rattle.siteaudit.specs.SettledRuns.{AreUsedReads}
 use Rattle.siteaudit.specs.Findings.{Shown, reads_along}
 use Rattle.siteaudit.proofs.AmongLemmas.{among_map, of_map}
@@ -143,7 +143,7 @@ user_settled (e ∷ es) (o ∷ outs) n v x h (inr a) u = later_one n (settled_of
 -- ---- the answer of each
 
 abbrev pub AnswersShown : List Module → Shown → Type 0
-AnswersShown ms s = IsAnswer ms (settled_reads s.0) s.1
+AnswersShown ms s = IsAnswer ms (read_by s.0) s.1
 
 one_tail : (x y : Option UsedRead) (xs ys : List (Option UsedRead)) → x ∷ xs ≡ y ∷ ys → (x ≡ y) × (xs ≡ ys)
 one_tail x y xs ys e = (cc, cc)
@@ -154,7 +154,7 @@ answers_shown ms [] used h e = tt
 answers_shown ms (s ∷ shown) [] h e = absurd h
 answers_shown ms (s ∷ shown) (answer ∷ used) h e =
     let p = one_tail s.1 answer (map (λ (k : Shown). k.1) shown) (reads_along (map (λ (k : Shown). k.0) shown) used) e in
-    (subst (IsAnswer ms (settled_reads s.0)) (sym p.0) h.0, answers_shown ms shown used h.1 p.1)
+    (subst (IsAnswer ms (read_by s.0)) (sym p.0) h.0, answers_shown ms shown used h.1 p.1)
 
 -- ---- readers in turn
 
@@ -167,7 +167,7 @@ map_turn f g xs ys i y x l e before now =
 one_more_read : (x y : List Text) (xs ys : List (List Text)) → x ∷ xs ≡ y ∷ ys → (x ≡ y) × (xs ≡ ys)
 one_more_read x y xs ys e = (cc, cc)
 
-pub used_along : (ms : List Module) (es : List Evaluation) (rs : List Reader) (used : List (Option UsedRead)) → map answers.reads_of rs ≡ map settled_reads es
+pub used_along : (ms : List Module) (es : List Evaluation) (rs : List Reader) (used : List (Option UsedRead)) → map answers.reads_of rs ≡ map read_by es
     → answers.AreAnswers ms rs used → AreUsedReads ms es used
 used_along ms [] [] used e h = none used h
   where
@@ -178,5 +178,5 @@ used_along ms [] (r ∷ rs) used e h = absurd (cc)
 used_along ms (x ∷ es) [] used e h = absurd (cc)
 used_along ms (x ∷ es) (r ∷ rs) [] e h = absurd h
 used_along ms (x ∷ es) (r ∷ rs) (u ∷ used) e h =
-    let p = one_more_read (answers.reads_of r) (settled_reads x) (map answers.reads_of rs) (map settled_reads es) e in
+    let p = one_more_read (answers.reads_of r) (read_by x) (map answers.reads_of rs) (map read_by es) e in
     (subst (λ (l : List Text). IsAnswer ms l u) p.0 h.0, used_along ms es rs used p.1 h.1)

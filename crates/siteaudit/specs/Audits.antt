@@ -1,47 +1,51 @@
 -- What an audit of a site finds (own).
-use Rattle.std.specs.Prelude.{◌≡◌, ◌↔◌, Bool, true, false, not, if◌then◌else◌, List, [], ◌∷◌, ◌++◌, map, filter}
-use Rattle.std.specs.Prelude.{filter_map, flat_map, Option, Some, None, Ok, Err, bytes_eq, string_bytes}
+use Rattle.std.specs.Prelude.{◌≡◌, ◌↔◌, Bool, true, false, not, List, [], ◌∷◌, ◌++◌, map, filter, flat_map, find}
+use Rattle.std.specs.Prelude.{Option, option_to_list, Ok, Err, MatchOption, bytes_eq, string_bytes}
 use Rattle.std.specs.List.{list_any}
+use Rattle.std.specs.Option.{option_map}
 use Rattle.indexmap.specs.IndexSet.{insert_all}
 use Rattle.modulename.specs.ModuleName.{means}
 use Rattle.envvars.specs.Texts.{Text, has, texts_in}
 use Rattle.envvars.specs.Fields.{without_repeats}
-use Rattle.reversal.specs.VariableUses.{UsedVariable}
+use Rattle.reversal.specs.VariableUses.{UsedVariable, can_return}
 use Rattle.filetree.specs.Causes.{because}
 use Rattle.modulefile.specs.RecordViews.{record_view}
+use Rattle.modulefile.specs.declared.records.Record as code
 use Rattle.modulefile.specs.Records.{Record, conflict_names, prereq_groups}
 use Rattle.modulefile.specs.Moves.{Module}
 use Rattle.requests.specs.Reasons.{RequestReason}
 use Rattle.modules.specs.Answers.{cause_of}
-use Rattle.sitecertificate.specs.RecordUses.{used_by_modules, IsAmong, IsInStep, is_in_step}
+use Rattle.sitecertificate.specs.RecordUses.{used_by, used_by_modules, IsAmong, IsInStep, are_in_step, is_in_step}
 use Rattle.sitecertificate.specs.Ranks.{users_alike}
 use Rattle.sitecertificate.specs.Certificates.{certificate, AgreesWith}
 use Rattle.sitecertificate.specs.UseViews.{use_view, used_view}
 use Rattle.sitecertificate.specs.Disagreements.{AreDisagreements}
 use Rattle.sitecertificate.specs.DisagreementViews.{disagreement_view}
 use Rattle.sitecertificate.specs.EachOnce.{each_once}
-use Rattle.sitecertificate.specs.ClashAnswers.{AreAnswers}
+use Rattle.sitecertificate.specs.ClashAnswers as clashes
 use Rattle.sitecertificate.specs.declared.answers.Clash.{Clash}
-use Rattle.settled.specs.Ways.{same_by, keep_answers}
+use Rattle.settled.specs.Ways.{same_by, FileRuns, are_runs_alike, keeps_answer, reads_in}
 use Rattle.sitelaws.specs.Sites.{Site, SiteModule, Evaluated, file_of, with_records, HasSettledRecords, AreCandidates}
-use Rattle.sitereads.specs.Answers.{IsUsedRead}
+use Rattle.sitereads.specs.Answers.{IsUsedRead, IsAnswer}
+use Rattle.sitereads.specs.declared.readers.UsedRead.{UsedRead}
 use Rattle.sitelaws.specs.Sites.{settled_among, candidates_among, reads_of, first_directories, added_directories}
 use Rattle.sitelaws.specs.Standings as standings
-use Rattle.sitelaws.specs.Standings.{HasStanding, IsCandidateAnd}
+use Rattle.sitelaws.specs.Standings.{HasStanding, IsCandidateAnd, IsUsedTwice}
 use Rattle.sitelaws.specs.Laws.{CertificateHolds}
 use Rattle.siteaudit.specs.Walks.{IsWalk, directories_of}
 use Rattle.siteaudit.specs.Folders.{AreBadDefaultFiles}
 use Rattle.siteaudit.specs.Missing.{missing_among}
 use Rattle.siteaudit.specs.Unread.{unread_among}
 use Rattle.siteaudit.specs.NoModulefiles.{AreNoModulefiles}
+use Rattle.modulerun.specs.declared.question.Question.{Question}
 use Rattle.modulerun.specs.Questions.{question_view}
+use Rattle.siteaudit.specs.declared.standing.UnlikeUses.{UnlikeUses}
 use Rattle.siteaudit.specs.declared.standing.Standing.{Standing}
 use Rattle.siteaudit.specs.declared.standing.Standing.TheVariants.{Certified, Asks, OneWay, ReadsUsed, OutOfStep}
 use Rattle.siteaudit.specs.declared.standing.Standing.TheVariants.{Withheld, Clashes, Refused}
 use Rattle.siteaudit.specs.declared.auditing.AuditedModule.{AuditedModule}
 use Rattle.siteaudit.specs.declared.auditing.UnknownNames.{UnknownNames}
 use Rattle.siteaudit.specs.declared.auditing.AddedDirectory.{AddedDirectory}
-use Rattle.siteaudit.specs.declared.auditing.AskingClash.{AskingClash}
 use Rattle.siteaudit.specs.declared.auditing.SiteAudit.{SiteAudit}
 
 -- ---- modules that are withheld
@@ -203,49 +207,70 @@ additions_to dirs outcome =
 abbrev pub hanging_directories : Site → List Evaluated → List Addition
 hanging_directories site outcomes = flat_map (additions_to (settled_directories site outcomes)) outcomes
 
--- ---- modules that ask, beside certified ones
+-- ---- how modules stand besides
 
--- the module with its first records, where it asks
-abbrev pub asking_of : Evaluated → Option Module
-asking_of (m, Ok runs) = if keep_answers runs then None else Some (with_records m runs.first.records)
-asking_of (m, Err reason) = None
+-- two uses of one variable that differ, as a standing
+abbrev pub out_of_step : UnlikeUses → Standing
+out_of_step unlike = OutOfStep unlike.variable unlike.one unlike.other
 
--- those of some evaluated modules that ask, in their order
-abbrev pub asking_among : List Evaluated → List Module
-asking_among outcomes = filter_map asking_of outcomes
+-- the records use the variable in these two ways
+abbrev pub AreUsedTwice : List Record → UnlikeUses → Type 0
+AreUsedTwice rs unlike = IsUsedTwice rs (string_bytes unlike.variable) (use_view unlike.one) (use_view unlike.other)
 
--- a module that asks, by its name and its file, with a clash
-abbrev pub asking_view : AskingClash → SiteModule × Clash
-asking_view asking = (record { name = string_bytes asking.name; path = string_bytes asking.path }, asking.clash)
+-- a standing, if there is one
+abbrev pub listed : {X : Type 0} → (X → Standing) → Option X → List Standing
+listed stands o = option_to_list (option_map stands o)
 
--- the clash of a module, if there is one
-abbrev pub clash_with : Module → Option Clash → List (SiteModule × Clash)
-clash_with m None = []
-clash_with m (Some clash) = (file_of m, clash) ∷ []
+-- Whatever others do, a module of these runs stands in these ways, in their order, where these modules are the settled
+-- ones: its first question that doesn't keep its answer, its first record after which the start can't be back, the first
+-- of its reads that a settled module uses, and two of its uses of one variable that differ; each of them, if there is one.
+pub record AreOwnStandings (settled : List Module) (runs : FileRuns RequestReason) (standings : List Standing) : Type 0
+  where
+    pub question : Option Question
+    pub one_way : Option code.Record
+    pub used : Option UsedRead
+    pub unlike : Option UnlikeUses
+    pub asks : option_map question_view question
+        ≡ find (λ q. not (keeps_answer (are_runs_alike runs) runs.first.records q)) runs.first.asked
+    pub returns : option_map record_view one_way ≡ find (λ r. not (can_return r)) runs.first.records
+    pub reads : IsAnswer settled (without_repeats (reads_in runs)) used
+    pub steps : MatchOption unlike (are_in_step (used_by runs.first.records) ≡ true) (AreUsedTwice runs.first.records)
+    pub all : standings ≡ listed Asks question ++ (listed OneWay one_way ++ (listed ReadsUsed used
+        ++ listed out_of_step unlike))
 
--- the clashes of modules by such answers
-abbrev pub clashes_by : List Module → List (Option Clash) → List (SiteModule × Clash)
-clashes_by [] answers = []
-clashes_by (m ∷ ms) [] = []
-clashes_by (m ∷ ms) (answer ∷ answers) = clash_with m answer ++ clashes_by ms answers
+-- A module that stands in these ways, whatever others do, stands in the first, and further in the others of them, and
+-- then by a clash with one that stays of the candidates. One that stands in none is a candidate in step, and stands in
+-- no further way.
+abbrev pub StandsFurther : List Module → Module → List Standing → List Standing → Type 0
+StandsFurther ms m [] further = further ≡ []
+StandsFurther ms m (first ∷ others) further =
+    (clash : Option Clash) × clashes.IsAnswer ms m clash × (further ≡ others ++ listed Clashes clash)
 
--- Of each of the modules that ask, in their order, this is a clash of its first records with one that stays of these
--- modules, where there is one.
-pub record AreAskingClashes (ms asking : List Module) (found : List AskingClash) : Type 0 where
-  pub answers : List (Option Clash)
-  pub answered : AreAnswers ms asking answers
-  pub exact : map asking_view found ≡ clashes_by asking answers
+-- the further standings of an evaluated module, by its first records; one whose evaluation is refused has none
+abbrev pub HasFurther : List Module → List Module → Evaluated → List Standing → Type 0
+HasFurther ms settled (m, Ok runs) further =
+    (own : List Standing) × AreOwnStandings settled runs own
+    × StandsFurther ms (with_records m runs.first.records) own further
+HasFurther ms settled (m, Err reason) further = further ≡ []
+
+-- each of them has these
+abbrev pub HaveFurther : List Module → List Module → List Evaluated → List AuditedModule → Type 0
+HaveFurther ms settled [] [] = Unit {0}
+HaveFurther ms settled [] (m ∷ audited) = ⊥
+HaveFurther ms settled (outcome ∷ outcomes) [] = ⊥
+HaveFurther ms settled (outcome ∷ outcomes) (m ∷ audited) =
+    HasFurther ms settled outcome m.further.items × HaveFurther ms settled outcomes audited
 
 -- ---- the whole
 
 -- What was found is an audit of the site, where the modules that these names mean are withheld: a walk over it has these
 -- directories and these outcomes. It has each module of the walk, in its order, with the variables that its evaluations
--- read, each once, and how it stands, with the first of its reads that a settled module uses; the certificate of the
--- candidates that remain, each use once; those of its directories that aren't there, in their order; what the modules in
--- turn add that hangs on modules that aren't settled; of those that ask a clash with a certified one; the default files
--- above each folder, which aren't read; the files in the places of modules that are no modulefiles; the bad default files
--- of the modules in turn, each once; the names that mean no module; and the reasons for which the environment at hand
--- doesn't agree with the certificate, use after use.
+-- read, each once, and how it stands, with the first of its reads that a settled module uses, and how it stands further,
+-- by its first records; the certificate of the candidates that remain, each use once; those of its directories that aren't
+-- there, in their order; what the modules in turn add that hangs on modules that aren't settled; the default files above
+-- each folder, which aren't read; the files in the places of modules that are no modulefiles; the bad default files of the
+-- modules in turn, each once; the names that mean no module; and the reasons for which the environment at hand doesn't
+-- agree with the certificate, use after use.
 pub record IsAudit (site : Site) (without : List Text) (found : SiteAudit) : Type 0 where
   pub dirs : List Text
   pub outcomes : List Evaluated
@@ -259,8 +284,8 @@ pub record IsAudit (site : Site) (without : List Text) (found : SiteAudit) : Typ
       ≡ each_once (certificate (remaining without (candidates_among outcomes)))
   pub missing_directories : texts_in found.missing_directories ≡ missing_among site.listings dirs
   pub hanging : map addition_of found.hanging_directories.items ≡ hanging_directories site outcomes
-  pub asking : AreAskingClashes (filter is_in_step (remaining without (candidates_among outcomes))) (asking_among outcomes)
-      found.asking_clashes.items
+  pub further : HaveFurther (filter is_in_step (remaining without (candidates_among outcomes))) (settled_among outcomes)
+      outcomes found.modules.items
   pub no_modulefiles : AreNoModulefiles site.files site.listings dirs (texts_in found.no_modulefiles)
   pub unread_default_files : texts_in found.unread_default_files ≡ unread_among site.listings dirs
   pub bad_default_files : AreBadDefaultFiles site.limits site.files site.listings (map (λ outcome. outcome.0) outcomes)

@@ -1,8 +1,9 @@
 -- What each module of a site shows by itself, and what the answers about clashes make of it: for this crate's own
 -- contracts alone.
-use Rattle.std.specs.Prelude.{◌≡◌, ◌⊎◌, Bool, true, false, if◌then◌else◌, List, [], ◌∷◌, ◌++◌, map, flat_map, Option, Some}
-use Rattle.std.specs.Prelude.{None, Result, Ok, Err, string_bytes}
-use Rattle.std.specs.List.{list_all, AllByRecursion}
+use Rattle.std.specs.Prelude.{◌≡◌, Bool, true, false, not, if◌then◌else◌, List, [], ◌∷◌, ◌++◌, map, flat_map, find}
+use Rattle.std.specs.Prelude.{Option, Some, None, Result, Ok, Err, MatchOption, string_bytes}
+use Rattle.std.specs.List.{AllByRecursion}
+use Rattle.std.specs.Option.{option_map}
 use Rattle.envvars.specs.Texts.{Text}
 use Rattle.envvars.specs.Fields.{colon}
 use Rattle.modulefile.specs.RecordViews.{record_view}
@@ -18,21 +19,21 @@ use Rattle.sitecertificate.specs.RecordUses.{are_in_step}
 use Rattle.sitecertificate.specs.UseViews.{use_view}
 use Rattle.sitereads.specs.declared.readers.UsedRead.{UsedRead}
 use Rattle.sitelaws.specs.Sites.{SiteModule, with_records}
-use Rattle.sitelaws.specs.Standings.{IsFirstOneWay, IsUsedTwice}
 use Rattle.sitecertificate.specs.declared.answers.Clash.{Clash}
 use Rattle.sitecertificate.specs.ClashAnswers.{AreAnswers, without_clashes}
 use Rattle.sitecertificate.specs.EachOnce.{each_once}
 use Rattle.siteaudit.specs.declared.walk.EvaluatedFile.{EvaluatedFile}
 use Rattle.siteaudit.specs.declared.walk.Evaluation.{Evaluation}
-use Rattle.siteaudit.specs.Audits.{is_withheld, AreAskingClashes}
-use Rattle.siteaudit.specs.declared.auditing.AskingClash.{AskingClash}
+use Rattle.siteaudit.specs.Audits.{is_withheld, listed, out_of_step}
 use Rattle.siteaudit.specs.SettledRuns.{AreUsedReads, evaluated_file, settled_module}
 use Rattle.siteaudit.specs.declared.standing.UnlikeUses.{UnlikeUses}
 use Rattle.siteaudit.specs.declared.standing.Standing.{Standing}
-use Rattle.siteaudit.specs.declared.standing.Standing.TheVariants.{Certified, Asks, OneWay, ReadsUsed, OutOfStep}
-use Rattle.siteaudit.specs.declared.standing.Standing.TheVariants.{Withheld, Clashes, Refused}
+use Rattle.siteaudit.specs.declared.standing.Standing.TheVariants as ways
+use Rattle.siteaudit.specs.declared.standing.Standing.TheVariants.{Certified, Asks, OneWay, ReadsUsed, Withheld, Clashes}
 use Rattle.siteaudit.specs.declared.standing.ModuleFinding.{ModuleFinding}
-use Rattle.siteaudit.specs.declared.standing.ModuleFinding.TheVariants.{Stands, Asking, InStep}
+use Rattle.siteaudit.specs.declared.standing.ModuleFinding.TheVariants.{Refused, Stands, InStep}
+use Rattle.siteaudit.specs.declared.judgement.OwnStanding.{OwnStanding}
+use Rattle.siteaudit.specs.declared.judgement.OwnStanding.TheVariants.{Decided, Besides, Open}
 use Rattle.siteaudit.specs.declared.judgement.JudgedModule.{JudgedModule}
 use Rattle.siteaudit.specs.declared.judgement.JudgedSite.{JudgedSite}
 use Rattle.siteaudit.specs.declared.auditing.AuditedModule.{AuditedModule}
@@ -45,65 +46,52 @@ pub record AreUnlike (ps : List UsedVariable) (unlike : UnlikeUses) : Type 0 whe
   pub second : IsAmong (string_bytes unlike.variable, use_view unlike.other) ((modulepath, Pathed colon) ∷ ps)
   pub differ : same_use (use_view unlike.one) (use_view unlike.other) ≡ false
 
--- What a settled module with these records shows by itself, whose reads no settled module uses.
-abbrev pub IsUseFinding : List Record → ModuleFinding → Type 0
-IsUseFinding rs (Stands Certified) = ⊥
-IsUseFinding rs (Stands (Asks first)) = ⊥
-IsUseFinding rs (Stands (OneWay first)) = ⊥
-IsUseFinding rs (Stands (ReadsUsed used)) = ⊥
-IsUseFinding rs (Stands (OutOfStep variable one other)) =
-    IsUsedTwice rs (string_bytes variable) (use_view one) (use_view other)
-IsUseFinding rs (Stands Withheld) = ⊥
-IsUseFinding rs (Stands (Clashes clash)) = ⊥
-IsUseFinding rs (Stands (Refused refusal)) = ⊥
-IsUseFinding rs (Asking first records) = ⊥
-IsUseFinding rs (InStep records) = (are_in_step (used_by rs) ≡ true) × (map record_view records.items ≡ rs)
+-- Whatever others do, a module stands in these ways, in their order: by the first of its questions that doesn't keep its
+-- answer, by its records, and by the first of its reads that a settled module uses.
+pub record AreStandingsOf (unkept : Option Question) (rs : List Record) (used : Option UsedRead)
+    (standings : List Standing) : Type 0 where
+  pub one_way : Option code.Record
+  pub unlike : Option UnlikeUses
+  pub returns : option_map record_view one_way ≡ find (λ r. not (can_return r)) rs
+  pub steps : MatchOption unlike (are_in_step (used_by rs) ≡ true) (AreUnlike (used_by rs))
+  pub all : standings ≡ listed Asks unkept ++ (listed OneWay one_way ++ (listed ReadsUsed used
+      ++ listed out_of_step unlike))
 
--- The same of any settled module, by the first of its reads that a settled module uses.
-abbrev pub IsSettledFinding : List Record → Option UsedRead → ModuleFinding → Type 0
-IsSettledFinding rs (Some used) finding = finding ≡ Stands (ReadsUsed used)
-IsSettledFinding rs None finding = IsUseFinding rs finding
+-- A module with these records that stands in these ways shows the first of them, and the others; or that it is in step.
+abbrev pub IsFindingBy : List Standing → List Record → ModuleFinding → Type 0
+IsFindingBy standings rs (Refused refusal) = ⊥
+IsFindingBy standings rs (Stands first further records) =
+    (standings ≡ first ∷ further.items) × (map record_view records.items ≡ rs)
+IsFindingBy standings rs (InStep records) = (standings ≡ []) × (map record_view records.items ≡ rs)
 
--- The same of a module whose questions keep their answers.
-abbrev pub IsKeptFinding : List Record → Option UsedRead → ModuleFinding → Type 0
-IsKeptFinding rs used finding =
-    ((list_all can_return rs ≡ true) × IsSettledFinding rs used finding)
-    ⊎ ((first : code.Record) × IsFirstOneWay rs (record_view first) × (finding ≡ Stands (OneWay first)))
-
--- The finding is that of a module that asks this and has these records.
-abbrev pub IsAskingFinding : Question → List Record → ModuleFinding → Type 0
-IsAskingFinding first rs (Stands standing) = ⊥
-IsAskingFinding first rs (Asking question records) = (question ≡ first) × (map record_view records.items ≡ rs)
-IsAskingFinding first rs (InStep records) = ⊥
-
--- What a module with these records shows by itself, of whose questions this is the first that doesn't keep its answer.
+-- what a module with these records shows by itself, where its evaluation is accepted
 abbrev pub IsFindingOf : Option Question → List Record → Option UsedRead → ModuleFinding → Type 0
-IsFindingOf None rs used finding = IsKeptFinding rs used finding
-IsFindingOf (Some first) rs used finding = IsAskingFinding first rs finding
+IsFindingOf unkept rs used finding =
+    (standings : List Standing) × AreStandingsOf unkept rs used standings × IsFindingBy standings rs finding
 
 -- what the outcome of its evaluations shows, and what it reads that a settled module uses
 abbrev pub IsFinding : Result EvaluatedFile Refusal → Option UsedRead → ModuleFinding → Type 0
 IsFinding (Ok file) used finding = IsFindingOf file.unkept (map record_view file.records.items) used finding
-IsFinding (Err refusal) used finding = finding ≡ Stands (Refused refusal)
+IsFinding (Err refusal) used finding = finding ≡ Refused refusal
 
--- its standing, by whether it is withheld; none where others decide
-abbrev pub standing_of : Bool → ModuleFinding → Option Standing
-standing_of withheld (Stands standing) = Some standing
-standing_of withheld (Asking first records) = Some (Asks first)
-standing_of withheld (InStep records) = if withheld then Some Withheld else None
+-- how it stands by it, by whether it is withheld
+abbrev pub own_standing : Bool → ModuleFinding → OwnStanding
+own_standing withheld (Refused refusal) = Decided (ways.Refused refusal)
+own_standing withheld (Stands first further records) = Besides first further
+own_standing withheld (InStep records) = if withheld then Decided Withheld else Open
 
 -- the module with its records, where others decide
 abbrev pub steps_of : List Text → SiteModule → ModuleFinding → List Module
-steps_of without m (Stands standing) = []
-steps_of without m (Asking first records) = []
+steps_of without m (Refused refusal) = []
+steps_of without m (Stands first further records) = []
 steps_of without m (InStep records) =
     if is_withheld without m.name then [] else with_records m (map record_view records.items) ∷ []
 
--- the module with its first records, where it asks
-abbrev pub asking_of : SiteModule → ModuleFinding → List Module
-asking_of m (Stands standing) = []
-asking_of m (Asking first records) = with_records m (map record_view records.items) ∷ []
-asking_of m (InStep records) = []
+-- the module with its first records, where it stands by itself
+abbrev pub aside_of : SiteModule → ModuleFinding → List Module
+aside_of m (Refused refusal) = []
+aside_of m (Stands first further records) = with_records m (map record_view records.items) ∷ []
+aside_of m (InStep records) = []
 
 -- ---- all modules
 
@@ -118,47 +106,47 @@ judged_of without (e, used, finding) =
       name = e.name;
       path = e.path;
       reads = e.reads;
-      standing = standing_of (is_withheld without (string_bytes e.name)) finding;
+      standing = own_standing (is_withheld without (string_bytes e.name)) finding;
     }
 
 -- the module, where other modules decide how it stands
 abbrev pub steps_in : List Text → Shown → List Module
 steps_in without (e, used, finding) = steps_of without (evaluated_file e) finding
 
--- the module, where it asks
-abbrev pub asking_in : Shown → List Module
-asking_in (e, used, finding) = asking_of (evaluated_file e) finding
+-- the module, where it stands by itself
+abbrev pub aside_in : Shown → List Module
+aside_in (e, used, finding) = aside_of (evaluated_file e) finding
 
 -- what the evaluation shows is right
 abbrev pub IsShown : Shown → Type 0
 IsShown (e, used, finding) = IsFinding e.outcome used finding
 
 -- the first of some answers, if there is one, and those after it
-abbrev pub first_read : List (Option UsedRead) → Option UsedRead
-first_read [] = None
-first_read (answer ∷ answers) = answer
+abbrev pub first_answer : {X : Type 0} → List (Option X) → Option X
+first_answer [] = None
+first_answer (answer ∷ answers) = answer
 
-abbrev pub later_reads : List (Option UsedRead) → List (Option UsedRead)
-later_reads [] = []
-later_reads (answer ∷ answers) = answers
+abbrev pub later_answers : {X : Type 0} → List (Option X) → List (Option X)
+later_answers [] = []
+later_answers (answer ∷ answers) = answers
 
 -- the answers for each of some evaluations, in their order
 abbrev pub reads_along : List Evaluation → List (Option UsedRead) → List (Option UsedRead)
 reads_along [] answers = []
-reads_along (e ∷ es) answers = first_read answers ∷ reads_along es (later_reads answers)
+reads_along (e ∷ es) answers = first_answer answers ∷ reads_along es (later_answers answers)
 
 -- Each module of some evaluations is judged by itself, in their order, by these answers of what it reads, where the
 -- modules that these names mean are withheld; and these are the settled ones in step that aren't, and whose reads none
--- uses, and those that ask.
+-- uses, and those that stand by themselves.
 pub record AreJudged (without : List Text) (evaluations : List Evaluation) (used : List (Option UsedRead))
-    (judged : List JudgedModule) (in_step asking : List Module) : Type 0 where
+    (judged : List JudgedModule) (in_step aside : List Module) : Type 0 where
   pub shown : List Shown
   pub evaluated : map (λ s. s.0) shown ≡ evaluations
   pub read : map (λ s. s.1) shown ≡ used
   pub right : AllByRecursion IsShown shown
   pub kept : judged ≡ map (judged_of without) shown
   pub steps : in_step ≡ flat_map (steps_in without) shown
-  pub asks : asking ≡ flat_map asking_in shown
+  pub others : aside ≡ flat_map aside_in shown
 
 -- one module more is judged by itself
 pub record AddsJudged (without : List Text) (evaluation : Evaluation) (used : Option UsedRead) (old new : JudgedSite)
@@ -168,61 +156,72 @@ pub record AddsJudged (without : List Text) (evaluation : Evaluation) (used : Op
   pub kept : new.judged.items ≡ old.judged.items ++ judged_of without (evaluation, used, finding) ∷ []
   pub steps : map module_view new.in_step.items
       ≡ map module_view old.in_step.items ++ steps_in without (evaluation, used, finding)
-  pub asks : map module_view new.asking.items
-      ≡ map module_view old.asking.items ++ asking_in (evaluation, used, finding)
+  pub others : map module_view new.aside.items
+      ≡ map module_view old.aside.items ++ aside_in (evaluation, used, finding)
 
 -- ---- answers about clashes
 
--- By the answer of a module in step, the first one, how it stands.
-abbrev pub standing_by : List (Option Clash) → Standing
-standing_by [] = Certified
-standing_by (None ∷ answers) = Certified
-standing_by (Some clash ∷ answers) = Clashes clash
+-- by the answer of a module in step, how it stands
+abbrev pub standing_by : Option Clash → Standing
+standing_by None = Certified
+standing_by (Some clash) = Clashes clash
 
 -- how a module stands by what it shows by itself, or else by the first answer
-abbrev pub standing_with : Option Standing → List (Option Clash) → Standing
-standing_with (Some standing) answers = standing
-standing_with None answers = standing_by answers
-
--- the answers after the first
-abbrev pub answers_after : List (Option Clash) → List (Option Clash)
-answers_after [] = []
-answers_after (answer ∷ answers) = answers
+abbrev pub standing_with : OwnStanding → List (Option Clash) → Standing
+standing_with (Decided standing) answers = standing
+standing_with (Besides standing further) answers = standing
+standing_with Open answers = standing_by (first_answer answers)
 
 -- the answers that are left for the modules after this one
-abbrev pub answers_left : Option Standing → List (Option Clash) → List (Option Clash)
-answers_left (Some standing) answers = answers
-answers_left None answers = answers_after answers
+abbrev pub answers_left : OwnStanding → List (Option Clash) → List (Option Clash)
+answers_left (Decided standing) answers = answers
+answers_left (Besides standing further) answers = answers
+answers_left Open answers = later_answers answers
 
--- the module with its standing
-abbrev pub module_with : JudgedModule → List (Option Clash) → AuditedModule
-module_with judged answers =
-    record {
-      name = judged.name;
-      path = judged.path;
-      reads = judged.reads;
-      standing = standing_with judged.standing answers;
-    }
+-- how it stands further, by the first answer for those that stand by themselves
+abbrev pub further_with : OwnStanding → List (Option Clash) → List Standing
+further_with (Decided standing) answers = []
+further_with (Besides standing further) answers = further.items ++ listed Clashes (first_answer answers)
+further_with Open answers = []
 
--- The modules with their standings: those for whom others decide have the answers, in their order.
-abbrev pub modules_with : List JudgedModule → List (Option Clash) → List AuditedModule
-modules_with [] answers = []
-modules_with (judged ∷ rest) answers =
-    module_with judged answers ∷ modules_with rest (answers_left judged.standing answers)
+-- the answers that are left for those after this one
+abbrev pub beside_left : OwnStanding → List (Option Clash) → List (Option Clash)
+beside_left (Decided standing) answers = answers
+beside_left (Besides standing further) answers = later_answers answers
+beside_left Open answers = answers
+
+-- the module stands so by these answers
+pub record IsModuleWith (judged : JudgedModule) (answers beside : List (Option Clash)) (m : AuditedModule) : Type 0 where
+  pub name : m.name ≡ judged.name
+  pub path : m.path ≡ judged.path
+  pub reads : m.reads ≡ judged.reads
+  pub standing : m.standing ≡ standing_with judged.standing answers
+  pub further : m.further.items ≡ further_with judged.standing beside
+
+-- The modules stand so: those for whom others decide have the answers, in their order, and those that stand by
+-- themselves the others.
+abbrev pub AreModulesWith : List JudgedModule → List (Option Clash) → List (Option Clash) → List AuditedModule → Type 0
+AreModulesWith [] answers beside [] = Unit {0}
+AreModulesWith [] answers beside (m ∷ modules) = ⊥
+AreModulesWith (judged ∷ rest) answers beside [] = ⊥
+AreModulesWith (judged ∷ rest) answers beside (m ∷ modules) =
+    IsModuleWith judged answers beside m
+    × AreModulesWith rest (answers_left judged.standing answers) (beside_left judged.standing beside) modules
 
 -- The modules of some evaluations stand so, and these are the uses of those that are certified, each once: by what each
 -- shows by itself and reads, by the names of those that are withheld, and by what is answered of the clashes of those
--- that are settled and in step. And these are the clashes of those that ask.
+-- that are settled and in step, and of those that stand by themselves with these.
 pub record AreStandings (without : List Text) (evaluations : List Evaluation) (modules : List AuditedModule)
-    (uses : List UsedVariable) (clashes : List AskingClash) : Type 0 where
+    (uses : List UsedVariable) : Type 0 where
   pub used : List (Option UsedRead)
   pub judged : List JudgedModule
   pub in_step : List Module
-  pub asking : List Module
+  pub aside : List Module
   pub answers : List (Option Clash)
+  pub beside : List (Option Clash)
   pub read : AreUsedReads (map settled_module evaluations) evaluations used
-  pub by_themselves : AreJudged without evaluations (reads_along evaluations used) judged in_step asking
+  pub by_themselves : AreJudged without evaluations (reads_along evaluations used) judged in_step aside
   pub answered : AreAnswers in_step in_step answers
-  pub standings : modules ≡ modules_with judged answers
+  pub answered_beside : AreAnswers in_step aside beside
+  pub standings : AreModulesWith judged answers beside modules
   pub certified : uses ≡ each_once (used_by_modules (without_clashes in_step answers))
-  pub beside : AreAskingClashes in_step asking clashes

@@ -1,5 +1,5 @@
--- The folders in which the modules of a site are, and default files with a fault (own).
-use Rattle.std.specs.Prelude.{◌≡◌, ◌↔◌, ◌⊎◌, true, List, [], ◌∷◌, ◌++◌, Option, Some, Err, option_to_list}
+-- The folders in which the modules of a site are, and default files with a fault, or without effect (own).
+use Rattle.std.specs.Prelude.{◌≡◌, ◌↔◌, ◌⊎◌, true, List, [], ◌∷◌, ◌++◌, Option, Some, Ok, Err, option_to_list}
 use Rattle.std.specs.Prelude.{string_bytes}
 use Rattle.envvars.specs.Texts.{Text}
 use Rattle.envvars.specs.Fields.{without_repeats}
@@ -9,11 +9,12 @@ use Rattle.filetree.specs.Modulefiles.{path_of}
 use Rattle.lookup.specs.DefaultFileResults.{HasResult}
 use Rattle.search.specs.Single.{is_single}
 use Rattle.search.specs.Reasons.{bad_default}
-use Rattle.search.specs.Found.{Found}
+use Rattle.search.specs.Found.{Found, FoundModule}
 use Rattle.search.specs.Looked.{LooksAt}
 use Rattle.sitecertificate.specs.RecordUses.{IsAmong}
 use Rattle.sitelaws.specs.DirectorySets.{with_directories}
 use Rattle.sitelaws.specs.Sites.{SiteModule}
+use Rattle.siteaudit.specs.WithoutVersion.{NamesNoVersion, VersionsLookAt}
 use Rattle.siteaudit.specs.declared.walk.Evaluation.{Evaluation}
 use Rattle.siteaudit.specs.declared.defaults.Folder.{Folder}
 
@@ -35,10 +36,17 @@ folder_view folder = (string_bytes folder.dir, string_bytes folder.name)
 abbrev pub HoldsModule : FolderText → Text → Text → Type 0
 HoldsModule folder name path = (path ≡ path_of folder.0 name) × IsInFolder name folder.1
 
--- the default file at this path has a fault, so that the search for the folder along its directory is refused
+-- the search for the folder along its directory finds a module
+abbrev pub FindsModule : Limits → Files → Listings → FolderText → Type 0
+FindsModule limits files listings folder =
+    (m : FoundModule) × Found (HasResult limits) files listings folder.0 folder.1 (Ok m)
+
+-- The default file at this path has a fault, so that the search for the folder along its directory is refused; or that
+-- search finds a module, and the default files of the folder, of which this is the first, name no version in it.
 abbrev pub IsBadIn : Limits → Files → Listings → FolderText → Text → Type 0
 IsBadIn limits files listings folder path =
     Found (HasResult limits) files listings folder.0 folder.1 (Err (bad_default path))
+    ⊎ (FindsModule limits files listings folder × NamesNoVersion limits files listings folder.0 folder.1 path)
 
 -- this is the path of the bad default file of the folder, or it has none
 abbrev pub IsBadAnswer : Limits → Files → Listings → FolderText → Option Text → Type 0
@@ -92,9 +100,11 @@ AddsBadDefault limits files listings folders m old new =
 abbrev pub AddsFolder : List FolderText → SiteModule → List FolderText → Type 0
 AddsFolder old m new = (folder : FolderText) → IsAmong folder new ↔ (IsAmong folder old ⊎ HoldsModule folder m.name m.path)
 
--- the search for the folder along its directory looks at this path
+-- the search for the folder along its directory looks at this path, or that for the version that its default files name
 abbrev pub SearchLooksAt : Limits → Files → Listings → FolderText → Text → Type 0
-SearchLooksAt limits files listings folder at = LooksAt (HasResult limits) files listings folder.0 folder.1 at
+SearchLooksAt limits files listings folder at =
+    LooksAt (HasResult limits) files listings folder.0 folder.1 at
+    ⊎ VersionsLookAt limits files listings folder.0 folder.1 at
 
 -- the same of the folder in which the module is
 abbrev pub ModuleLooksAt : Limits → Files → Listings → SiteModule → Text → Type 0

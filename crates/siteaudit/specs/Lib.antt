@@ -1,4 +1,5 @@
 pub mod Walks
+pub mod WithoutVersion
 pub mod WalkLooked
 pub mod Audits
 pub mod Looked

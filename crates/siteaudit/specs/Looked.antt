@@ -2,21 +2,22 @@
 -- failure of the device at another path can end it.
 use Rattle.std.specs.Prelude.{◌⊎◌, []}
 use Rattle.envvars.specs.Texts.{Text}
-use Rattle.lookup.specs.DefaultFileResults.{HasResult}
-use Rattle.search.specs.Looked.{HasSelected, LooksAt}
+use Rattle.search.specs.Looked.{HasSelected}
 use Rattle.sitelaws.specs.Sites.{Site, IsDirectory}
+use Rattle.siteaudit.specs.Folders.{SearchLooksAt}
 use Rattle.siteaudit.specs.WalkLooked.{WalkLooksAt}
 pub use Rattle.siteaudit.specs.WalkLooked.{is_failure}
 
--- the search for a folder of a directory of the site, in which a module stands, looks at this path
+-- the search for a folder of a directory of the site, in which a module stands, looks at this path, or that for the
+-- version that its default files name
 pub record FolderLooksAt (site : Site) (at : Text) : Type 0 where
   pub dir : Text
   pub folder : Text
   pub directory : IsDirectory site dir
   pub module_there : HasSelected site.files site.listings [] dir folder
-  pub searched : LooksAt (HasResult site.limits) site.files site.listings dir folder at
+  pub searched : SearchLooksAt site.limits site.files site.listings (dir, folder) at
 
--- An audit of the site looks at this path: the walk does, or the search for a folder, by which a fault in its default
--- file is found.
+-- An audit of the site looks at this path: the walk does, or the search for a folder or its default version, by which a
+-- bad default file is found.
 abbrev pub AuditLooksAt : Site → Text → Type 0
 AuditLooksAt site at = WalkLooksAt site at ⊎ FolderLooksAt site at

@@ -26,7 +26,7 @@ use Rattle.siteaudit.specs.declared.auditing.SiteAudit.{SiteAudit}
 -- What was found are the parts of an audit without the modules that these names mean, by this walk.
 pub record AreParts (site : Site) (without : List Text) (walk : SiteWalk) (found : SiteAudit) : Type 0 where
   pub standings : AreStandings without walk.evaluations.items found.modules.items
-      (map used_view found.certificate.items) found.asking_clashes.items
+      (map used_view found.certificate.items)
   pub missing_directories : texts_in found.missing_directories
       ≡ missing_among site.listings (texts_in walk.directories)
   pub hanging : map addition_of found.hanging_directories.items

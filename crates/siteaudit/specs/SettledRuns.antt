@@ -30,14 +30,6 @@ abbrev pub settled_records : Result EvaluatedFile Refusal → List Record
 settled_records (Ok file) = if is_settled_file file then map record_view file.records.items else []
 settled_records (Err refusal) = []
 
--- the variables that it reads, where it is settled
-abbrev pub reads_where_settled : Result EvaluatedFile Refusal → List Text → List Text
-reads_where_settled (Ok file) reads = if is_settled_file file then reads else []
-reads_where_settled (Err refusal) reads = []
-
-abbrev pub settled_reads : Evaluation → List Text
-settled_reads e = reads_where_settled e.outcome (texts_in e.reads)
-
 -- the directories that it adds, by its first records
 abbrev pub directories_after : Result EvaluatedFile Refusal → List Text
 directories_after (Ok file) = added_directories (map record_view file.records.items)
@@ -46,6 +38,10 @@ directories_after (Err refusal) = []
 -- the module of an evaluation
 abbrev pub evaluated_file : Evaluation → SiteModule
 evaluated_file e = record { name = string_bytes e.name; path = string_bytes e.path }
+
+-- the variables that its evaluations read
+abbrev pub read_by : Evaluation → List Text
+read_by e = texts_in e.reads
 
 -- the module with its records, where it is settled
 abbrev pub settled_module : Evaluation → Module
@@ -56,4 +52,4 @@ abbrev pub AreUsedReads : List Module → List Evaluation → List (Option UsedR
 AreUsedReads ms [] [] = Unit {0}
 AreUsedReads ms [] (answer ∷ answers) = ⊥
 AreUsedReads ms (e ∷ es) [] = ⊥
-AreUsedReads ms (e ∷ es) (answer ∷ answers) = IsAnswer ms (settled_reads e) answer × AreUsedReads ms es answers
+AreUsedReads ms (e ∷ es) (answer ∷ answers) = IsAnswer ms (read_by e) answer × AreUsedReads ms es answers

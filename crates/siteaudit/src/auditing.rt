@@ -24,7 +24,7 @@ use crate::walk::{SiteWalk, modulepath, walk_site};
 use envvars::Env;
 use filetree::Tree;
 use modules::Refusal;
-use sitecertificate::{Clash, Disagreement, UsedVariable, disagreements};
+use sitecertificate::{Disagreement, UsedVariable, disagreements};
 use std::alloc::Global;
 use tclrules::Limits;
 
@@ -39,6 +39,9 @@ pub struct AuditedModule {
     pub reads: Vec<String>,
     /// How it stands.
     pub standing: Standing,
+    /// How it stands further, by the records of its first evaluation: what else would keep it from being certified, in the
+    /// order of the standings, and then a clash with a certified module.
+    pub further: Vec<Standing>,
 }
 
 /// A directory that a module adds to MODULEPATH.
@@ -50,17 +53,6 @@ pub struct AddedDirectory {
     pub path: String,
     /// The directory.
     pub directory: String,
-}
-
-/// A clash of a module that asks, by what its first evaluation leaves, with a certified one.
-#[derive(Debug, Drop)]
-pub struct AskingClash {
-    /// The full name of the module that asks.
-    pub name: String,
-    /// The path of its file.
-    pub path: String,
-    /// The clash.
-    pub clash: Clash,
 }
 
 /// Names in a `conflict` or a `prereq` of a module, of which none means a module of the site.
@@ -88,15 +80,13 @@ pub struct SiteAudit {
     /// What modules add to MODULEPATH that neither that at hand has nor a settled module adds, so that it hangs on modules
     /// that aren't settled: module by module, each directory of one once.
     pub hanging_directories: Vec<AddedDirectory>,
-    /// Of each module that asks, in their order, a clash of what its first evaluation leaves with a certified one, where
-    /// there is one.
-    pub asking_clashes: Vec<AskingClash>,
     /// The paths of the files in the places of modules that don't begin with the cookie, in the order of their bytes.
     pub no_modulefiles: Vec<String>,
     /// The paths of the default files that stand in a directory of the site itself, and so aren't read, in the order of the
     /// walk.
     pub unread_default_files: Vec<String>,
-    /// The paths of the default files that have a fault, so that a search for their folder is refused.
+    /// The paths of the default files that have a fault, so that a search for their folder is refused; or name no version
+    /// in it.
     pub bad_default_files: Vec<String>,
     /// Conflicts and prereqs that name no module of the site.
     pub unknown_names: Vec<UnknownNames>,
@@ -143,7 +133,6 @@ fn audit_walk<T: Tree>(
     let SiteStandings {
         modules,
         certificate,
-        asking_clashes,
     } = judge_modules(alloc, evaluations, without)?;
     let disagreements = disagreements(alloc, env, certificate.as_slice())?;
     Ok(SiteAudit {
@@ -151,7 +140,6 @@ fn audit_walk<T: Tree>(
         certificate,
         missing_directories,
         hanging_directories,
-        asking_clashes,
         no_modulefiles,
         unread_default_files,
         bad_default_files,

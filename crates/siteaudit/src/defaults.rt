@@ -1,4 +1,4 @@
-//! Folders of a site whose default files have a fault, so that a search for the folder is refused.
+//! Folders of a site whose default files have a fault, so that a search for the folder is refused, or name no version.
 ghost use Rattle.std.specs.Prelude.{◌≡◌, ◌↔◌, ◌⊎◌, ◌<◌, true, option_to_list, Some, map, IfOk, IfErr, OnOk};
 ghost use Rattle.std.specs.Prelude.{string_bytes};
 ghost use Rattle.std.specs.Option.{option_map};
@@ -15,6 +15,7 @@ ghost use Rattle.siteaudit.specs.Folders.{SearchLooksAt, ModuleLooksAt, Evaluate
 
 use crate::folders::{directory_of, folder_of};
 use crate::walk::Evaluation;
+use crate::without_version::default_file_without_version;
 use filetree::Tree;
 use indexmap::IndexSet;
 use lookup::EvaluatedDefaultFiles;
@@ -66,8 +67,8 @@ fn add_folder(folders: &mut IndexSet<Folder>, folder: Folder) -> Result<(), Allo
     Ok(())
 }
 
-/// The path of the default file of a folder that has a fault; `None` where the search for the folder isn't refused by
-/// one.
+/// The path of the bad default file of a folder: that by whose fault the search for the folder is refused, or the first
+/// of those that name no version in it.
 fn bad_default_file<T: Tree>(
     alloc: Global,
     tree: &mut T,
@@ -91,7 +92,13 @@ fn bad_default_file<T: Tree>(
         folder.dir.as_str(),
         folder.name.as_str(),
     ) {
-        Ok(_) => Ok(None),
+        Ok(_) => Ok(default_file_without_version(
+            alloc,
+            tree,
+            limits,
+            folder.dir.as_str(),
+            folder.name.as_str(),
+        )?),
         Err(fault) => match fault {
             FindFault::BadDefaultFile(path) => Ok(Some(path)),
             FindFault::OutOfMemory => Err(Refusal::Find(FindFault::OutOfMemory)),

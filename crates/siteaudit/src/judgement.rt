@@ -1,20 +1,19 @@
 //! All modules of a site together: each judged by itself, the answers about clashes, and the certificate.
-ghost use Rattle.std.specs.Prelude.{◌≡◌, ◌++◌, [], ◌∷◌, map, string_bytes, IfOk, OnOk};
+ghost use Rattle.std.specs.Prelude.{◌≡◌, ◌++◌, map, string_bytes, IfOk, OnOk};
 ghost use Rattle.std.specs.Vec.Iter.{into_iter_items};
 ghost use Rattle.modulefile.specs.RecordViews.{record_view};
 ghost use Rattle.modules.specs.MoveViews.{module_view};
 ghost use Rattle.sitelaws.specs.Sites.{with_records};
 ghost use Rattle.sitecertificate.specs.UseViews.{used_view};
 ghost use Rattle.siteaudit.specs.Audits as spec;
-ghost use Rattle.siteaudit.specs.Audits.{asking_view, clash_with, clashes_by};
 ghost use Rattle.siteaudit.specs.Findings as findings;
-ghost use Rattle.siteaudit.specs.Findings.{standing_of, steps_of, asking_of, AddsJudged, AreJudged, AreStandings};
-ghost use Rattle.siteaudit.specs.Findings.{answers_left};
-ghost use Rattle.siteaudit.specs.Findings.{first_read, later_reads, reads_along};
+ghost use Rattle.siteaudit.specs.Findings.{own_standing, steps_of, aside_of, AddsJudged, AreJudged, AreStandings};
+ghost use Rattle.siteaudit.specs.Findings.{answers_left, beside_left, further_with, IsModuleWith, AreModulesWith};
+ghost use Rattle.siteaudit.specs.Findings.{first_answer, later_answers, reads_along};
 
-use crate::auditing::{AskingClash, AuditedModule};
+use crate::auditing::AuditedModule;
 use crate::reads::used_in;
-use crate::standing::{ModuleFinding, Standing, judge};
+use crate::standing::{ModuleFinding, Standing, judge, push_standing};
 use crate::walk::Evaluation;
 use modulefile::Record;
 use modulename::means;
@@ -24,6 +23,17 @@ use sitereads::UsedRead;
 use std::alloc::{AllocError, Global};
 use std::vec::IntoIter;
 
+/// How a module stands by what it shows by itself.
+#[derive(Drop)]
+pub(crate) enum OwnStanding {
+    /// It stands so, and in no further way.
+    Decided(Standing),
+    /// It stands so, and in these further ways; and besides it may clash.
+    Besides(Standing, Vec<Standing>),
+    /// It is settled and in step and not withheld, so that the other modules decide.
+    Open,
+}
+
 /// A module that is judged by itself.
 #[derive(Drop)]
 pub(crate) struct JudgedModule {
@@ -31,8 +41,8 @@ pub(crate) struct JudgedModule {
     path: String,
     /// The variables that its evaluation reads, each once.
     reads: Vec<String>,
-    /// How it stands; `None` where it is settled and in step and not withheld, so that the other modules decide.
-    standing: Option<Standing>,
+    /// How it stands.
+    standing: OwnStanding,
 }
 
 /// The modules of a site, each judged by itself.
@@ -42,8 +52,8 @@ pub(crate) struct JudgedSite {
     pub(crate) judged: Vec<JudgedModule>,
     /// The settled ones in step whose reads none of them uses and that aren't withheld, in the same order.
     pub(crate) in_step: Vec<Module>,
-    /// Those that ask, with their first records, in the same order.
-    pub(crate) asking: Vec<Module>,
+    /// Those that stand by themselves and may clash besides, with their first records, in the same order.
+    pub(crate) aside: Vec<Module>,
 }
 
 /// The module with these records.
@@ -70,8 +80,8 @@ fn is_withheld(without: &[String], name: &str) -> bool
     without.iter().any(|given| means(given.as_str(), name))
 }
 
-/// Where other modules decide how a module stands, it joins those that are settled and in step, unless it is withheld;
-/// else this is how it stands. One that asks joins those that do.
+/// How a module stands by what it shows by itself. Where other modules decide it joins those that are settled and in
+/// step, unless it is withheld; where it may clash besides it joins those that stand by themselves.
 fn sort_out(
     alloc: Global,
     name: &str,
@@ -79,37 +89,37 @@ fn sort_out(
     finding: ModuleFinding,
     without: &[String],
     in_step: &mut Vec<Module>,
-    asking: &mut Vec<Module>,
-) -> Result<Option<Standing>, AllocError>
+    aside: &mut Vec<Module>,
+) -> Result<OwnStanding, AllocError>
     ensures standing { IfOk result (λ standing.
-        standing ≡ standing_of (spec.is_withheld (map string_bytes without.now) name.now) finding) }
+        standing ≡ own_standing (spec.is_withheld (map string_bytes without.now) name.now) finding) }
     ensures steps { OnOk result (map module_view in_step.new.items ≡ map module_view in_step.old.items
         ++ steps_of (map string_bytes without.now) (record { name = name.now; path = path.now }) finding) }
-    ensures asks { OnOk result (map module_view asking.new.items ≡ map module_view asking.old.items
-        ++ asking_of (record { name = name.now; path = path.now }) finding) }
+    ensures others { OnOk result (map module_view aside.new.items ≡ map module_view aside.old.items
+        ++ aside_of (record { name = name.now; path = path.now }) finding) }
 {
     match finding {
-        ModuleFinding::Stands(standing) => Ok(Some(standing)),
-        ModuleFinding::Asking(question, records) => {
-            asking.push(module_of(alloc, name, path, records)?)?;
-            Ok(Some(Standing::Asks(question)))
+        ModuleFinding::Refused(refusal) => Ok(OwnStanding::Decided(Standing::Refused(refusal))),
+        ModuleFinding::Stands(first, further, records) => {
+            aside.push(module_of(alloc, name, path, records)?)?;
+            Ok(OwnStanding::Besides(first, further))
         }
         ModuleFinding::InStep(records) => {
             if is_withheld(without, name) {
-                return Ok(Some(Standing::Withheld));
+                return Ok(OwnStanding::Decided(Standing::Withheld));
             }
             in_step.push(module_of(alloc, name, path, records)?)?;
-            Ok(None)
+            Ok(OwnStanding::Open)
         }
     }
 }
 
-/// The next of the answers about what modules read.
-fn next_read(used: &mut IntoIter<Option<UsedRead>>) -> Option<UsedRead>
-    ensures read { result ≡ first_read (into_iter_items used.old) }
-    ensures left { into_iter_items used.new ≡ later_reads (into_iter_items used.old) }
+/// The next of some answers; `None` where it is that or none is left.
+fn next_answer<T: Drop>(answers: &mut IntoIter<Option<T>>) -> Option<T>
+    ensures answer { result ≡ first_answer (into_iter_items answers.old) }
+    ensures left { into_iter_items answers.new ≡ later_answers (into_iter_items answers.old) }
 {
-    match used.next() {
+    match answers.next() {
         Some(answer) => answer,
         None => None,
     }
@@ -140,7 +150,7 @@ fn judge_next(
         finding,
         without,
         &mut judgement.in_step,
-        &mut judgement.asking,
+        &mut judgement.aside,
     )?;
     judgement.judged.push(JudgedModule {
         name,
@@ -161,16 +171,16 @@ pub(crate) fn judge_all(
 ) -> Result<JudgedSite, AllocError>
     ensures { IfOk result (λ judgement. AreJudged (map string_bytes without.now) evaluations.items
         (reads_along evaluations.items used.items) judgement.judged.items (map module_view judgement.in_step.items)
-        (map module_view judgement.asking.items)) }
+        (map module_view judgement.aside.items)) }
 {
     let mut used = used.into_iter();
     let mut judgement = JudgedSite {
         judged: Vec::new(alloc),
         in_step: Vec::new(alloc),
-        asking: Vec::new(alloc),
+        aside: Vec::new(alloc),
     };
     for evaluation in evaluations {
-        let read = next_read(&mut used);
+        let read = next_answer(&mut used);
         judge_next(alloc, evaluation, read, without, &mut judgement)?;
     }
     Ok(judgement)
@@ -178,7 +188,7 @@ pub(crate) fn judge_all(
 
 /// How a module stands by its answer: it clashes with another, or is certified.
 fn standing_by(answer: Option<Clash>) -> Standing
-    ensures { result ≡ findings.standing_by (answer ∷ []) }
+    ensures { result ≡ findings.standing_by answer }
 {
     match answer {
         Some(clash) => Standing::Clashes(clash),
@@ -186,90 +196,90 @@ fn standing_by(answer: Option<Clash>) -> Standing
     }
 }
 
-/// How a module stands by what it shows by itself, or else by the next answer.
-fn standing_with(standing: Option<Standing>, answers: &mut IntoIter<Option<Clash>>) -> Standing
-    ensures standing { result ≡ findings.standing_with standing (into_iter_items answers.old) }
-    ensures left { into_iter_items answers.new ≡ answers_left standing (into_iter_items answers.old) }
+/// How a module stands, and in which further ways.
+#[derive(Drop)]
+struct FullStanding {
+    standing: Standing,
+    further: Vec<Standing>,
+}
+
+/// How a module stands by what it shows by itself, or else by the next answer; and in which further ways, where it stands
+/// by itself also by the next of the answers beside.
+fn standing_with(
+    alloc: Global,
+    own: OwnStanding,
+    answers: &mut IntoIter<Option<Clash>>,
+    beside: &mut IntoIter<Option<Clash>>,
+) -> Result<FullStanding, AllocError>
+    ensures standing { IfOk result (λ found.
+        found.standing ≡ findings.standing_with own (into_iter_items answers.old)) }
+    ensures further { IfOk result (λ found. found.further.items ≡ further_with own (into_iter_items beside.old)) }
+    ensures left { OnOk result (into_iter_items answers.new ≡ answers_left own (into_iter_items answers.old)) }
+    ensures left_beside { OnOk result (into_iter_items beside.new ≡ beside_left own (into_iter_items beside.old)) }
 {
-    match standing {
-        Some(standing) => standing,
-        None => match answers.next() {
-            Some(answer) => standing_by(answer),
-            None => Standing::Certified,
-        },
+    match own {
+        OwnStanding::Decided(standing) => Ok(FullStanding {
+            standing,
+            further: Vec::new(alloc),
+        }),
+        OwnStanding::Besides(standing, own_further) => {
+            let mut further = own_further;
+            push_standing(&mut further, next_answer(beside).map(Standing::Clashes))?;
+            Ok(FullStanding { standing, further })
+        }
+        OwnStanding::Open => Ok(FullStanding {
+            standing: standing_by(next_answer(answers)),
+            further: Vec::new(alloc),
+        }),
     }
 }
 
-/// The module with its standing.
-fn module_with(judged: JudgedModule, answers: &mut IntoIter<Option<Clash>>) -> AuditedModule
-    ensures module { result ≡ findings.module_with judged (into_iter_items answers.old) }
-    ensures left { into_iter_items answers.new ≡ answers_left judged.standing (into_iter_items answers.old) }
+/// The module with its standing, and its further ones.
+fn module_with(
+    alloc: Global,
+    judged: JudgedModule,
+    answers: &mut IntoIter<Option<Clash>>,
+    beside: &mut IntoIter<Option<Clash>>,
+) -> Result<AuditedModule, AllocError>
+    ensures module { IfOk result (IsModuleWith judged (into_iter_items answers.old) (into_iter_items beside.old)) }
+    ensures left { OnOk result (into_iter_items answers.new
+        ≡ answers_left judged.standing (into_iter_items answers.old)) }
+    ensures left_beside { OnOk result (into_iter_items beside.new
+        ≡ beside_left judged.standing (into_iter_items beside.old)) }
 {
     let JudgedModule {
         name,
         path,
         reads,
-        standing,
+        standing: own,
     } = judged;
-    AuditedModule {
+    let FullStanding { standing, further } = standing_with(alloc, own, answers, beside)?;
+    Ok(AuditedModule {
         name,
         path,
         reads,
-        standing: standing_with(standing, answers),
-    }
+        standing,
+        further,
+    })
 }
 
-/// The modules with their standings: those for whom others decide have these answers, in their order.
+/// The modules with their standings: those for whom others decide have the answers, in their order, and those that stand
+/// by themselves the answers beside.
 pub(crate) fn modules_with(
     alloc: Global,
     judged: Vec<JudgedModule>,
     answers: Vec<Option<Clash>>,
+    beside: Vec<Option<Clash>>,
 ) -> Result<Vec<AuditedModule>, AllocError>
-    ensures { IfOk result (λ modules. modules.items ≡ findings.modules_with judged.items answers.items) }
+    ensures { IfOk result (λ modules. AreModulesWith judged.items answers.items beside.items modules.items) }
 {
     let mut modules = Vec::new(alloc);
     let mut answers = answers.into_iter();
+    let mut beside = beside.into_iter();
     for one in judged {
-        modules.push(module_with(one, &mut answers))?;
+        modules.push(module_with(alloc, one, &mut answers, &mut beside)?)?;
     }
     Ok(modules)
-}
-
-/// Adds the clash of a module that asks, if there is one.
-fn push_clash(
-    module: Module,
-    answer: Option<Clash>,
-    found: &mut Vec<AskingClash>,
-) -> Result<(), AllocError>
-    ensures { OnOk result (map asking_view found.new.items
-        ≡ map asking_view found.old.items ++ clash_with (module_view «module») answer) }
-{
-    let Some(clash) = answer else {
-        return Ok(());
-    };
-    let Module { name, path, .. } = module;
-    found.push(AskingClash { name, path, clash })?;
-    Ok(())
-}
-
-/// The clashes of the modules that ask, of which each has its answer, in their order.
-fn asking_clashes(
-    alloc: Global,
-    asking: Vec<Module>,
-    answers: Vec<Option<Clash>>,
-) -> Result<Vec<AskingClash>, AllocError>
-    ensures { IfOk result (λ found. map asking_view found.items
-        ≡ clashes_by (map module_view asking.items) answers.items) }
-{
-    let mut found = Vec::new(alloc);
-    let mut answers = answers.into_iter();
-    for module in asking {
-        let Some(answer) = answers.next() else {
-            return Ok(found);
-        };
-        push_clash(module, answer, &mut found)?;
-    }
-    Ok(found)
 }
 
 /// How the modules of a site stand, and what the certified ones use.
@@ -277,34 +287,31 @@ fn asking_clashes(
 pub(crate) struct SiteStandings {
     pub(crate) modules: Vec<AuditedModule>,
     pub(crate) certificate: Vec<UsedVariable>,
-    /// Of those that ask, a clash with a certified one.
-    pub(crate) asking_clashes: Vec<AskingClash>,
 }
 
 /// Judges the modules of a site: each by itself and by what it reads, and those that are settled and in step, but for
-/// those that these names mean, by their clashes.
+/// those that these names mean, by their clashes; those that stand by themselves by clashes with these as well.
 pub(crate) fn judge_modules(
     alloc: Global,
     evaluations: Vec<Evaluation>,
     without: &[String],
 ) -> Result<SiteStandings, AllocError>
     ensures { IfOk result (λ found. AreStandings (map string_bytes without.now) evaluations.items found.modules.items
-        (map used_view found.certificate.items) found.asking_clashes.items) }
+        (map used_view found.certificate.items)) }
 {
     let used = used_in(alloc, evaluations.as_slice())?;
     let JudgedSite {
         judged,
         in_step,
-        asking,
+        aside,
     } = judge_all(alloc, evaluations, used, without)?;
     let FoundClashes {
         answers,
         unclashed_uses,
         beside,
-    } = clashes(alloc, in_step.as_slice(), asking.as_slice())?;
+    } = clashes(alloc, in_step.as_slice(), aside.as_slice())?;
     Ok(SiteStandings {
-        modules: modules_with(alloc, judged, answers)?,
+        modules: modules_with(alloc, judged, answers, beside)?,
         certificate: unclashed_uses,
-        asking_clashes: asking_clashes(alloc, asking, beside)?,
     })
 }

@@ -23,8 +23,9 @@ mod settled_runs;
 mod standing;
 mod unread;
 mod walk;
+mod without_version;
 
-pub use auditing::{AddedDirectory, AskingClash, AuditedModule, SiteAudit, UnknownNames, audit};
+pub use auditing::{AddedDirectory, AuditedModule, SiteAudit, UnknownNames, audit};
 pub use fault::WalkFault;
 pub use progress::{SilentProgress, WalkProgress};
 pub use standing::Standing;

@@ -1,5 +1,6 @@
 //! How each module of a site stands: whether it is certified, and else why it is not.
-ghost use Rattle.std.specs.Prelude.{◌≡◌, true, false, not, [], ◌++◌, find, map, position, string_bytes, IfOk, MatchOption};
+ghost use Rattle.std.specs.Prelude.{◌≡◌, true, not, ◌++◌, cond, find, map, option_to_list, Some, None, string_bytes};
+ghost use Rattle.std.specs.Prelude.{IfOk, OnOk, MatchOption};
 ghost use Rattle.std.specs.Option.{option_map};
 ghost use Rattle.envvars.specs.Fields.{colon};
 ghost use Rattle.modulefile.specs.RecordViews.{record_view};
@@ -7,11 +8,12 @@ ghost use Rattle.reversal.specs.VariableUses as variable_uses;
 ghost use Rattle.sitecertificate.specs.RecordUses as uses;
 ghost use Rattle.sitecertificate.specs.RecordUses.{use_alike, are_in_step, modulepath};
 ghost use Rattle.sitecertificate.specs.UseViews.{use_view, used_view};
-ghost use Rattle.siteaudit.specs.Findings.{AreUnlike, IsUseFinding, IsSettledFinding, IsKeptFinding, IsFindingOf};
-ghost use Rattle.siteaudit.specs.Findings.{IsFinding};
+ghost use Rattle.siteaudit.specs.Audits as audits;
+ghost use Rattle.siteaudit.specs.Findings.{AreUnlike, AreStandingsOf, IsFindingBy, IsFindingOf, IsFinding};
 
 use crate::walk::EvaluatedFile;
-use modulefile::{Delimiter, Record};
+use message::texts::copies;
+use modulefile::{Delimiter, PathEdit, Record};
 use modulerun::Question;
 use modules::Refusal;
 use settled::can_return;
@@ -57,19 +59,52 @@ pub(crate) struct UnlikeUses {
 /// What a module shows by itself.
 #[derive(Drop)]
 pub(crate) enum ModuleFinding {
-    /// It stands so, whatever the other modules do.
-    Stands(Standing),
-    /// It asks this, the first question that doesn't keep its answer, and its first evaluation left these records.
-    Asking(Question, Vec<Record>),
+    /// Its evaluation is refused.
+    Refused(Refusal),
+    /// It stands so, and in these further ways, and its first evaluation left these records.
+    Stands(Standing, Vec<Standing>, Vec<Record>),
     /// It is settled and in step, with these records: the other modules decide.
     InStep(Vec<Record>),
 }
 
-/// The place of the first record after which the start can't be back.
-fn first_one_way(records: &[Record]) -> Option<usize>
-    ensures { result ≡ position (λ r. not (variable_uses.can_return (record_view r))) records.now }
+/// The first record after which the start can't be back.
+fn first_one_way(records: &[Record]) -> Option<&Record>
+    ensures { option_map (λ r. record_view r.now) result
+        ≡ find (λ r. not (variable_uses.can_return r)) (map record_view records.entry.now) }
 {
-    records.iter().position(|recorded| !can_return(recorded))
+    records.iter().find(|recorded| !can_return(recorded))
+}
+
+/// A copy of a record after which the start can't be back, which is a `remove-path`; `None` of another.
+fn copy_of_removal(alloc: Global, recorded: &Record) -> Result<Option<Record>, AllocError>
+    ensures { IfOk result (λ copy. option_map record_view copy
+        ≡ cond (variable_uses.can_return (record_view recorded.now)) None (Some (record_view recorded.now))) }
+{
+    match recorded {
+        Record::Path {
+            edit: PathEdit::Remove,
+            delim,
+            var,
+            elements,
+        } => Ok(Some(Record::Path {
+            edit: PathEdit::Remove,
+            delim: *delim,
+            var: String::from_str(alloc, var.as_str())?,
+            elements: copies(alloc, elements.as_slice())?,
+        })),
+        _ => Ok(None),
+    }
+}
+
+/// A copy of the first record after which the start can't be back.
+fn one_way_in(alloc: Global, records: &[Record]) -> Result<Option<Record>, AllocError>
+    ensures { IfOk result (λ found. option_map record_view found
+        ≡ find (λ r. not (variable_uses.can_return r)) (map record_view records.now)) }
+{
+    match first_one_way(records) {
+        Some(recorded) => copy_of_removal(alloc, recorded),
+        None => Ok(None),
+    }
 }
 
 /// MODULEPATH, as a path with colons.
@@ -139,56 +174,65 @@ fn unlike_in(alloc: Global, records: &[Record]) -> Result<Option<UnlikeUses>, Al
     unlike_uses(alloc, used.as_slice())
 }
 
-/// What a settled module shows by itself, whose reads no settled module uses.
-fn judge_candidate(alloc: Global, records: Vec<Record>) -> Result<ModuleFinding, AllocError>
-    ensures { IfOk result (IsUseFinding (map record_view records.items)) }
+/// Two uses of one variable that differ, as a standing.
+fn out_of_step(unlike: UnlikeUses) -> Standing
+    ensures { result ≡ audits.out_of_step unlike }
 {
-    match unlike_in(alloc, records.as_slice())? {
-        Some(unlike) => {
-            let UnlikeUses {
-                variable,
-                one,
-                other,
-            } = unlike;
-            Ok(ModuleFinding::Stands(Standing::OutOfStep {
-                variable,
-                one,
-                other,
-            }))
-        }
-        None => Ok(ModuleFinding::InStep(records)),
+    let UnlikeUses {
+        variable,
+        one,
+        other,
+    } = unlike;
+    Standing::OutOfStep {
+        variable,
+        one,
+        other,
     }
 }
 
-/// What a settled module shows by itself, of whose reads this one is used by a settled module.
-fn judge_settled(
-    alloc: Global,
-    records: Vec<Record>,
-    used: Option<UsedRead>,
-) -> Result<ModuleFinding, AllocError>
-    ensures { IfOk result (IsSettledFinding (map record_view records.items) used) }
+/// Adds a standing, if there is one.
+pub(crate) fn push_standing(
+    standings: &mut Vec<Standing>,
+    standing: Option<Standing>,
+) -> Result<(), AllocError>
+    ensures { OnOk result (standings.new.items ≡ standings.old.items ++ option_to_list standing) }
 {
-    match used {
-        Some(used) => Ok(ModuleFinding::Stands(Standing::ReadsUsed(used))),
-        None => judge_candidate(alloc, records),
+    if let Some(standing) = standing {
+        standings.push(standing)?;
     }
+    Ok(())
 }
 
-/// What a module shows by itself, whose questions keep their answers.
-fn judge_records(
+/// How a module with these records stands by itself, in each way in which it does, where it asks this and a settled
+/// module uses this of its reads.
+fn standings_of(
     alloc: Global,
-    records: Vec<Record>,
+    records: &[Record],
+    unkept: Option<Question>,
     used: Option<UsedRead>,
-) -> Result<ModuleFinding, AllocError>
-    ensures { IfOk result (IsKeptFinding (map record_view records.items) used) }
+) -> Result<Vec<Standing>, AllocError>
+    ensures { IfOk result (λ standings. AreStandingsOf unkept (map record_view records.now) used standings.items) }
 {
-    match first_one_way(records.as_slice()) {
-        Some(place) => {
-            let mut records = records;
-            Ok(ModuleFinding::Stands(Standing::OneWay(records.swap_remove(place))))
-        }
-        None => judge_settled(alloc, records, used),
+    let one_way = one_way_in(alloc, records)?;
+    let unlike = unlike_in(alloc, records)?;
+    let mut standings = Vec::new(alloc);
+    push_standing(&mut standings, unkept.map(Standing::Asks))?;
+    push_standing(&mut standings, one_way.map(Standing::OneWay))?;
+    push_standing(&mut standings, used.map(Standing::ReadsUsed))?;
+    push_standing(&mut standings, unlike.map(out_of_step))?;
+    Ok(standings)
+}
+
+/// What a module shows by itself that stands in these ways: it stands in the first, or it is in step if there is none.
+fn finding_by(standings: Vec<Standing>, records: Vec<Record>) -> ModuleFinding
+    ensures { IsFindingBy standings.items (map record_view records.items) result }
+{
+    if standings.is_empty() {
+        return ModuleFinding::InStep(records);
     }
+    let mut further = standings;
+    let first = further.remove(0);
+    ModuleFinding::Stands(first, further, records)
 }
 
 /// What a module shows by itself, whose evaluation is accepted.
@@ -200,10 +244,8 @@ fn judge_file(
     ensures { IfOk result (IsFindingOf file.unkept (map record_view file.records.items) used) }
 {
     let EvaluatedFile { records, unkept } = file;
-    match unkept {
-        Some(question) => Ok(ModuleFinding::Asking(question, records)),
-        None => judge_records(alloc, records, used),
-    }
+    let standings = standings_of(alloc, records.as_slice(), unkept, used)?;
+    Ok(finding_by(standings, records))
 }
 
 /// What a module shows by itself, by the outcome of its evaluations, and by what it reads that a settled module uses.
@@ -216,6 +258,6 @@ pub(crate) fn judge(
 {
     match outcome {
         Ok(file) => judge_file(alloc, file, used),
-        Err(refusal) => Ok(ModuleFinding::Stands(Standing::Refused(refusal))),
+        Err(refusal) => Ok(ModuleFinding::Refused(refusal)),
     }
 }

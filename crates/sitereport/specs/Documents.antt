@@ -19,7 +19,6 @@ use Rattle.sitecertificate.specs.declared.disagreement.Disagreement.TheVariants.
 use Rattle.sitecertificate.specs.declared.disagreement.Disagreement.TheVariants.{IsNotAbsent, PathNotInOrder}
 use Rattle.sitecertificate.specs.declared.disagreement.Disagreement.TheVariants.{StackNotInOrder}
 use Rattle.siteaudit.specs.declared.auditing.AddedDirectory.{AddedDirectory}
-use Rattle.siteaudit.specs.declared.auditing.AskingClash.{AskingClash}
 use Rattle.siteaudit.specs.declared.auditing.AuditedModule.{AuditedModule}
 use Rattle.siteaudit.specs.declared.auditing.UnknownNames.{UnknownNames}
 use Rattle.siteaudit.specs.declared.standing.Standing.{Standing}
@@ -155,12 +154,26 @@ standing_fields reads Withheld = []
 standing_fields reads (Clashes c) = clash_fields c
 standing_fields reads (Refused refusal) = (codes "refusal", string (message_of refusal)) ∷ []
 
--- a module, how it stands in one word, and why; and what happens here, where it is tried
+-- a further standing: how a module stands in one word, and why
+abbrev pub further_value : Standing → Json
+further_value further =
+    object_of ((codes "standing", string (standing_word further)) ∷ standing_fields [] further)
+
+-- such standings
+abbrev pub further_field : List Standing → Field
+further_field standings = (codes "further", array_of (map further_value standings))
+
+-- the member of them; none where there are none
+abbrev pub further_fields : List Standing → List Field
+further_fields [] = []
+further_fields (first ∷ others) = further_field (first ∷ others) ∷ []
+
+-- a module, how it stands in one word, and why; how it stands further, if it does; and what happens here, where it is tried
 abbrev pub module_fields : AuditedModule → Option Trial → List Field
 module_fields m trial =
     (codes "name", text_value m.name) ∷ (codes "path", text_value m.path)
     ∷ (codes "standing", string (standing_word m.standing)) ∷ standing_fields m.reads.items m.standing
-    ++ here_fields trial
+    ++ (further_fields m.further.items ++ here_fields trial)
 
 -- the same as an object
 abbrev pub module_value : TriedModule → Json
@@ -181,19 +194,6 @@ added_value added = object_of (added_fields added)
 -- such directories
 abbrev pub hanging_field : List AddedDirectory → Field
 hanging_field dirs = (codes "hanging_directories", array_of (map added_value dirs))
-
--- a module that asks, with its clash with a certified one
-abbrev pub asking_fields : AskingClash → List Field
-asking_fields asking =
-    (codes "name", text_value asking.name) ∷ (codes "path", text_value asking.path) ∷ clash_fields asking.clash
-
--- the same as an object
-abbrev pub asking_value : AskingClash → Json
-asking_value asking = object_of (asking_fields asking)
-
--- such modules
-abbrev pub asking_field : List AskingClash → Field
-asking_field clashes = (codes "asking_clashes", array_of (map asking_value clashes))
 
 -- a command whose names mean no module of the site
 abbrev pub unknown_fields : UnknownNames → List Field
@@ -288,7 +288,7 @@ document selection audit =
     let found = audit.found in
     object_of (modules_field selection found.modules.items audit.trials.items ∷ unreadable_field audit.unreadable.items
     ∷ count_fields (length audit.unreadable.items) found.modules.items ++ certificate_field found.certificate.items
-    ∷ paths_fields audit ++ hanging_field found.hanging_directories.items ∷ asking_field found.asking_clashes.items
+    ∷ paths_fields audit ++ hanging_field found.hanging_directories.items
     ∷ rest_fields found.unknown_names.items found.disagreements.items)
 
 -- its text, on a line of its own

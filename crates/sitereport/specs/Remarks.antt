@@ -12,10 +12,11 @@ use Rattle.sitecertificate.specs.declared.disagreement.Disagreement.TheVariants.
 use Rattle.sitecertificate.specs.declared.disagreement.Disagreement.TheVariants.{IsNotAbsent, PathNotInOrder}
 use Rattle.sitecertificate.specs.declared.disagreement.Disagreement.TheVariants.{StackNotInOrder}
 use Rattle.siteaudit.specs.declared.auditing.AddedDirectory.{AddedDirectory}
-use Rattle.siteaudit.specs.declared.auditing.AskingClash.{AskingClash}
+use Rattle.siteaudit.specs.declared.auditing.AuditedModule.{AuditedModule}
 use Rattle.siteaudit.specs.declared.auditing.UnknownNames.{UnknownNames}
+use Rattle.siteaudit.specs.declared.standing.Standing.{Standing}
 use Rattle.sitereport.specs.Readable.{is_unreadable}
-use Rattle.sitereport.specs.Words.{clash_words, spelled}
+use Rattle.sitereport.specs.Words.{reason_of, spelled, standing_word}
 
 -- the line of a directory that isn't there, by its path
 unfoldable pub missing : Text → Text
@@ -31,11 +32,16 @@ hanging_line added =
     codes "# " ++ (spelled (string_bytes added.name) ++ (codes " (" ++ (spelled (string_bytes added.path)
     ++ (codes "): isn't settled, and adds the directory " ++ (spelled (string_bytes added.directory) ++ codes "\n")))))
 
--- the line of a module that asks and clashes with a certified one
-unfoldable pub asking_line : AskingClash → Text
-asking_line asking =
-    codes "# " ++ (spelled (string_bytes asking.name) ++ (codes " (" ++ (spelled (string_bytes asking.path)
-    ++ (codes "): asks, and clashes: " ++ (spelled (clash_words asking.clash) ++ codes "\n")))))
+-- the line of a module with a further standing: how it stands, and how further, and why
+unfoldable pub further_line : AuditedModule → Standing → Text
+further_line m further =
+    codes "# " ++ (spelled (string_bytes m.name) ++ (codes " (" ++ (spelled (string_bytes m.path) ++ (codes "): "
+    ++ (standing_word m.standing ++ (codes ", and " ++ (standing_word further ++ (codes ": "
+    ++ (spelled (reason_of [] further) ++ codes "\n")))))))))
+
+-- a line for each of its further standings
+abbrev pub further_lines : AuditedModule → Text
+further_lines m = flat_map (further_line m) m.further.items
 
 -- the line of a file that is no modulefile, by its path
 unfoldable pub no_modulefile : Text → Text

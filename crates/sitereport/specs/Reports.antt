@@ -8,8 +8,8 @@ use Rattle.sitereport.specs.declared.selection.Selection.{Selection}
 use Rattle.sitereport.specs.Readable.{unreadable_line}
 use Rattle.sitereport.specs.Tried.{TriedModule, here, with_trials}
 use Rattle.sitereport.specs.Words.{spelled, standing_word, reason, is_named, certified_count, standing_count}
-use Rattle.sitereport.specs.Remarks.{missing_line, hanging_line, asking_line, no_modulefile_line, bad_file_line, conflict_lines}
-use Rattle.sitereport.specs.Remarks.{prereq_line, unread_file_line, environment_lines}
+use Rattle.sitereport.specs.Remarks.{missing_line, hanging_line, further_lines, no_modulefile_line, bad_file_line}
+use Rattle.sitereport.specs.Remarks.{conflict_lines, prereq_line, unread_file_line, environment_lines}
 use Rattle.trials.specs.declared.trial.Trial.{Trial}
 
 -- the line of a module: its name, its standing in one word, the reason and its path, parted by tabs, and what happens here
@@ -66,7 +66,7 @@ report_of selection audit =
     let found = audit.found in
     lines_of selection audit ++ (counts_of audit
     ++ (flat_map (missing_line audit.unreadable.items) found.missing_directories.items
-    ++ (flat_map hanging_line found.hanging_directories.items ++ (flat_map asking_line found.asking_clashes.items
+    ++ (flat_map hanging_line found.hanging_directories.items ++ (flat_map further_lines found.modules.items
     ++ (flat_map no_modulefile_line found.no_modulefiles.items
     ++ (flat_map unread_file_line found.unread_default_files.items
     ++ (flat_map bad_file_line found.bad_default_files.items

@@ -14,7 +14,7 @@ use crate::tokens::{write_all_used, write_path_fields, write_text, write_text_ar
 use crate::tried::{first_trial, later_trials, write_here};
 use crate::words::{question_words, record_words, standing_word};
 use json::Writer;
-use siteaudit::{AddedDirectory, AskingClash, AuditedModule, Standing, UnknownNames};
+use siteaudit::{AddedDirectory, AuditedModule, Standing, UnknownNames};
 use sitecertificate::{Clash, Disagreement, UsedVariable, VariableUse};
 use std::alloc::{AllocError, Global};
 use trials::Trial;
@@ -79,17 +79,18 @@ fn write_clash(alloc: Global, writer: &mut Writer, clash: &Clash) -> Result<(), 
     write_alike(writer, clash)
 }
 
-/// Writes why a module stands so, as members.
+/// Writes why a module that reads these variables stands so, as members.
 fn write_standing(
     alloc: Global,
     writer: &mut Writer,
-    module: &AuditedModule,
+    reads: &[String],
+    standing: &Standing,
 ) -> Result<(), AllocError>
     ensures { OnOk result (AddsTokens writer.old writer.new
-        (fields_tokens (spec.standing_fields «module».now.reads.items «module».now.standing))) }
+        (fields_tokens (spec.standing_fields reads.now standing.now))) }
 {
-    match &module.standing {
-        Standing::Certified => write_reads(writer, module.reads.as_slice()),
+    match standing {
+        Standing::Certified => write_reads(writer, reads),
         Standing::Asks(first) => {
             let words = question_words(alloc, first)?;
             write_text(writer, "question", words.as_str())
@@ -116,6 +117,63 @@ fn write_standing(
     }
 }
 
+/// Writes a further standing of a module as an object.
+fn write_further_standing(
+    alloc: Global,
+    writer: &mut Writer,
+    further: &Standing,
+) -> Result<(), AllocError>
+    ensures { OnOk result (AddsTokens writer.old writer.new (json_tokens (spec.further_value further.now))) }
+{
+    writer.begin_object()?;
+    write_text(writer, "standing", standing_word(further))?;
+    write_standing(alloc, writer, &[], further)?;
+    writer.end_object()
+}
+
+/// Writes such standings, one after another.
+fn write_all_further(
+    alloc: Global,
+    writer: &mut Writer,
+    standings: &[Standing],
+) -> Result<(), AllocError>
+    ensures { OnOk result (AddsTokens writer.old writer.new
+        (flat_map (λ s. json_tokens (spec.further_value s)) standings.now)) }
+{
+    for further in standings {
+        write_further_standing(alloc, writer, further)?;
+    }
+    Ok(())
+}
+
+/// Writes the array of such standings as a member.
+fn write_further_array(
+    alloc: Global,
+    writer: &mut Writer,
+    standings: &[Standing],
+) -> Result<(), AllocError>
+    ensures { OnOk result (AddsTokens writer.old writer.new (field_tokens (spec.further_field standings.now))) }
+{
+    writer.key("further")?;
+    writer.begin_array()?;
+    write_all_further(alloc, writer, standings)?;
+    writer.end_array()
+}
+
+/// Writes the further standings of a module as a member; nothing where it has none.
+fn write_further(
+    alloc: Global,
+    writer: &mut Writer,
+    standings: &[Standing],
+) -> Result<(), AllocError>
+    ensures { OnOk result (AddsTokens writer.old writer.new (fields_tokens (spec.further_fields standings.now))) }
+{
+    match standings {
+        [] => Ok(()),
+        [_, ..] => write_further_array(alloc, writer, standings),
+    }
+}
+
 /// Writes a module as an object.
 fn write_module(
     alloc: Global,
@@ -130,7 +188,8 @@ fn write_module(
     write_text(writer, "name", module.name.as_str())?;
     write_text(writer, "path", module.path.as_str())?;
     write_text(writer, "standing", standing_word(&module.standing))?;
-    write_standing(alloc, writer, module)?;
+    write_standing(alloc, writer, module.reads.as_slice(), &module.standing)?;
+    write_further(alloc, writer, module.further.as_slice())?;
     write_here(alloc, writer, trial)?;
     writer.end_object()
 }
@@ -200,46 +259,6 @@ fn write_hanging(writer: &mut Writer, dirs: &[AddedDirectory]) -> Result<(), All
     writer.key("hanging_directories")?;
     writer.begin_array()?;
     write_all_added(writer, dirs)?;
-    writer.end_array()
-}
-
-/// Writes a module that asks, with its clash with a certified one, as an object.
-fn write_asking(alloc: Global, writer: &mut Writer, asking: &AskingClash) -> Result<(), AllocError>
-    ensures { OnOk result (AddsTokens writer.old writer.new (json_tokens (spec.asking_value asking.now))) }
-{
-    writer.begin_object()?;
-    write_text(writer, "name", asking.name.as_str())?;
-    write_text(writer, "path", asking.path.as_str())?;
-    write_clash(alloc, writer, &asking.clash)?;
-    writer.end_object()
-}
-
-/// Writes such modules, one after another.
-fn write_all_asking(
-    alloc: Global,
-    writer: &mut Writer,
-    clashes: &[AskingClash],
-) -> Result<(), AllocError>
-    ensures { OnOk result (AddsTokens writer.old writer.new
-        (flat_map (λ asking. json_tokens (spec.asking_value asking)) clashes.now)) }
-{
-    for asking in clashes {
-        write_asking(alloc, writer, asking)?;
-    }
-    Ok(())
-}
-
-/// Writes such modules as a member.
-fn write_asking_clashes(
-    alloc: Global,
-    writer: &mut Writer,
-    clashes: &[AskingClash],
-) -> Result<(), AllocError>
-    ensures { OnOk result (AddsTokens writer.old writer.new (field_tokens (spec.asking_field clashes.now))) }
-{
-    writer.key("asking_clashes")?;
-    writer.begin_array()?;
-    write_all_asking(alloc, writer, clashes)?;
     writer.end_array()
 }
 
@@ -486,7 +505,6 @@ fn write_document(
     write_certificate(alloc, writer, found.certificate.as_slice())?;
     write_paths(writer, audit)?;
     write_hanging(writer, found.hanging_directories.as_slice())?;
-    write_asking_clashes(alloc, writer, found.asking_clashes.as_slice())?;
     write_rest(
         alloc,
         writer,

@@ -1,13 +1,13 @@
-//! The remarks after the lines of the modules: on directories, on files, on default files, on names, on the environment at hand.
+//! The remarks after the lines of the modules: on directories, further standings, files, names, the environment at hand.
 ghost use Rattle.std.specs.Prelude.{◌≡◌, ◌++◌, OnOk, IfOk, map, string_bytes, flat_map};
 ghost use Rattle.sitereport.specs.Remarks as spec;
 
 use crate::fields::{push_field, push_text};
 use crate::readable::is_unreadable;
-use crate::words::clash_words;
+use crate::words::{reason_of, standing_word};
 use envvars::fields::{deduplicated, slices};
 use modulefile::Delimiter;
-use siteaudit::{AddedDirectory, AskingClash, UnknownNames};
+use siteaudit::{AddedDirectory, AuditedModule, Standing, UnknownNames};
 use sitecertificate::Disagreement;
 use std::alloc::{AllocError, Global};
 
@@ -75,36 +75,55 @@ fn push_hanging_directory(report: &mut Vec<u8>, added: &AddedDirectory) -> Resul
     push_text(report, "\n")
 }
 
-/// Adds a line for each module that asks and clashes with a certified one.
-pub(crate) fn push_asking_clashes(
+/// Adds the line of a further standing of a module.
+fn push_further_standing(
     alloc: Global,
     report: &mut Vec<u8>,
-    clashes: &[AskingClash],
+    module: &AuditedModule,
+    further: &Standing,
 ) -> Result<(), AllocError>
-    ensures { OnOk result (report.new.items ≡ report.old.items ++ flat_map spec.asking_line clashes.now) }
+    ensures { OnOk result (report.new.items ≡ report.old.items ++ spec.further_line «module».now further.now) }
 {
-    for asking in clashes {
-        push_asking_clash(alloc, report, asking)?;
+    let why = reason_of(alloc, &[], further)?;
+    push_text(report, "# ")?;
+    push_field(report, module.name.as_str())?;
+    push_text(report, " (")?;
+    push_field(report, module.path.as_str())?;
+    push_text(report, "): ")?;
+    push_text(report, standing_word(&module.standing))?;
+    push_text(report, ", and ")?;
+    push_text(report, standing_word(further))?;
+    push_text(report, ": ")?;
+    push_field(report, why.as_str())?;
+    push_text(report, "\n")
+}
+
+/// Adds a line for each further standing of a module.
+fn push_further(
+    alloc: Global,
+    report: &mut Vec<u8>,
+    module: &AuditedModule,
+) -> Result<(), AllocError>
+    ensures { OnOk result (report.new.items ≡ report.old.items ++ spec.further_lines «module».now) }
+{
+    for further in module.further.as_slice() {
+        push_further_standing(alloc, report, module, further)?;
     }
     Ok(())
 }
 
-/// Adds the line of a module that asks and clashes with a certified one.
-fn push_asking_clash(
+/// Adds a line for each further standing of each of the modules.
+pub(crate) fn push_all_further(
     alloc: Global,
     report: &mut Vec<u8>,
-    asking: &AskingClash,
+    modules: &[AuditedModule],
 ) -> Result<(), AllocError>
-    ensures { OnOk result (report.new.items ≡ report.old.items ++ spec.asking_line asking.now) }
+    ensures { OnOk result (report.new.items ≡ report.old.items ++ flat_map spec.further_lines modules.now) }
 {
-    let words = clash_words(alloc, &asking.clash)?;
-    push_text(report, "# ")?;
-    push_field(report, asking.name.as_str())?;
-    push_text(report, " (")?;
-    push_field(report, asking.path.as_str())?;
-    push_text(report, "): asks, and clashes: ")?;
-    push_field(report, words.as_str())?;
-    push_text(report, "\n")
+    for module in modules {
+        push_further(alloc, report, module)?;
+    }
+    Ok(())
 }
 
 /// Adds a line for each file that is no modulefile.

@@ -6,8 +6,8 @@ use crate::conflicts::push_conflicts;
 use crate::fields::{push_field, push_text};
 use crate::readable::{ReadableAudit, push_unreadable};
 use crate::remarks::{
-    push_asking_clashes, push_bad_files, push_disagreements, push_hanging_directories,
-    push_missing, push_no_modulefiles, push_prereqs, push_unread_files,
+    push_all_further, push_bad_files, push_disagreements, push_hanging_directories, push_missing,
+    push_no_modulefiles, push_prereqs, push_unread_files,
 };
 use crate::selection::{Selection, certified_count, standing_count};
 use crate::tried::{first_trial, later_trials, push_here};
@@ -187,7 +187,7 @@ pub fn line_report(
         found.missing_directories.as_slice(),
     )?;
     push_hanging_directories(&mut report, found.hanging_directories.as_slice())?;
-    push_asking_clashes(alloc, &mut report, found.asking_clashes.as_slice())?;
+    push_all_further(alloc, &mut report, found.modules.as_slice())?;
     push_no_modulefiles(&mut report, found.no_modulefiles.as_slice())?;
     push_unread_files(&mut report, found.unread_default_files.as_slice())?;
     push_bad_files(&mut report, found.bad_default_files.as_slice())?;

@@ -69,7 +69,7 @@ fn two_uses(
 }
 
 /// The variable of a clash, the module's own use of it, the other's, the other, and how many use it as that does.
-pub(crate) fn clash_words(alloc: Global, clash: &Clash) -> Result<String, AllocError>
+fn clash_words(alloc: Global, clash: &Clash) -> Result<String, AllocError>
     ensures { IfOk result (λ words. string_bytes words ≡ spec.clash_words clash.now) }
 {
     let variable = &clash.variable;
@@ -149,12 +149,16 @@ fn reads_words(alloc: Global, reads: &[String]) -> Result<String, AllocError>
     }
 }
 
-/// Why a module stands so. For a certified one it is what it reads.
-pub(crate) fn reason(alloc: Global, module: &AuditedModule) -> Result<String, AllocError>
-    ensures { IfOk result (λ words. string_bytes words ≡ spec.reason «module».now) }
+/// Why a module that reads these variables stands so. For a certified one it is what it reads.
+pub(crate) fn reason_of(
+    alloc: Global,
+    reads: &[String],
+    standing: &Standing,
+) -> Result<String, AllocError>
+    ensures { IfOk result (λ words. string_bytes words ≡ spec.reason_of reads.now standing.now) }
 {
-    match &module.standing {
-        Standing::Certified => reads_words(alloc, module.reads.as_slice()),
+    match standing {
+        Standing::Certified => reads_words(alloc, reads),
         Standing::Asks(first) => question_words(alloc, first),
         Standing::OneWay(recorded) => record_words(alloc, recorded),
         Standing::ReadsUsed(used) => used_read_words(alloc, used),
@@ -167,4 +171,11 @@ pub(crate) fn reason(alloc: Global, module: &AuditedModule) -> Result<String, Al
         Standing::Clashes(clash) => clash_words(alloc, clash),
         Standing::Refused(refusal) => format!(in alloc; "{refusal}"),
     }
+}
+
+/// Why a module stands so.
+pub(crate) fn reason(alloc: Global, module: &AuditedModule) -> Result<String, AllocError>
+    ensures { IfOk result (λ words. string_bytes words ≡ spec.reason «module».now) }
+{
+    reason_of(alloc, module.reads.as_slice(), &module.standing)
 }

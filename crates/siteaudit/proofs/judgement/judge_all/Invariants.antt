@@ -11,4 +11,4 @@ abbrev pub invariant-loop-evaluation : goal.invariant-loop-evaluation
 invariant-loop-evaluation l =
     (done : List Evaluation) × (read : List (Option UsedRead)) × (done ++ into_iter_items l.evaluation-iterator ≡ l.fn.evaluations.items)
     × (read ++ reads_along (into_iter_items l.evaluation-iterator) (into_iter_items l.used) ≡ reads_along l.fn.evaluations.items l.fn.used.items)
-    × AreJudged (map string_bytes l.without) done read l.judgement.judged.items (map module_view l.judgement.in_step.items) (map module_view l.judgement.asking.items)
+    × AreJudged (map string_bytes l.without) done read l.judgement.judged.items (map module_view l.judgement.in_step.items) (map module_view l.judgement.aside.items)

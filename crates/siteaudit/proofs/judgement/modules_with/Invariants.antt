@@ -1,7 +1,11 @@
-use Rattle.std.proofs.Common.{◌≡◌, ◌++◌}
+use Rattle.std.proofs.Common.{◌++◌, List}
 use Rattle.std.specs.Vec.Iter.{into_iter_items}
-use Rattle.siteaudit.specs.Findings.{modules_with}
+use Rattle.siteaudit.specs.declared.auditing.AuditedModule.{AuditedModule}
+use Rattle.siteaudit.specs.Findings.{AreModulesWith}
 use Rattle.siteaudit.proofs.judgement.modules_with.Given as goal
 
+-- with the modules of the rest these are all
 abbrev pub invariant-loop-one : goal.invariant-loop-one
-invariant-loop-one l = l.modules.items ++ modules_with (into_iter_items l.one-iterator) (into_iter_items l.answers) ≡ modules_with l.fn.judged.items l.fn.answers.items
+invariant-loop-one l =
+    (more : List AuditedModule) → AreModulesWith (into_iter_items l.one-iterator) (into_iter_items l.answers) (into_iter_items l.beside) more
+    → AreModulesWith l.fn.judged.items l.fn.answers.items l.fn.beside.items (l.modules.items ++ more)

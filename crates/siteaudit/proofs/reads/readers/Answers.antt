@@ -2,7 +2,7 @@ use Rattle.std.proofs.Common.{map, ap, ◌∙◌, List}
 use Rattle.std.proofs.lemmas.List.{take_all}
 use Rattle.sitereads.specs.Answers.{module_of, reads_of}
 use Rattle.sitereads.specs.declared.readers.Reader.{Reader}
-use Rattle.siteaudit.specs.SettledRuns.{settled_module, settled_reads}
+use Rattle.siteaudit.specs.SettledRuns.{read_by, settled_module}
 use Rattle.siteaudit.proofs.UsedReads.{map_turn}
 use Rattle.siteaudit.proofs.reads.readers.Goals as goal
 
@@ -15,7 +15,7 @@ loop-evaluation-preserved c =
     let one = c.in_ok-reader_of.ensures in (
       ap (λ (rs : List Reader). map module_of rs) more ∙ map_turn module_of settled_module c.loop-evaluation.readers.items es i e _ c.loop-evaluation-test.true c.evaluation-item.is c.loop-evaluation.invariant.0 one.of_module,
       ap (λ (rs : List Reader). map reads_of rs) more
-          ∙ map_turn reads_of settled_reads c.loop-evaluation.readers.items es i e _ c.loop-evaluation-test.true c.evaluation-item.is c.loop-evaluation.invariant.1 one.reads,
+          ∙ map_turn reads_of read_by c.loop-evaluation.readers.items es i e _ c.loop-evaluation-test.true c.evaluation-item.is c.loop-evaluation.invariant.1 one.reads,
     )
 
 pub returns-clause-modules : goal.returns-clause-modules
@@ -25,4 +25,4 @@ returns-clause-modules c =
 pub returns-clause-reads : goal.returns-clause-reads
 returns-clause-reads c =
     c.loop-evaluation.invariant.1
-    ∙ ap (map settled_reads) (take_all c.loop-evaluation.evaluation-index c.args.evaluations.now c.loop-evaluation-test.false)
+    ∙ ap (map read_by) (take_all c.loop-evaluation.evaluation-index c.args.evaluations.now c.loop-evaluation-test.false)

@@ -19,8 +19,8 @@ returns c =
     (subst (λ (unreadable : List (String Global)). Missing unreadable audit.found.missing_directories.items) c.as_slice-unreadable.ensures.value
     (subst (λ (dirs : List (String Global)). Missing c.as_slice-unreadable.result.now dirs) c.as_slice.ensures.value c.in_ok-push_missing.ensures))
     (more done c.push_missing.new.report.items c.push_hanging_directories.new.report.items end _ _ (rw c.as_slice-2.ensures.value at c.in_ok-push_hanging_directories.ensures)
-    (more done c.push_hanging_directories.new.report.items c.push_asking_clashes.new.report.items end _ _ (rw c.as_slice-3.ensures.value at c.in_ok-push_asking_clashes.ensures)
-    (more done c.push_asking_clashes.new.report.items c.push_no_modulefiles.new.report.items end _ _ (rw c.as_slice-4.ensures.value at c.in_ok-push_no_modulefiles.ensures)
+    (more done c.push_hanging_directories.new.report.items c.push_all_further.new.report.items end _ _ (rw c.as_slice-3.ensures.value at c.in_ok-push_all_further.ensures)
+    (more done c.push_all_further.new.report.items c.push_no_modulefiles.new.report.items end _ _ (rw c.as_slice-4.ensures.value at c.in_ok-push_no_modulefiles.ensures)
     (more done c.push_no_modulefiles.new.report.items c.push_unread_files.new.report.items end _ _ (rw c.as_slice-5.ensures.value at c.in_ok-push_unread_files.ensures)
     (more done c.push_unread_files.new.report.items c.push_bad_files.new.report.items end _ _ (rw c.as_slice-6.ensures.value at c.in_ok-push_bad_files.ensures)
     (more done c.push_bad_files.new.report.items c.push_conflicts.new.report.items end _ _ (rw c.as_slice-7.ensures.value at c.in_ok-push_conflicts.ensures)
