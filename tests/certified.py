@@ -322,19 +322,19 @@ def uses_in(values):
 
 
 def standing_in(value):
-    """A module of the document: its place and its standing, with what a certified one reads, or which of the variables
-    that it reads another module uses."""
-    stands, other = value["standing"], value.get("other", {})
-    used = (value["variable"], other["name"], other["path"]) if stands == "reads-used" else None
-    return value["name"], value["path"], stands, value.get("reads", []), used
+    """A module of the document: its place, its standing and its further ones, with what a certified one reads, and which
+    of the variables that it reads another module uses."""
+    stands = [value, *value.get("further", [])]
+    used = [(one["variable"], one["other"]["name"], one["other"]["path"]) for one in stands if one["standing"] == "reads-used"]
+    return value["name"], value["path"], [one["standing"] for one in stands], value.get("reads", []), used
 
 
 def standing_by(module, modules):
     """The same by the model, which has the modules in the order of the document."""
-    stands = standings.standing_of(module, modules)
-    used = standings.used_read(module, modules) if stands == "reads-used" else None
-    reads = list(module.reads) if stands == "certified" else []
-    return module.name, module.path, stands, reads, used and (used[0], used[1].name, used[1].path)
+    stands = [standings.standing_of(module, modules), *standings.further_of(module, modules)]
+    used = [standings.used_read(module, modules)] if "reads-used" in stands else []
+    reads = list(module.reads) if stands == ["certified"] else []
+    return module.name, module.path, stands, reads, [(name, other.name, other.path) for name, other in used]
 
 
 def in_order_of(found, modules):

@@ -89,8 +89,9 @@ class Site:
         return json.loads(done.stdout)
 
 
-# The remark on a directory that a module adds which isn't settled.
+# The remark on a directory that a module adds which isn't settled, and that on a further standing of a module.
 HANGS = "# a/1 (/m/a/1): isn't settled, and adds the directory {}"
+FURTHER = "# {0} (/m/{0}): {1}, and {2}"
 
 # Standings, by hand: modulefiles; of each module in turn its name, its standing and the reason; and remarks.
 
@@ -143,7 +144,11 @@ ROWS = {
         [("a/1", "asks", "is-loaded b"), ("c/1", "certified", "")],
     ),
     "a question to the typed name": ({"/m/a/1": "module-info specified\n"}, [("a/1", "asks", "module-info specified")]),
-    "a question and a one-way record": ({"/m/a/1": "remove-path V x\nis-loaded\n"}, [("a/1", "asks", "is-loaded")]),
+    "a question and a one-way record": (
+        {"/m/a/1": "remove-path V x\nis-loaded\n"},
+        [("a/1", "asks", "is-loaded")],
+        [FURTHER.format("a/1", "asks", "one-way: remove-path V x")],
+    ),
     "a variable that the file sets before": ({"/m/a/1": "setenv V x\ngetenv V\n"}, [("a/1", "asks", "getenv V")]),
     "a variable that the file sets then": (
         {"/m/a/1": "getenv W\ngetenv V z\nsetenv V x\n"},
@@ -164,6 +169,7 @@ ROWS = {
     "a variable that is read, and named by what an unload does nothing for": (
         {"/m/a/1": "getenv V\nremove-path V /b\n", "/m/b/1": "getenv W\nunsetenv W\n"},
         [("a/1", "asks", "getenv V"), ("b/1", "asks", "getenv W")],
+        [FURTHER.format("a/1", "asks", "one-way: remove-path V /b")],
     ),
     "variables that shells change": (
         {"/m/a/1": "getenv HOME\ngetenv PWD\n", "/m/b/1": "info exists env(SHLVL)\n", "/m/c/1": "getenv SHLVL2\n"},
@@ -322,6 +328,7 @@ ROWS = {
     "a question to the mode and a one-way record": (
         {"/m/a/1": "module-info mode\nremove-path V x\n"},
         [("a/1", "asks", "module-info mode")],
+        [FURTHER.format("a/1", "asks", "one-way: remove-path V x")],
     ),
     "a variable that csh sets, where it is read": (
         {"/m/a/1": "setenv V x\nif {[module-info shelltype csh]} {getenv V}\n"},
@@ -441,6 +448,7 @@ ROWS = {
             ("b/1", "certified", ""),
             ("c/1", "certified", ""),
         ],
+        [FURTHER.format("a/1", "reads-used", "clashes: W: set here, set in c/1 (/m/c/1); used so by 1")],
     ),
     "a variable that is read, and two uses": (
         {"/m/a/1": "getenv W\nsetenv V x\npushenv V y\n", "/m/b/1": "getenv X\nunsetenv X2 x\n"},
@@ -501,6 +509,7 @@ ROWS = {
     "a module out of step keeps no other from being certified": (
         {"/m/a/1": "setenv V x\npushenv V y\n", "/m/b/1": "setenv V z\n"},
         [("a/1", "out-of-step", "V: set, and stack"), ("b/1", "certified", "")],
+        [FURTHER.format("a/1", "out-of-step", "clashes: V: set here, set in b/1 (/m/b/1); used so by 1")],
     ),
     # Clashes: one clause decides in each of these, and in what stands beside it.
     "two delimiters": (
@@ -940,8 +949,70 @@ def test_remarks_on_directories_behind_modules_that_are_not_settled(folder):
     same(site.document()["hanging_directories"], wanted, "the document")
 
 
-def test_remarks_on_modules_that_ask_beside_certified_ones(folder):
-    """Those that ask and clash with a certified one by what their first evaluation leaves; their own conflicts exclude."""
+# What speaks against a module one after the other: its modulefile, how it stands, and how further, where `z/1` is certified
+# and uses R and C. The last has all of them.
+READS_R = "reads-used: R: read here, used in z/1 (/m/z/1)"
+SETS_C = "clashes: C: set here, set in z/1 (/m/z/1); used so by 1"
+TWO_OF_D = "out-of-step: D: set, and stack"
+FURTHER_ROWS = {
+    "a/1": ("is-loaded\nremove-path P x\nremove-path Q x\n", "asks: is-loaded", ["one-way: remove-path P x"]),
+    "a/2": ("is-loaded\ngetenv Q\ngetenv R\ngetenv C\n", "asks: is-loaded", [READS_R]),
+    "a/3": ("is-loaded\nif {[module-info mode unload]} {getenv R}\n", "asks: is-loaded", [READS_R]),
+    "a/4": ("is-loaded\nsetenv D x\npushenv D y\n", "asks: is-loaded", [TWO_OF_D]),
+    "a/5": ("is-loaded\nsetenv C y\n", "asks: is-loaded", [SETS_C]),
+    "a/6": ("is-loaded\nconflict z\nsetenv C y\n", "asks: is-loaded", []),
+    "a/7": ("is-loaded\nif {[module-info mode unload]} {remove-path P x} else {append-path P x}\n", "asks: is-loaded", []),
+    "b/1": ("getenv R\nremove-path P x\n", "one-way: remove-path P x", [READS_R]),
+    "b/2": ("setenv D x\nremove-path P x\npushenv D y\n", "one-way: remove-path P x", [TWO_OF_D]),
+    "b/3": ("remove-path P x\nsetenv C y\n", "one-way: remove-path P x", [SETS_C]),
+    "b/4": ("remove-path C x\nremove-path P x\n", "one-way: remove-path C x", []),
+    "c/1": ("getenv R\nsetenv D x\npushenv D y\n", READS_R, [TWO_OF_D]),
+    "c/2": ("getenv R\nsetenv C y\n", READS_R, [SETS_C]),
+    "d/1": ("setenv C y\npushenv C z\n", "out-of-step: C: set, and stack", [SETS_C]),
+    "d/2": ("setenv D x\npushenv D y\npushenv C y\n", TWO_OF_D, [SETS_C.replace("set here", "stack here")]),
+    "e/1": (
+        "pushenv D y\nremove-path P x\nsetenv C y\ngetenv R\nsetenv D x\nis-loaded\n",
+        "asks: is-loaded",
+        ["one-way: remove-path P x", READS_R, "out-of-step: D: stack, and set", SETS_C],
+    ),
+}
+
+
+def test_remarks_on_further_standings(folder):
+    """In the order of the modules, and of each in that of the standings. What is withheld or refused has none."""
+    files = {f"/m/{name}": text for name, (text, *_) in FURTHER_ROWS.items()}
+    files.update({"/m/f/1": "nope\n", "/m/y/1": "setenv C y\n", "/m/z/1": "setenv R x\nsetenv C x\n"})
+    site = Site(folder, files)
+    rows = [(name, *stands.split(": ", 1)) for name, (_, stands, _) in FURTHER_ROWS.items()]
+    rows += [("f/1", "refused", 'invalid command name "nope" (line 2)'), ("y/1", "withheld", "--without"), ("z/1", "certified", "")]
+    each = [(name, stands.split(":")[0], further) for name, (_, stands, further) in FURTHER_ROWS.items()]
+    remarks = [FURTHER.format(name, word, one) for name, word, further in each for one in further]
+    site.says(lines_of(files, rows, remarks), "--without", "y")
+    quiet = [line for line in lines_of(files, rows, remarks) if "\tcertified\t" not in line]
+    site.says(quiet, "--without", "y", "--quiet")
+
+
+def test_further_standings_in_the_document(folder):
+    """Each has the members of a standing; a module without one has no such member."""
+    files = {f"/m/{name}": text for name, (text, *_) in FURTHER_ROWS.items()}
+    files["/m/z/1"] = "setenv R x\nsetenv C x\n"
+    document = Site(folder, files).document()
+    found = {module["name"]: [one["standing"] for one in module.get("further", [])] for module in document["modules"]}
+    words = {name: [one.split(":")[0] for one in further] for name, (_, _, further) in FURTHER_ROWS.items()}
+    same(found, {**words, "z/1": []}, "the words")
+    true(all("further" in module or not words.get(module["name"]) for module in document["modules"]), "no empty member")
+    other = {"name": "z/1", "path": os.fsdecode(real(folder, "/m/z/1"))}
+    wanted = [
+        {"standing": "one-way", "record": "remove-path P x"},
+        {"standing": "reads-used", "variable": "R", "other": other},
+        {"standing": "out-of-step", "variable": "D", "uses": [{"use": "stack"}, {"use": "set"}]},
+        {"standing": "clashes", "variable": "C", "uses": [{"use": "set"}] * 2, "other": other, "alike": 1},
+    ]
+    same(next(module["further"] for module in document["modules"] if module["name"] == "e/1"), wanted, "all of one module")
+
+
+def test_further_clashes_are_with_those_that_stay(folder):
+    """By what the first evaluation leaves, and the conflicts of both exclude. Who stays is settled without these."""
     files = {
         "/m/gcc/1": "setenv CC gcc\nis-loaded\n",
         "/m/gcc/2": "conflict mpi\nsetenv CC gcc\nis-loaded\n",
@@ -951,24 +1022,16 @@ def test_remarks_on_modules_that_ask_beside_certified_ones(folder):
         "/m/mpi/1": "setenv CC mpicc\nprepend-path P /b\n",
         "/m/mpi/2": "setenv CC x\n",
     }
-    site = Site(folder, files)
     asks = {1: "is-loaded", 2: "is-loaded", 3: "is-loaded", 4: "module-info specified"}
-    lines = [f"gcc/{number}\tasks\t{why}\t/m/gcc/{number}" for number, why in asks.items()]
-    lines += ["gcc/5\tone-way\tremove-path P /a\t/m/gcc/5", "mpi/1\tcertified\t\t/m/mpi/1"]
-    lines += ["mpi/2\tclashes\tCC: set here, set in mpi/1 (/m/mpi/1); used so by 2\t/m/mpi/2"]
+    rows = [(f"gcc/{number}", "asks", why) for number, why in asks.items()]
+    clash = "CC: set here, set in mpi/1 (/m/mpi/1); used so by 2"
+    rows += [("gcc/5", "one-way", "remove-path P /a"), ("mpi/1", "certified", ""), ("mpi/2", "clashes", clash)]
     remarks = [
-        "# gcc/1 (/m/gcc/1): asks, and clashes: CC: set here, set in mpi/1 (/m/mpi/1); used so by 2",
-        "# gcc/4 (/m/gcc/4): asks, and clashes: P: stack here, path with ':' in mpi/1 (/m/mpi/1); used so by 1",
+        FURTHER.format("gcc/1", "asks", f"clashes: {clash}"),
+        FURTHER.format("gcc/4", "asks", "clashes: P: stack here, path with ':' in mpi/1 (/m/mpi/1); used so by 1"),
+        FURTHER.format("gcc/5", "one-way", f"clashes: {clash}"),
     ]
-    site.says([*lines, "# 1 certified of 7", "# 4 asks", "# 1 one-way", "# 1 clashes", *remarks])
-    other = {"name": "mpi/1", "path": os.fsdecode(real(folder, "/m/mpi/1"))}
-    path = {"use": "path", "delimiter": ":"}
-    wanted = [
-        ("gcc/1", {"variable": "CC", "uses": [{"use": "set"}] * 2, "other": other, "alike": 2}),
-        ("gcc/4", {"variable": "P", "uses": [{"use": "stack"}, path], "other": other, "alike": 1}),
-    ]
-    wanted = [{"name": name, "path": os.fsdecode(real(folder, f"/m/{name}")), **clash} for name, clash in wanted]
-    same(site.document()["asking_clashes"], wanted, "the document")
+    Site(folder, files).says(lines_of(files, rows, remarks))
 
 
 def test_remarks_on_default_files_that_are_not_read(folder):
@@ -984,7 +1047,8 @@ def test_remarks_on_default_files_that_are_not_read(folder):
     site = Site(folder, files, "/m:/m/a")
     paths = ["/m/.modulerc", "/m/a/.modulerc", "/o/.modulerc"]
     remarks = [f"# default file that isn't read: {path}" for path in paths]
-    site.says(["a/1\tcertified\t\t/m/a/1", "1\tcertified\t\t/m/a/1", "# 2 certified of 2", *remarks])
+    bad = "# bad default file: /m/a/.modulerc"
+    site.says(["a/1\tcertified\t\t/m/a/1", "1\tcertified\t\t/m/a/1", "# 2 certified of 2", *remarks, bad])
     same(site.document()["unread_default_files"], [os.fsdecode(real(folder, path)) for path in paths], "the document")
 
 
@@ -1013,6 +1077,40 @@ def test_remarks_on_default_files_and_names(folder):
     ]
     files["/m/c/1"] = files["/m/c/1"].replace(" {}", "")
     Site(folder, files).says(lines, status=1)
+
+
+def test_remarks_on_default_files_that_name_no_version(folder):
+    """The first of each folder whose default files name no version in it. `.version` counts where `.modulerc` names none;
+    it isn't read where that names one; and a file without the cookie is none."""
+    there, gone = "set ModulesVersion 1\n", "set ModulesVersion 9\n"
+    files = {
+        "/m/a/1": "",
+        "/m/a/.version": gone,
+        "/m/b/1": "",
+        "/m/b/.version": there,
+        "/m/c/1": "",
+        "/m/c/.modulerc": "module-version c/9 default\n",
+        "/m/c/.version": gone,
+        "/m/d/1": "",
+        "/m/d/.modulerc": "module-version d/9 default\n",
+        "/m/d/.version": there,
+        "/m/e/1": "",
+        "/m/e/.modulerc": "module-version e/1 default\n",
+        "/m/e/.version": gone,
+        "/m/f/1": "",
+        "/m/f/.modulerc": "module-version f/1 stable\n",
+        "/m/g/1": "",
+        "/m/g/2": "",
+        "/m/h/i/1": "",
+        "/m/h/i/.version": gone,
+        "/m/h/.version": "set ModulesVersion i\n",
+    }
+    site = Site(folder, files)
+    names = ["a/1", "b/1", "c/1", "d/1", "e/1", "f/1", "g/1", "g/2", "h/i/1"]
+    bad = ["/m/a/.version", "/m/c/.modulerc", "/m/f/.modulerc", "/m/h/i/.version"]
+    lines = [f"{name}\tcertified\t\t/m/{name}" for name in names]
+    site.says([*lines, "# 9 certified of 9", *(f"# bad default file: {path}" for path in bad)])
+    same(site.document()["bad_default_files"], [os.fsdecode(real(folder, path)) for path in bad], "the document")
 
 
 def test_remarks_on_directories_that_are_not_there(folder):
@@ -1340,7 +1438,6 @@ def test_the_document_says_the_same(folder):
         "bad_default_files": [f"{there}/a/.version"],
         "unread_default_files": [],
         "hanging_directories": [],
-        "asking_clashes": [],
         "unknown_names": [
             {"name": "a/1", "path": f"{there}/a/1", "command": "conflict", "names": ["q"]},
             {"name": "f/1", "path": f"{there}/f/1", "command": "prereq", "names": ["y", "z"]},
@@ -1703,18 +1800,18 @@ OF_SITES = {
 }
 
 
-# The line of progress.
+# What a terminal is told: aligned columns, and a line of progress.
 
 
-def on_a_terminal(folder, *words, env=None):
-    """What a run writes to a terminal that is its standard error, and its status."""
+def on_a_terminal(folder, *words, env=None, stream="stderr"):
+    """What a run in the folder writes to a terminal that is its standard error, or its other stream, and its status."""
     master, slave = pty.openpty()
     running = subprocess.Popen(
         [folder.program, *words],
         env=env or folder.environment(),
+        cwd=folder.path,
         stdin=subprocess.DEVNULL,
-        stdout=subprocess.DEVNULL,
-        stderr=slave,
+        **{"stdout": subprocess.DEVNULL, "stderr": subprocess.DEVNULL, stream: slave},
     )
     os.close(slave)
     text, end = b"", time.monotonic() + SECONDS
@@ -1733,6 +1830,94 @@ def on_a_terminal(folder, *words, env=None):
         text += part
     os.close(master)
     return text, running.wait(SECONDS)
+
+
+# A site of names of one, two and three bytes a character, also of one that takes no column of its own; with a module
+# that asks, one that is refused and a file that can't be read. Its report on a terminal, and the same of `--quiet`.
+
+WIDE_FILES = {
+    "/m/e\u0301/1": "",
+    "/m/gcc/13": "prepend-path PATH /opt/gcc/bin\n",
+    "/m/x/1": "is-loaded\n",
+    "/m/\u00fc/\uff12": "getenv HOME\n",
+    "/m/\u65e5\u672c/2": "\u65e5\u672c\n",
+}
+
+IN_COLUMNS = """\
+e\u0301/1     certified                                        m/e\u0301/1
+gcc/13  certified                                        m/gcc/13
+x/1     asks       is-loaded                             m/x/1     returns
+\u00fc/\uff12    certified  reads HOME                            m/\u00fc/\uff12
+\u65e5\u672c/2  refused    invalid command name "\u65e5\u672c" (line 2)  m/\u65e5\u672c/2
+        refused    Reading failed                        m/\u65e5\u672c/3
+# 3 certified of 6
+# 1 asks
+# 2 refused
+# default file that isn't read: m/.modulerc
+"""
+
+QUIET_IN_COLUMNS = """\
+x/1     asks     is-loaded                             m/x/1     returns
+\u65e5\u672c/2  refused  invalid command name "\u65e5\u672c" (line 2)  m/\u65e5\u672c/2
+        refused  Reading failed                        m/\u65e5\u672c/3
+# 3 certified of 6
+# 1 asks
+# 2 refused
+# default file that isn't read: m/.modulerc
+"""
+
+WITH_TABS = """\
+e\u0301/1\tcertified\t\tm/e\u0301/1
+gcc/13\tcertified\t\tm/gcc/13
+x/1\tasks\tis-loaded\tm/x/1\treturns
+\u00fc/\uff12\tcertified\treads HOME\tm/\u00fc/\uff12
+\u65e5\u672c/2\trefused\tinvalid command name "\u65e5\u672c" (line 2)\tm/\u65e5\u672c/2
+\trefused\tReading failed\tm/\u65e5\u672c/3
+# 3 certified of 6
+# 1 asks
+# 2 refused
+# default file that isn't read: m/.modulerc
+"""
+
+
+def in_lines(text):
+    """What a terminal gets of the text, whose ends of lines it writes anew."""
+    return text.encode().replace(b"\n", b"\r\n")
+
+
+def piped(folder, *words):
+    done = subprocess.run(
+        [folder.program, *words], env=folder.environment(), cwd=folder.path, capture_output=True, timeout=SECONDS, check=False
+    )
+    same(done.stderr, b"", "standard error")
+    return done.stdout.decode(), done.returncode
+
+
+def test_columns_on_a_terminal(folder):
+    for path, text in WIDE_FILES.items():
+        write(folder, path, text)
+    ring(folder, "/m/\u65e5\u672c/3")
+    ring(folder, "/m/.modulerc")
+    same(piped(folder, "m"), (WITH_TABS, 1), "through a pipe")
+    same(on_a_terminal(folder, "m", stream="stdout"), (in_lines(IN_COLUMNS), 1), "on a terminal")
+    same(on_a_terminal(folder, "--quiet", "m", stream="stdout"), (in_lines(QUIET_IN_COLUMNS), 1), "of those not certified")
+    document, status = piped(folder, "--json", "m")
+    same(on_a_terminal(folder, "--json", "m", stream="stdout"), (in_lines(document), status), "the document")
+    usage, status = piped(folder, "--help")
+    same(on_a_terminal(folder, "--help", stream="stdout"), (in_lines(usage), status), "the help")
+
+
+def test_columns_of_one_line(folder):
+    """One module, none that is named, and one whose reason is wider than a column: 80, and two blanks."""
+    write(folder, "/m/a/1", "")
+    alone = "a/1  certified    m/a/1\n# 1 certified of 1\n"
+    same(on_a_terminal(folder, "m", stream="stdout"), (in_lines(alone), 0), "a module")
+    same(on_a_terminal(folder, "--quiet", "m", stream="stdout"), (in_lines("# 1 certified of 1\n"), 0), "no module")
+    word = "x" * 70
+    write(folder, "/m/b/1", f"{word}\n")
+    wide = [f"a/1  certified  {' ' * 82}m/a/1", f'b/1  refused    invalid command name "{word}" (line 2)  m/b/1']
+    lines = [*wide, "# 1 certified of 2", "# 1 refused", ""]
+    same(on_a_terminal(folder, "m", stream="stdout"), (in_lines("\n".join(lines)), 1), "a reason of 102 columns")
 
 
 def test_a_line_of_progress_on_a_terminal(folder):
@@ -1779,6 +1964,6 @@ def test_the_example_of_the_page(folder):
         write(folder, name, text.removeprefix("#%Module\n"))
     (session,) = [block for block in blocks if block.startswith("$ ")]
     command, lines = session.split("\n", 1)
-    same(command, "$ '@prefix@/bin/modaudit' /m", "the command")
+    same(command, "$ '@prefix@/bin/modaudit' /m | cat", "the command")
     done = folder.run(folder.modules, env={})
     same(done.stdout + done.stderr, FOLDER.sub(lambda found: os.path.join(folder.path, found[1]), lines.encode()), "what it prints")

@@ -392,6 +392,26 @@ def standing_of(module, modules):
     return "certified" if module in certified(modules) else "clashes"
 
 
+def stands_by_itself(module, modules):
+    """In which ways an accepted module stands whatever others do, by the records of its first evaluation."""
+    ways = {
+        "asks": asks(module),
+        "one-way": not all(map(can_return, module.records)),
+        "reads-used": used_read(module, modules),
+        "out-of-step": steps_out(module),
+    }
+    return [word for word, stands in ways.items() if stands]
+
+
+def further_of(module, modules):
+    """How a module of a site stands further, in one word each: behind the first of these ways, and by a clash."""
+    ways = [] if module.first.fault is not None else stands_by_itself(module, modules)
+    if not ways:
+        return []
+    clashes = any(clashes_of(module, other) for other in certified(modules))
+    return [*ways[1:], *(["clashes"] if clashes else [])]
+
+
 def certificate(modules):
     """What the certified modules use, each use once."""
     return list(dict.fromkeys(use for module in certified(modules) for use in uses_of(module)))
