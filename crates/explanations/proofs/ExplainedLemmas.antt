@@ -1,6 +1,6 @@
 -- Why a request is refused, by what was said of its refusal.
 use Rattle.std.proofs.Common.{◌≡◌, true, false, List, Option, Some, None, Result, Ok, Err, IfErr, IfOk, inl, inr, refl, sym, subst}
-use Rattle.std.specs.Prelude.{IfSome}
+use Rattle.std.specs.Prelude.{IfSome, ◌⊎◌, ⊤}
 use Rattle.envvars.specs.Environment.{Environment}
 use Rattle.envvars.specs.Reasons as edits
 use Rattle.envvars.specs.Texts.{Text}
@@ -181,15 +181,22 @@ outcomes_of before now limits shell e action narrows refusal failed answer r is 
 -- ---- why nothing is said
 
 -- of what has no reason
-given_up : (words : List Text) (c : Cause RequestReason) → is_given_up c ≡ true → IsUnexplained words c
-given_up words memory is = tt
-given_up words device is = tt
-given_up words (because r) is = absurd (cc)
+given_up : (fails : Type 0) (words : List Text) (c : Cause RequestReason) → is_given_up c ≡ true → Applies c fails (λ r. ⊤) → IsUnexplained fails words c
+given_up fails words memory is h = tt
+given_up fails words device is h = h
+given_up fails words (because r) is h = absurd (cc)
 
-pub all_given_up : (words : List Text) (r : Result Explanation Refusal) → IfErr r (λ refusal. is_given_up (cause_of refusal) ≡ true)
-    → IfErr r (λ refusal. IsUnexplained words (cause_of refusal))
-all_given_up words (Ok x) h = tt
-all_given_up words (Err refusal) h = given_up words (cause_of refusal) h
+one_given_up : (fails : Type 0) (words : List Text) (said : Result Explanation Refusal) (refusal : Refusal) → is_given_up (cause_of refusal) ≡ true → (cause_of refusal ≡ memory) ⊎ (said ≡ Err refusal)
+    → IfErr said (λ r. Applies (cause_of r) fails (λ reason. ⊤)) → IsUnexplained fails words (cause_of refusal)
+one_given_up fails words said refusal is (inl e) h = subst (IsUnexplained fails words) (sym e) tt
+one_given_up fails words said refusal is (inr e) h =
+    given_up fails words (cause_of refusal) is (subst (λ (r : Result Explanation Refusal). IfErr r (λ x. Applies (cause_of x) fails (λ reason. ⊤))) e h)
+
+pub all_given_up : (fails : Type 0) (words : List Text) (said r : Result Explanation Refusal) → IfErr r (λ refusal. is_given_up (cause_of refusal) ≡ true)
+    → IfErr r (λ refusal. (cause_of refusal ≡ memory) ⊎ (said ≡ Err refusal)) → IfErr said (λ refusal. Applies (cause_of refusal) fails (λ reason. ⊤))
+    → IfErr r (λ refusal. IsUnexplained fails words (cause_of refusal))
+all_given_up fails words said (Ok x) h same applies = tt
+all_given_up fails words said (Err refusal) h same applies = one_given_up fails words said refusal h same applies
 
 -- what was said is said
 pub kept : (said r : Result Explanation Refusal) (P : Explanation → Type 0) → IfOk r (λ x. said ≡ Ok x) → IfOk said P → IfOk r P
@@ -197,29 +204,29 @@ kept said (Ok x) P same h = subst (λ (r : Result Explanation Refusal). IfOk r P
 kept said (Err refusal) P same h = tt
 
 -- of words that make no request
-by_no_search : (words : List Text) (c : Cause FindReason) → Applies (by_search c) ⊥ (λ r. Err r ≡ request_of words) → IsUnexplained words (by_search c)
-by_no_search words memory h = tt
-by_no_search words device h = absurd h
-by_no_search words (because r) h = (sym h, λ same. absurd (cc))
+by_no_search : (fails : Type 0) (words : List Text) (c : Cause FindReason) → Applies (by_search c) ⊥ (λ r. Err r ≡ request_of words) → IsUnexplained fails words (by_search c)
+by_no_search fails words memory h = tt
+by_no_search fails words device h = absurd h
+by_no_search fails words (because r) h = (sym h, λ same. absurd (cc))
 
-by_no_edit : {R : Type 0} (view : R → RequestReason) → ((r : R) → view r ≡ bad_arguments → ⊥) → (words : List Text) (o : Option R)
-    → Applies (by_reason view o) ⊥ (λ r. Err r ≡ request_of words) → IsUnexplained words (by_reason view o)
-by_no_edit view not words None h = tt
-by_no_edit view not words (Some r) h = (sym h, not r)
+by_no_edit : {R : Type 0} (view : R → RequestReason) → ((r : R) → view r ≡ bad_arguments → ⊥) → (fails : Type 0) (words : List Text) (o : Option R)
+    → Applies (by_reason view o) ⊥ (λ r. Err r ≡ request_of words) → IsUnexplained fails words (by_reason view o)
+by_no_edit view not fails words None h = tt
+by_no_edit view not fails words (Some r) h = (sym h, not r)
 
-pub no_request : (words : List Text) (refusal : Refusal) → (refusal ≡ refusals.BadArguments → ⊥) → Applies (cause_of refusal) ⊥ (λ r. Err r ≡ request_of words)
-    → IsUnexplained words (cause_of refusal)
-no_request words refusals.OutOfMemory not h = tt
-no_request words (refusals.Run fault) not h = by_no_edit file_refused (λ r same. absurd (cc)) words (file_reason_of fault) h
-no_request words (refusals.Find fault) not h = by_no_search words (find_cause fault) h
-no_request words (refusals.Env fault) not h = by_no_edit (λ r. refused_edit (bad_edit r)) (λ r same. absurd (cc)) words (edits.reason_of fault) h
-no_request words refusals.BadArguments not h = absurd (not refl)
-no_request words (refusals.UnknownSubcommand word) not h = (sym h, λ same. absurd (cc))
-no_request words (refusals.ConflictWith name) not h = (sym h, λ same. absurd (cc))
-no_request words (refusals.PrereqMissing missing) not h = (sym h, λ same. absurd (cc))
-no_request words (refusals.StillNeededBy name) not h = (sym h, λ same. absurd (cc))
-no_request words (refusals.FileGone path) not h = (sym h, λ same. absurd (cc))
-no_request words (refusals.NotAModulefile path) not h = (sym h, λ same. absurd (cc))
+pub no_request : (fails : Type 0) (words : List Text) (refusal : Refusal) → (refusal ≡ refusals.BadArguments → ⊥) → Applies (cause_of refusal) ⊥ (λ r. Err r ≡ request_of words)
+    → IsUnexplained fails words (cause_of refusal)
+no_request fails words refusals.OutOfMemory not h = tt
+no_request fails words (refusals.Run fault) not h = by_no_edit file_refused (λ r same. absurd (cc)) fails words (file_reason_of fault) h
+no_request fails words (refusals.Find fault) not h = by_no_search fails words (find_cause fault) h
+no_request fails words (refusals.Env fault) not h = by_no_edit (λ r. refused_edit (bad_edit r)) (λ r same. absurd (cc)) fails words (edits.reason_of fault) h
+no_request fails words refusals.BadArguments not h = absurd (not refl)
+no_request fails words (refusals.UnknownSubcommand word) not h = (sym h, λ same. absurd (cc))
+no_request fails words (refusals.ConflictWith name) not h = (sym h, λ same. absurd (cc))
+no_request fails words (refusals.PrereqMissing missing) not h = (sym h, λ same. absurd (cc))
+no_request fails words (refusals.StillNeededBy name) not h = (sym h, λ same. absurd (cc))
+no_request fails words (refusals.FileGone path) not h = (sym h, λ same. absurd (cc))
+no_request fails words (refusals.NotAModulefile path) not h = (sym h, λ same. absurd (cc))
 
 -- ---- the words
 

@@ -74,12 +74,12 @@ IsOfOutcome agrees limits shell e action x =
     × IsFile agrees limits shell e action reason x.file
     × IsAdvised agrees limits shell e action reason x.advice)
 
--- Why nothing is said: memory is wanting, the device failed, or the words make no request, for another reason than that
--- they don't fit the subcommand.
-abbrev pub IsUnexplained : List Text → Cause RequestReason → Type 0
-IsUnexplained words memory = Unit {0}
-IsUnexplained words device = Unit {0}
-IsUnexplained words (because reason) = (request_of words ≡ Err reason) × (reason ≡ bad_arguments → ⊥)
+-- Why nothing is said: memory is wanting, the device failed in the call, or the words make no request, for another reason
+-- than that they don't fit the subcommand.
+abbrev pub IsUnexplained : Type 0 → List Text → Cause RequestReason → Type 0
+IsUnexplained fails words memory = Unit {0}
+IsUnexplained fails words device = fails
+IsUnexplained fails words (because reason) = (request_of words ≡ Err reason) × (reason ≡ bad_arguments → ⊥)
 
 -- What is said of the words of a request.
 abbrev pub IsExplained : (Files → Listings → Type 0) → Limits → Shell → Environment → List Text → Explanation → Type 0

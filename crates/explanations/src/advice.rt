@@ -1,5 +1,7 @@
 //! What to do about a refusal: a request that would be accepted, or what is known.
 ghost use Rattle.std.specs.Prelude.{◌≡◌, ◌∷◌, [], Some, None, true, IfNone, IfOk, IfSome, map, string_bytes};
+ghost use Rattle.std.specs.Prelude.{◌<◌, ◌≤◌, ⊤, IfErr};
+ghost use Rattle.filetree.specs.Causes.{Applies};
 ghost use Rattle.filetree.specs.Agreement.{Narrows};
 ghost use Rattle.search.specs.Answers.{cause_of as find_cause};
 ghost use Rattle.modulerun.specs.Running.{eval_reason, file_reason_of};
@@ -47,6 +49,9 @@ fn if_accepted<T: Tree>(
     action: Action,
 ) -> Result<Option<Advice>, Refusal>
     ensures narrows { Narrows (T.agrees tree.old) (T.agrees tree.new) }
+    ensures counts { T.failures tree.old ≤ T.failures tree.new }
+    ensures gave_up { IfErr result (λ refusal. Applies (cause_of refusal) (T.failures tree.old < T.failures tree.new)
+        (λ reason. ⊤)) }
     ensures advised { IfOk result (λ o. IfSome o (IsSound (T.agrees tree.new) refused.entry.limits
         refused.entry.request.now.shell refused.entry.env.now)) }
     ensures tried { IfOk result (λ o. IfSome o (IsTried action)) }
@@ -87,6 +92,9 @@ fn switch_to_one<T: Tree>(
     names: &[String],
 ) -> Result<Option<Advice>, Refusal>
     ensures narrows { Narrows (T.agrees tree.old) (T.agrees tree.new) }
+    ensures counts { T.failures tree.old ≤ T.failures tree.new }
+    ensures gave_up { IfErr result (λ refusal. Applies (cause_of refusal) (T.failures tree.old < T.failures tree.new)
+        (λ reason. ⊤)) }
     ensures advised { IfOk result (λ o. IfSome o (IsSound (T.agrees tree.new) refused.entry.limits
         refused.entry.request.now.shell refused.entry.env.now)) }
     ensures switches { IfOk result (IsSwitchOrNone (T.agrees tree.new) refused.entry.limits
@@ -119,6 +127,9 @@ fn instead<T: Tree>(
     names: &[String],
 ) -> Result<Option<Advice>, Refusal>
     ensures narrows { Narrows (T.agrees tree.old) (T.agrees tree.new) }
+    ensures counts { T.failures tree.old ≤ T.failures tree.new }
+    ensures gave_up { IfErr result (λ refusal. Applies (cause_of refusal) (T.failures tree.old < T.failures tree.new)
+        (λ reason. ⊤)) }
     ensures advised { IfOk result (λ o. IfSome o (IsSound (T.agrees tree.new) refused.entry.limits
         refused.entry.request.now.shell refused.entry.env.now)) }
     ensures fits { IfOk result (spec.Instead (T.agrees tree.new) refused.entry.limits
@@ -138,6 +149,9 @@ fn for_conflict<T: Tree>(
     other: &str,
 ) -> Result<Option<Advice>, Refusal>
     ensures narrows { Narrows (T.agrees tree.old) (T.agrees tree.new) }
+    ensures counts { T.failures tree.old ≤ T.failures tree.new }
+    ensures gave_up { IfErr result (λ refusal. Applies (cause_of refusal) (T.failures tree.old < T.failures tree.new)
+        (λ reason. ⊤)) }
     ensures advised { IfOk result (λ o. IfSome o (IsSound (T.agrees tree.new) refused.entry.limits
         refused.entry.request.now.shell refused.entry.env.now)) }
     ensures fits { IfOk result (spec.ForConflict (T.agrees tree.new) refused.entry.limits
@@ -190,6 +204,9 @@ fn for_missed<T: Tree>(
     fault: &FindFault,
 ) -> Result<Option<Advice>, Refusal>
     ensures narrows { Narrows (T.agrees tree.old) (T.agrees tree.new) }
+    ensures counts { T.failures tree.old ≤ T.failures tree.new }
+    ensures gave_up { IfErr result (λ refusal. Applies (cause_of refusal) (T.failures tree.old < T.failures tree.new)
+        (λ reason. ⊤)) }
     ensures known { IfOk result (λ o. IfSome o (λ advice. is_known advice ≡ true)) }
     ensures fits { IfOk result (λ o. IfBecause (find_cause fault.now) (λ reason.
         spec.ForMissed (T.agrees tree.new) refused.entry.limits refused.entry.request.now.shell refused.entry.env.now
@@ -214,6 +231,9 @@ pub(crate) fn advice_for<T: Tree>(
     refusal: &Refusal,
 ) -> Result<Option<Advice>, Refusal>
     ensures narrows { Narrows (T.agrees tree.old) (T.agrees tree.new) }
+    ensures counts { T.failures tree.old ≤ T.failures tree.new }
+    ensures gave_up { IfErr result (λ refusal. Applies (cause_of refusal) (T.failures tree.old < T.failures tree.new)
+        (λ reason. ⊤)) }
     ensures advised { IfOk result (λ o. IfSome o (IsSound (T.agrees tree.new) refused.entry.limits
         refused.entry.request.now.shell refused.entry.env.now)) }
     ensures fits { IfOk result (λ o. IfBecause (cause_of refusal.now) (λ reason.

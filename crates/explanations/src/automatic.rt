@@ -1,6 +1,9 @@
 //! What to do by automated module handling: a load with what is needed first, an unload with what needs it.
 ghost use Rattle.std.specs.Prelude.{◌≡◌, Ok, Err, Some, IfNone, IfOk, IfSome, map, string_bytes};
+ghost use Rattle.std.specs.Prelude.{◌<◌, ◌≤◌, ◌⊎◌, ⊤, IfErr};
 ghost use Rattle.envvars.specs.Texts.{texts_in};
+ghost use Rattle.modules.specs.Answers.{cause_of};
+ghost use Rattle.filetree.specs.Causes.{Applies, memory};
 ghost use Rattle.filetree.specs.Agreement.{Narrows};
 ghost use Rattle.requests.specs.RequestViews.{action_view};
 ghost use Rattle.autohandling.specs.declared.answer.AutomaticAnswer.{AutomaticAnswer};
@@ -33,6 +36,8 @@ fn names_if_done(
         (a : AutomaticAnswer) × (answer ≡ Ok a) × (names ≡ a.names))) }
     ensures undone { IfOk result (λ o. IfNone o (
         (fault : AutomaticFault) × (answer ≡ Err fault) × HasReason fault)) }
+    ensures kept { IfErr result (λ refusal. (cause_of refusal ≡ memory)
+        ⊎ (answer ≡ Err (AutomaticFault.Refused refusal))) }
 {
     match answer {
         Ok(answer) => Ok(Some(answer.names)),
@@ -75,6 +80,9 @@ fn load_with_needed<T: Tree>(
     missing: &MissingNames,
 ) -> Result<Option<Advice>, Refusal>
     ensures narrows { Narrows (T.agrees tree.old) (T.agrees tree.new) }
+    ensures counts { T.failures tree.old ≤ T.failures tree.new }
+    ensures gave_up { IfErr result (λ refusal. Applies (cause_of refusal) (T.failures tree.old < T.failures tree.new)
+        (λ reason. ⊤)) }
     ensures advised { IfOk result (λ o. IfSome o (IsSound (T.agrees tree.new) refused.entry.limits
         refused.entry.request.now.shell refused.entry.env.now)) }
     ensures fits { IfOk result (spec.ForNeed (T.agrees tree.new) refused.entry.limits
@@ -104,6 +112,9 @@ pub(crate) fn for_need<T: Tree>(
     missing: &MissingNames,
 ) -> Result<Option<Advice>, Refusal>
     ensures narrows { Narrows (T.agrees tree.old) (T.agrees tree.new) }
+    ensures counts { T.failures tree.old ≤ T.failures tree.new }
+    ensures gave_up { IfErr result (λ refusal. Applies (cause_of refusal) (T.failures tree.old < T.failures tree.new)
+        (λ reason. ⊤)) }
     ensures advised { IfOk result (λ o. IfSome o (IsSound (T.agrees tree.new) refused.entry.limits
         refused.entry.request.now.shell refused.entry.env.now)) }
     ensures fits { IfOk result (spec.ForNames (spec.ForNeed (T.agrees tree.new) refused.entry.limits
@@ -129,6 +140,9 @@ fn unload_with_needing<T: Tree>(
     asked: &[String],
 ) -> Result<Option<Advice>, Refusal>
     ensures narrows { Narrows (T.agrees tree.old) (T.agrees tree.new) }
+    ensures counts { T.failures tree.old ≤ T.failures tree.new }
+    ensures gave_up { IfErr result (λ refusal. Applies (cause_of refusal) (T.failures tree.old < T.failures tree.new)
+        (λ reason. ⊤)) }
     ensures advised { IfOk result (λ o. IfSome o (IsSound (T.agrees tree.new) refused.entry.limits
         refused.entry.request.now.shell refused.entry.env.now)) }
     ensures fits { IfOk result (spec.ForNeeded (T.agrees tree.new) refused.entry.limits
@@ -151,6 +165,9 @@ pub(crate) fn for_needed<T: Tree>(
     tree: &mut T,
 ) -> Result<Option<Advice>, Refusal>
     ensures narrows { Narrows (T.agrees tree.old) (T.agrees tree.new) }
+    ensures counts { T.failures tree.old ≤ T.failures tree.new }
+    ensures gave_up { IfErr result (λ refusal. Applies (cause_of refusal) (T.failures tree.old < T.failures tree.new)
+        (λ reason. ⊤)) }
     ensures advised { IfOk result (λ o. IfSome o (IsSound (T.agrees tree.new) refused.entry.limits
         refused.entry.request.now.shell refused.entry.env.now)) }
     ensures fits { IfOk result (spec.ForNames (spec.ForNeeded (T.agrees tree.new) refused.entry.limits

@@ -1,9 +1,12 @@
 //! The files of which one is refused in a request, each with what it is evaluated under.
 ghost use Rattle.std.specs.Prelude.{◌≡◌, ◌++◌, List, IfOk, OnOk, map, reverse, string_bytes};
+ghost use Rattle.std.specs.Prelude.{◌<◌, ◌≤◌, ⊤, IfErr};
 ghost use Rattle.std.specs.Option.{option_map, option_to_list};
 ghost use Rattle.envloaded.specs.Loaded.{Entry, names_of};
 ghost use Rattle.envloaded.specs.LoadedEntries.{entry_view};
 ghost use Rattle.envvars.specs.Texts.{texts_in};
+ghost use Rattle.modules.specs.Answers.{cause_of};
+ghost use Rattle.filetree.specs.Causes.{Applies, memory};
 ghost use Rattle.filetree.specs.Agreement.{InEachPair, Narrows};
 ghost use Rattle.modulefile.specs.RecordViews.{mode_view};
 ghost use Rattle.modulename.specs.ModuleName.{parts};
@@ -108,6 +111,9 @@ fn found<T: Tree>(
     tree: &mut T,
 ) -> Result<Option<ModulePath>, Refusal>
     ensures narrows { Narrows (T.agrees tree.old) (T.agrees tree.new) }
+    ensures counts { T.failures tree.old ≤ T.failures tree.new }
+    ensures gave_up { IfErr result (λ refusal. Applies (cause_of refusal) (T.failures tree.old < T.failures tree.new)
+        (λ reason. ⊤)) }
     ensures found { IfOk result (λ o. InEachPair (T.agrees tree.new) (λ files listings.
         FoundOrMissed (request_context_in refused.entry.limits refused.entry.request.now.shell files listings) env.now
         name.now (option_map module_view o))) }
@@ -145,6 +151,9 @@ fn meant<T: Tree>(
     tree: &mut T,
 ) -> Result<Option<ModulePath>, Refusal>
     ensures narrows { Narrows (T.agrees tree.old) (T.agrees tree.new) }
+    ensures counts { T.failures tree.old ≤ T.failures tree.new }
+    ensures gave_up { IfErr result (λ refusal. Applies (cause_of refusal) (T.failures tree.old < T.failures tree.new)
+        (λ reason. ⊤)) }
     ensures meant { IfOk result (λ o. InEachPair (T.agrees tree.new) (λ files listings.
         spec.IsMeant (request_context_in refused.entry.limits refused.entry.request.now.shell files listings) env.now
         (map entry_view entries.now) (mode_view part.now.mode) part.now.name.now (option_map module_view o))) }
@@ -163,7 +172,8 @@ fn file_for(
     entries: &[Loaded],
     env: &Env,
 ) -> Result<EvaluatedFile, Refusal>
-    ensures { IfOk result (λ file. (s : steps.RequestContext) → file_context s.shell file
+    ensures memory { IfErr result (λ refusal. cause_of refusal ≡ memory) }
+    ensures file { IfOk result (λ file. (s : steps.RequestContext) → file_context s.shell file
         ≡ spec.part_context s env.now (map entry_view entries.now) (part_view part.now) (module_view target)) }
 {
     Ok(EvaluatedFile {
@@ -185,6 +195,9 @@ fn file_of<T: Tree>(
     tree: &mut T,
 ) -> Result<Option<EvaluatedFile>, Refusal>
     ensures narrows { Narrows (T.agrees tree.old) (T.agrees tree.new) }
+    ensures counts { T.failures tree.old ≤ T.failures tree.new }
+    ensures gave_up { IfErr result (λ refusal. Applies (cause_of refusal) (T.failures tree.old < T.failures tree.new)
+        (λ reason. ⊤)) }
     ensures file { IfOk result (λ o. InEachPair (T.agrees tree.new) (λ files listings.
         FileOf (request_context_in refused.entry.limits refused.entry.request.now.shell files listings) env.now
         (part_view part.now) (option_map (file_context refused.entry.request.now.shell) o))) }
@@ -226,6 +239,9 @@ fn pass<T: Tree>(
     tree: &mut T,
 ) -> Result<bool, Refusal>
     ensures narrows { Narrows (T.agrees tree.old) (T.agrees tree.new) }
+    ensures counts { T.failures tree.old ≤ T.failures tree.new }
+    ensures gave_up { IfErr result (λ refusal. Applies (cause_of refusal) (T.failures tree.old < T.failures tree.new)
+        (λ reason. ⊤)) }
     ensures passed { IfOk result (λ is. InEachPair (T.agrees tree.new) (λ maps listings.
         IsPassed (request_context_in refused.entry.limits refused.entry.request.now.shell maps listings) env.old env.new
         (part_view part.now) (files_view refused.entry.request.now.shell files.old)
@@ -253,6 +269,9 @@ fn files_of<T: Tree>(
     tree: &mut T,
 ) -> Result<Vec<EvaluatedFile>, Refusal>
     ensures narrows { Narrows (T.agrees tree.old) (T.agrees tree.new) }
+    ensures counts { T.failures tree.old ≤ T.failures tree.new }
+    ensures gave_up { IfErr result (λ refusal. Applies (cause_of refusal) (T.failures tree.old < T.failures tree.new)
+        (λ reason. ⊤)) }
     ensures evaluated { IfOk result (λ files. InEachPair (T.agrees tree.new) (λ maps listings.
         AreEvaluatedFor (request_context_in refused.entry.limits refused.entry.request.now.shell maps listings)
         refused.entry.env.now (map part_view parts.now) (files_view refused.entry.request.now.shell files))) }
@@ -353,6 +372,9 @@ pub(crate) fn evaluated_files<T: Tree>(
     tree: &mut T,
 ) -> Result<Vec<EvaluatedFile>, Refusal>
     ensures narrows { Narrows (T.agrees tree.old) (T.agrees tree.new) }
+    ensures counts { T.failures tree.old ≤ T.failures tree.new }
+    ensures gave_up { IfErr result (λ refusal. Applies (cause_of refusal) (T.failures tree.old < T.failures tree.new)
+        (λ reason. ⊤)) }
     ensures evaluated { IfOk result (λ files. InEachPair (T.agrees tree.new) (λ maps listings.
         AreEvaluated (request_context_in refused.entry.limits refused.entry.request.now.shell maps listings)
         refused.entry.env.now (action_view refused.entry.request.now.action)

@@ -1,5 +1,7 @@
 //! What is said of a refused request: where a modulefile failed, and what to do.
 ghost use Rattle.std.specs.Prelude.{◌≡◌, true, Ok, IfErr, IfOk, IfSome, map, string_bytes};
+ghost use Rattle.std.specs.Prelude.{◌<◌, ◌≤◌, ◌⊎◌, ⊤, Err};
+ghost use Rattle.filetree.specs.Causes.{Applies, memory};
 ghost use Rattle.filetree.specs.Agreement.{Narrows};
 ghost use Rattle.givenup.specs.Causes.{is_given_up};
 ghost use Rattle.modules.specs.Answers.{cause_of};
@@ -54,6 +56,9 @@ fn file_of<T: Tree>(
     refusal: &Refusal,
 ) -> Result<Option<FileExplanation>, Refusal>
     ensures narrows { Narrows (T.agrees tree.old) (T.agrees tree.new) }
+    ensures counts { T.failures tree.old ≤ T.failures tree.new }
+    ensures gave_up { IfErr result (λ refusal. Applies (cause_of refusal) (T.failures tree.old < T.failures tree.new)
+        (λ reason. ⊤)) }
     ensures file { IfOk result (IsFileOf (T.agrees tree.new) refused.entry.limits refused.entry.request.now.shell
         refused.entry.env.now (action_view refused.entry.request.now.action) refusal.now) }
 {
@@ -81,6 +86,9 @@ fn of_refusal<T: Tree>(
     refusal: &Refusal,
 ) -> Result<Explanation, Refusal>
     ensures narrows { Narrows (T.agrees tree.old) (T.agrees tree.new) }
+    ensures counts { T.failures tree.old ≤ T.failures tree.new }
+    ensures gave_up { IfErr result (λ refusal. Applies (cause_of refusal) (T.failures tree.old < T.failures tree.new)
+        (λ reason. ⊤)) }
     ensures file { IfOk result (λ x. IsFileOf (T.agrees tree.new) refused.entry.limits refused.entry.request.now.shell
         refused.entry.env.now (action_view refused.entry.request.now.action) refusal.now x.file) }
     ensures advised { IfOk result (λ x. IfSome x.advice (IsSound (T.agrees tree.new) refused.entry.limits
@@ -99,6 +107,9 @@ fn of_refusal<T: Tree>(
 /// It fails where memory ran out, or the device failed.
 fn of_request<T: Tree>(refused: RefusedRequest<'_>, tree: &mut T) -> Result<Explanation, Refusal>
     ensures narrows { Narrows (T.agrees tree.old) (T.agrees tree.new) }
+    ensures counts { T.failures tree.old ≤ T.failures tree.new }
+    ensures gave_up { IfErr result (λ refusal. Applies (cause_of refusal) (T.failures tree.old < T.failures tree.new)
+        (λ reason. ⊤)) }
     ensures why { IfOk result (λ x. IfSome x.file (IsWhy (T.agrees tree.new) refused.entry.limits
         refused.entry.request.now.shell refused.entry.env.now (action_view refused.entry.request.now.action))) }
     ensures advised { IfOk result (λ x. IfSome x.advice (IsSound (T.agrees tree.new) refused.entry.limits
@@ -128,6 +139,7 @@ fn of_request<T: Tree>(refused: RefusedRequest<'_>, tree: &mut T) -> Result<Expl
 fn unless_refused(said: Result<Explanation, Refusal>) -> Result<Explanation, Refusal>
     ensures same { IfOk result (λ x. said ≡ Ok x) }
     ensures given_up { IfErr result (λ refusal. is_given_up (cause_of refusal) ≡ true) }
+    ensures kept { IfErr result (λ refusal. (cause_of refusal ≡ memory) ⊎ (said ≡ Err refusal)) }
 {
     match unless_given_up(said)? {
         Ok(explanation) => Ok(explanation),
@@ -157,7 +169,8 @@ pub fn explain<T: Tree>(
         × IsWhy (T.agrees tree.new) limits shell env.now action file)) }
     ensures advised { IfOk result (λ x. IfSome x.advice (IsSound (T.agrees tree.new) limits shell env.now)) }
     ensures said { IfOk result (IsExplained (T.agrees tree.new) limits shell env.now (map string_bytes words.now)) }
-    ensures refused { IfErr result (λ refusal. IsUnexplained (map string_bytes words.now) (cause_of refusal)) }
+    ensures refused { IfErr result (λ refusal. IsUnexplained (T.failures tree.old < T.failures tree.new)
+        (map string_bytes words.now) (cause_of refusal)) }
 {
     let wanted = match request(alloc, shell, words) {
         Ok(wanted) => wanted,

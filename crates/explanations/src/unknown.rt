@@ -1,7 +1,10 @@
 //! What is known of a name that isn't found.
 ghost use Rattle.std.specs.Prelude.{◌≡◌, false, true, IfOk, IfSome};
+ghost use Rattle.std.specs.Prelude.{◌<◌, ◌≤◌, ⊤, IfErr};
 ghost use Rattle.envvars.specs.Texts.{slice_texts};
-ghost use Rattle.filetree.specs.Agreement.{Narrows};
+ghost use Rattle.modules.specs.Answers.{cause_of};
+ghost use Rattle.filetree.specs.Causes.{Applies};
+ghost use Rattle.filetree.specs.Agreement.{FailsOnlyByDevice, Narrows};
 ghost use Rattle.requests.specs.Steps.{modulepath};
 ghost use Rattle.explanations.specs.Advised as spec;
 ghost use Rattle.explanations.specs.Views.{is_known};
@@ -17,6 +20,7 @@ use search::directories;
 /// Whether one of the directories is there.
 fn is_one_there<T: Tree>(tree: &mut T, directories: &[&str]) -> Result<bool, TreeFault>
     ensures narrows { Narrows (T.agrees tree.old) (T.agrees tree.new) }
+    ensures cause { FailsOnlyByDevice (T.failures tree.old) (T.failures tree.new) result }
     ensures none { IfOk result (λ is. is ≡ false → spec.NoneIsThere (T.agrees tree.new) (slice_texts directories.now)) }
     ensures one { IfOk result (λ is. is ≡ true → spec.IsOneThere (T.agrees tree.new) (slice_texts directories.now)) }
 {
@@ -37,6 +41,9 @@ pub(crate) fn for_unknown<T: Tree>(
     name: &str,
 ) -> Result<Option<Advice>, Refusal>
     ensures narrows { Narrows (T.agrees tree.old) (T.agrees tree.new) }
+    ensures counts { T.failures tree.old ≤ T.failures tree.new }
+    ensures gave_up { IfErr result (λ refusal. Applies (cause_of refusal) (T.failures tree.old < T.failures tree.new)
+        (λ reason. ⊤)) }
     ensures known { IfOk result (λ o. IfSome o (λ advice. is_known advice ≡ true)) }
     ensures fits { IfOk result (spec.ForUnknown (T.agrees tree.new) refused.entry.limits
         refused.entry.request.now.shell refused.entry.env.now (modulepath refused.entry.env.now) name.now) }

@@ -22,7 +22,7 @@ returns-in-Some-clause-file g c =
       target = Some (module_view c.in-Some.target);
       meant = subst (λ (o : Option code_module.ModulePath). Meant c.in_ok-entries.entries.items o) c.in-Some.is
           (subst (λ (l : List Loaded). Meant l c.in_ok-target.field-0) c.as_slice.ensures.value (c.in_ok-target.ensures.meant files listings a));
-      context = ap (λ (x : FileContext). Some x) (c.in_ok-file-in-Some.ensures s
+      context = ap (λ (x : FileContext). Some x) (c.in_ok-file-in-Some.ensures.file s
           ∙ ap (λ (l : List Loaded). part_context s c.args.env.now (map entry_view l) (part_view c.args.part.now) (module_view c.in-Some.target)) c.as_slice-in-Some.ensures.value);
     }
 

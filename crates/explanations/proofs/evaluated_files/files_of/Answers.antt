@@ -1,4 +1,4 @@
-use Rattle.std.proofs.Common.{List, [], map, sym, subst}
+use Rattle.std.proofs.Common.{arith, List, [], map, sym, subst}
 use Rattle.envvars.specs.Environment.{Environment}
 use Rattle.requests.specs.Steps.{request_context_in}
 use Rattle.explanations.specs.Evaluated.{Passes, nothing}
@@ -13,6 +13,7 @@ loop-part-init g c =
     let e = c.args.refused.env.now in
     record {
       narrows = λ files listings a. a;
+      counts = omega arith;
       passed = λ maps listings a.
           subst (λ (x : Environment). Passes (request_context_in c.args.refused.limits shell maps listings) e [] (files_view shell c.new-files.result) x) (sym c.in_ok-env.ensures.ok)
           (subst (λ (l : List EvaluatedFile). Passes (request_context_in c.args.refused.limits shell maps listings) e [] (map (file_context shell) l) e) (sym c.new-files.ensures.items) nothing);
@@ -21,6 +22,7 @@ loop-part-init g c =
 pub loop-part-preserved : goal.loop-part-preserved
 loop-part-preserved g c = record {
   narrows = λ files listings a. c.loop-part.invariant.narrows files listings (c.pass.ensures.narrows files listings a);
+  counts = omega arith;
   passed = λ maps listings a.
       passes_more (request_context_in c.args.refused.limits c.args.refused.request.now.shell maps listings) c.args.refused.env.now c.args.parts.now c.loop-part.part-index _
       c.loop-part-test.true (files_view c.args.refused.request.now.shell c.loop-part.files) (files_view c.args.refused.request.now.shell c.pass.new.files) c.loop-part.env c.pass.new.env

@@ -1,4 +1,4 @@
-use Rattle.std.proofs.Common.{map, take}
+use Rattle.std.proofs.Common.{◌≤◌, map, take}
 use Rattle.filetree.specs.Agreement.{InEachPair, Narrows}
 use Rattle.requests.specs.Steps.{request_context_in}
 use Rattle.explanations.specs.Evaluated.{Passes}
@@ -8,6 +8,7 @@ use Rattle.explanations.proofs.evaluated_files.files_of.Given as goal
 abbrev pub invariant-loop-part : goal.invariant-loop-part
 invariant-loop-part g l = record {
   narrows : Narrows (g.T.Tree.agrees l.initial.tree) (g.T.Tree.agrees l.tree);
+  counts : g.T.Tree.failures l.initial.tree ≤ g.T.Tree.failures l.tree;
   passed : InEachPair (g.T.Tree.agrees l.tree) (λ maps listings.
       Passes (request_context_in l.refused.limits l.refused.request.now.shell maps listings) l.refused.env.now (map part_view (take l.part-index l.parts))
       (files_view l.refused.request.now.shell l.files) l.env);

@@ -1,4 +1,4 @@
-use Rattle.std.proofs.Common.{map, string_bytes, String}
+use Rattle.std.proofs.Common.{◌<◌, map, string_bytes, String}
 use Rattle.std.specs.declared.alloc.Global.{Global}
 use Rattle.requests.specs.RequestViews.{action_view}
 use Rattle.explanations.proofs.ExplainedLemmas.{all_given_up, explained, explained_advised, explained_whys, kept}
@@ -24,4 +24,5 @@ returns-clause-said g c =
 
 pub returns-clause-refused : goal.returns-clause-refused
 returns-clause-refused g c =
-    all_given_up (map (λ (s : String Global). string_bytes s) c.args.words.now) c.unless_refused.result c.unless_refused.ensures.given_up
+    all_given_up (g.T.Tree.failures c.args.tree.now < g.T.Tree.failures c.of_request.new.tree) (map (λ (s : String Global). string_bytes s) c.args.words.now) c.of_request.result c.unless_refused.result
+    c.unless_refused.ensures.given_up c.unless_refused.ensures.kept c.of_request.ensures.gave_up

@@ -1,3 +1,4 @@
+use Rattle.std.proofs.Common.{arith}
 use Rattle.failedcommands.specs.Views.{words_view}
 use Rattle.explanations.proofs.LocationLemmas.{first_located, none_of_all, not_located_more}
 use Rattle.explanations.proofs.location.explain_one.Goals as goal
@@ -11,6 +12,7 @@ returns-in-Some-clause-located g c =
 pub loop-file-preserved : goal.loop-file-preserved
 loop-file-preserved g c = record {
   narrows = λ files listings a. c.loop-file.invariant.narrows files listings (c.explain_in.ensures.narrows files listings a);
+  counts = omega arith;
   none = not_located_more (g.T.Tree.agrees c.loop-file.tree) (g.T.Tree.agrees c.explain_in.new.tree) c.args.refused.limits (words_view c.args.words.now) c.args.refused.request.now.shell
       c.args.files.now c.loop-file.file-index c.file-item.result c.in_ok-explained.field-0 c.explain_in.ensures.narrows c.loop-file-test.true c.file-item.is c.in_default.is
       c.in_ok-explained.ensures.none c.loop-file.invariant.none;
