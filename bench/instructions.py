@@ -17,8 +17,8 @@ from tools import Tool
 COLLECTED = re.compile(rb"Collected *: *(\d+)")
 
 
-def instructions(folder, command, env, *flags):
-    """The instructions of a command, which has to end with status 0; with callgrind's flags those that it collects."""
+def instructions(folder, command, env, *flags, status=0):
+    """The instructions of a command, which has to end with this status; with callgrind's flags those that it collects."""
     out = "--callgrind-out-file=" + os.path.join(folder, "callgrind")
     done = subprocess.run(
         ["valgrind", "--tool=callgrind", out, *flags, *command],
@@ -28,7 +28,7 @@ def instructions(folder, command, env, *flags):
         check=False,
     )
     found = COLLECTED.search(done.stderr)
-    if done.returncode != 0 or not found:
+    if done.returncode != status or not found:
         sys.exit(f"{command} ended with status {done.returncode}:\n{done.stderr.decode(errors='replace')}")
     return int(found[1])
 

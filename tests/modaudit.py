@@ -1772,6 +1772,32 @@ def test_twice_as_many_modules_cost_twice_as_much(folder, note):
     true(counts[1] <= TWICE * counts[0], f"1,000 modules take {counts[1]:,} instructions, and 500 {counts[0]:,}")
 
 
+# The instructions of a module of eight commands, at most: 1.6 times those of when each file was evaluated once, and of the
+# others nothing was tried.
+MOST_OF_A_MODULE = 210_000
+
+
+def test_what_a_module_of_eight_commands_costs(folder, note):
+    """Of 1,000, in folders of five, of which each tenth isn't certified, and is tried."""
+    for number in range(1000):
+        name, last = f"name{number // 5}", "remove-path OLD /x" if number % 10 == 9 else "append-path INFOPATH $root/info"
+        text = f"""set root /opt/{name}/{number % 5}
+module-whatis "{name}, a library"
+conflict {name}
+setenv {name.upper()}_ROOT $root
+prepend-path PATH $root/bin
+prepend-path LD_LIBRARY_PATH $root/lib
+prepend-path MANPATH $root/share/man
+{last}
+"""
+        folder.module(f"{name}/{number % 5}.0", text)
+    same(folder.run().stdout.decode().splitlines()[1000:], ["# 900 certified of 1000", "# 100 one-way"], "how they stand")
+    place, program = os.fsdecode(folder.path), os.fsdecode(folder.program)
+    count = instructions(place, [program], folder.environment(), status=1) // 1000
+    note(f"a module: {count:,} instructions")
+    true(count <= MOST_OF_A_MODULE, f"a module takes {count:,} instructions")
+
+
 # Sites as they are written.
 
 
