@@ -1,14 +1,17 @@
--- Counts of users: one more of them, those that go together with one, and those of other modules.
-use Rattle.std.proofs.Common.{arith, ◌≡◌, ℕ, ◌+◌, ◌-◌, ◌<◌, Bool, true, false, cond, not, ◌&&◌, List, [], ◌∷◌, ◌++◌, map, take}
+-- Counts of users: one more of them, those that go together with one, and those whose versions are excluded.
+use Rattle.std.proofs.Common.{arith, ◌≡◌, ℕ, zero, suc, ◌+◌, ◌-◌, ◌<◌, Bool, true, false, cond, not, ◌&&◌, List, [], ◌∷◌, ◌++◌, map, take}
 use Rattle.std.proofs.Common.{length, get_or, Bor, ◌||◌, refl, sym, ap, ◌∙◌, subst, append_assoc, append-nil, Option, Some, None}
 use Rattle.std.specs.Prelude.{bytes_eq}
-use Rattle.std.specs.List.{count_by, sum_by}
+use Rattle.std.specs.List.{count_by, sum_by, IsDistinct, AllByRecursion}
 use Rattle.std.specs.Option.{option_map, option_map_or, option_eq}
 use Rattle.std.proofs.lemmas.Bool.{false≢true, and_parts}
 use Rattle.std.proofs.lemmas.List.Sums.{sum_by-cons, sum_by_push}
+use Rattle.std.proofs.lemmas.List.Folds.{list_any-append}
+use Rattle.std.proofs.lemmas.List.{take_more}
 use Rattle.indexmap.specs.IndexMap.{IndexMap, get_by, Updates}
-use Rattle.envvars.specs.Texts.{Text}
+use Rattle.envvars.specs.Texts.{Text, has}
 use Rattle.envvars.proofs.TextLemmas.{same_text, bytes_eq-symmetric}
+use Rattle.modulefile.specs.Records.{conflict_names}
 use Rattle.modulefile.specs.Moves.{Module}
 use Rattle.reversal.specs.VariableUses.{VariableUse}
 use Rattle.sitecertificate.specs.RecordUses.{same_use}
@@ -17,7 +20,7 @@ use Rattle.sitecertificate.specs.declared.uses.UsedVariable as code
 use Rattle.sitecertificate.specs.Users.{ModuleUse, first_part, uses_of_module, uses_of_modules}
 use Rattle.sitecertificate.proofs.TableLemmas.{use_of}
 use Rattle.sitecertificate.proofs.AnswerLemmas.{map_more, uses_more}
-use Rattle.sitecertificate.specs.Ranks.{is_rival, excludes_versions}
+use Rattle.sitecertificate.specs.Ranks.{is_rival}
 use Rattle.sitecertificate.specs.UseKeys.{key_view}
 use Rattle.sitecertificate.specs.declared.keys.UseKey.{UseKey}
 use Rattle.sitecertificate.specs.declared.tally.Counted.{Counted as CodeCounted}
@@ -25,7 +28,8 @@ use Rattle.sitecertificate.specs.contracts.tally.CountedPartialEq.TheImpl as Cou
 use Rattle.sitecertificate.specs.contracts.keys.UseKeyPartialEq.TheImpl as UseKeyEq
 use Rattle.sitecertificate.specs.declared.tally.Tally.{Tally}
 use Rattle.sitecertificate.specs.Tallies.{Counted, is_counted, counted_view, same_views, same_counted, counted_at, HasCounts, CountsMore}
-use Rattle.sitecertificate.specs.Tallies.{CountsOne, is_of_others}
+use Rattle.sitecertificate.specs.Tallies.{CountsOne, is_user, is_excluded_user, is_other_user}
+use Rattle.sitecertificate.proofs.ConflictLemmas.{any_key}
 use Rattle.sitecertificate.proofs.UsedLemmas.{by_test}
 use Rattle.sitecertificate.proofs.Exact.{use_same, use_itself}
 use Rattle.sitecertificate.proofs.Staying.{go_equal}
@@ -203,30 +207,100 @@ and_true true true = refl
 and_true true false = refl
 and_true false b = refl
 
-and_turned : (a b r : Bool) → (a && (b && true)) && r ≡ (a && (b && r))
-and_turned true true r = refl
-and_turned true false r = refl
-and_turned false b r = refl
+-- how many have one of some names that are apart, one name more
+count_either : {X : Type 0} (p t s : X → Bool) (xs : List X) → ((x : X) → s x ≡ true → t x ≡ false)
+    → count_by (λ x. p x && (t x || s x)) xs ≡ count_by (λ x. p x && t x) xs + count_by (λ x. p x && s x) xs
+count_either p t s xs h =
+    sym (count_parted (λ x. p x && (t x || s x)) s xs)
+    ∙ (λ i. count_alike (λ x. (p x && (t x || s x)) && not (s x)) (λ x. p x && t x) xs (λ x. first (p x) (t x) (s x) (h x)) i
+    + count_alike (λ x. (p x && (t x || s x)) && s x) (λ x. p x && s x) xs (λ x. second (p x) (t x) (s x)) i)
+  where
+    first : (a b c : Bool) → (c ≡ true → b ≡ false) → ((a && (b || c)) && not c) ≡ (a && b)
+    first true true true h = sym (h refl)
+    first true false true h = refl
+    first true true false h = refl
+    first true false false h = refl
+    first false b c h = refl
 
-no_others : (b : Bool) → b ≡ (b && not false)
-no_others true = refl
-no_others false = refl
+    second : (a b c : Bool) → ((a && (b || c)) && c) ≡ (a && c)
+    second true true true = refl
+    second true false true = refl
+    second true true false = refl
+    second true false false = refl
+    second false b c = refl
 
--- nobody is left out
-pub others_all : (x : ModuleUse) (used : Option VariableUse) (us : List ModuleUse) (n : ℕ)
-    → n ≡ count_by (is_counted (record { variable = x.used.0; used = used; root = None })) us → n ≡ count_by (is_of_others x used false) us
-others_all x used us n h = h ∙ count_alike _ _ us (λ y. no_others (is_counted (record { variable = x.used.0; used = used; root = None }) y))
+-- a key isn't among those before it
+not_before : (ks : List (Bor Text)) (i : ℕ) (d : Bor Text) → i < length ks
+    → IsDistinct (λ x y. bytes_eq x.now y.now) ks → any_key (get_or ks i d).now (take i ks) ≡ false
+unfolding IsDistinct
+not_before [] i d l u = absurd (omega (arith, l))
+not_before (x ∷ ks) zero d l u = refl
+not_before (x ∷ ks) (suc i) d l u =
+    λ j. (bytes_eq-symmetric (get_or ks i d).now x.now ∙ apart x ks i d (omega (arith, l)) u.0) j || not_before ks i d (omega (arith, l)) u.1 j
+  where
+    apart : (x : Bor Text) (ks : List (Bor Text)) (i : ℕ) (d : Bor Text) → i < length ks
+        → AllByRecursion (λ y. bytes_eq x.now y.now ≡ false) ks → bytes_eq x.now (get_or ks i d).now ≡ false
+    apart x [] i d l a = absurd (omega (arith, l))
+    apart x (y ∷ ks) zero d l a = a.0
+    apart x (y ∷ ks) (suc i) d l a = apart x ks i d (omega (arith, l)) a.1
 
--- those of the same first part are left out
-pub others_without : (x : ModuleUse) (used : Option VariableUse) (us : List ModuleUse) (n m : ℕ)
-    → n ≡ count_by (is_counted (record { variable = x.used.0; used = used; root = None })) us
-    → m ≡ count_by (is_counted (record { variable = x.used.0; used = used; root = Some (first_part x.owner.name) })) us
-    → n - m ≡ count_by (is_of_others x used true) us
-others_without x used us n m h k =
-    let alone = is_counted (record { variable = x.used.0; used = used; root = None }) in
-    let same : ModuleUse → Bool = λ y. bytes_eq (first_part x.owner.name) (first_part y.owner.name) in
-    (λ i. h i - (k ∙ count_alike _ (λ y. alone y && same y) us (λ y. sym (and_turned (bytes_eq x.used.0 y.used.0) (option_map_or (λ z. same_use z y.used.1) used true) (same y)))) i)
-    ∙ sym (count_without alone same us)
+excluded_at : (a b c : Bool) → ((a && (b && true)) && c) ≡ (a && (b && c))
+excluded_at true true c = refl
+excluded_at true false c = refl
+excluded_at false b c = refl
+
+or_false : (b : Bool) → (b || false) ≡ b
+or_false true = refl
+or_false false = refl
+
+-- one name more of those that are excluded
+pub excluded_turn : (v : Text) (used : Option VariableUse) (us : List ModuleUse) (ks : List (Bor Text)) (i : ℕ) (d : Bor Text) (a b c : ℕ)
+    → i < length ks → IsDistinct (λ x y. bytes_eq x.now y.now) ks
+    → a ≡ count_by (is_excluded_user v used (λ name. any_key name (take i ks))) us
+    → b ≡ count_by (is_counted (record { variable = v; used = used; root = Some (get_or ks i d).now })) us → c ≡ a + b
+    → c ≡ count_by (is_excluded_user v used (λ name. any_key name (take (i + 1) ks))) us
+excluded_turn v used us ks i d a b c l u h j e =
+    e ∙ ((λ z. h z + (j ∙ count_alike _ _ us (λ y. counted y)) z)
+    ∙ (sym (count_either (is_user v used) before now us (λ y t. apart y t))
+    ∙ count_alike _ _ us (λ y. ap (λ (b : Bool). is_user v used y && b) (more y))))
+  where
+    root : ModuleUse → Text
+    root y = first_part y.owner.name
+
+    before : ModuleUse → Bool
+    before y = any_key (root y) (take i ks)
+
+    now : ModuleUse → Bool
+    now y = bytes_eq (get_or ks i d).now (root y)
+
+    counted : (y : ModuleUse) → is_counted (record { variable = v; used = used; root = Some (get_or ks i d).now }) y ≡ (is_user v used y && now y)
+    counted y = sym (excluded_at (bytes_eq v y.used.0) (option_map_or (λ x. same_use x y.used.1) used true) (now y))
+
+    apart : (y : ModuleUse) → now y ≡ true → before y ≡ false
+    apart y t = ap (λ (n : Text). any_key n (take i ks)) (sym (same_text (get_or ks i d).now (root y) t)) ∙ not_before ks i d l u
+
+    more : (y : ModuleUse) → (before y || now y) ≡ any_key (root y) (take (i + 1) ks)
+    more y =
+        ap (λ (b : Bool). before y || b) (bytes_eq-symmetric (get_or ks i d).now (root y) ∙ sym (or_false (bytes_eq (root y) (get_or ks i d).now)))
+        ∙ (sym (list_any-append (λ z. bytes_eq (root y) z.now) (take i ks) (get_or ks i d ∷ []))
+        ∙ ap (any_key (root y)) (sym (take_more ks i d l)))
+
+nought : (b : Bool) (n : ℕ) → cond (b && false) 1 0 + n ≡ n
+nought true n = omega arith
+nought false n = omega arith
+
+-- none is excluded where no name is
+pub none_excluded : (v : Text) (used : Option VariableUse) (us : List ModuleUse) → (let n : ℕ = 0 in n) ≡ count_by (is_excluded_user v used (λ name. any_key name [])) us
+none_excluded v used [] = refl
+none_excluded v used (y ∷ us) =
+    none_excluded v used us ∙ sym (sum_by-cons (λ z. cond (is_user v used z && false) 1 0) y us ∙ nought (is_user v used y) (count_by (is_excluded_user v used (λ name. any_key name [])) us))
+
+-- the others are those that aren't excluded
+pub others_left : (v : Text) (used : Option VariableUse) (excluded : Text → Bool) (us : List ModuleUse) (n m : ℕ)
+    → n ≡ count_by (is_user v used) us → m ≡ count_by (is_excluded_user v used excluded) us
+    → n - m ≡ count_by (is_other_user v used excluded) us
+others_left v used excluded us n m h k =
+    (λ i. h i - k i) ∙ sym (count_without (is_user v used) (λ y. excluded (first_part y.owner.name)) us)
 
 go_itself : (x y : VariableUse) → go_together x x ≡ true → go_together x y ≡ same_use x y
 go_itself x y h = by_test (same_use x y) _
@@ -259,23 +333,30 @@ all_rivals true g true h = rw h refl
 all_rivals true g false h = rw h refl
 all_rivals false g s h = refl
 
+-- what the conflicts exclude, by another test of names
+rivals_by : (x : ModuleUse) (excluded : Text → Bool) (us : List ModuleUse) → ((name : Text) → excluded name ≡ has name (conflict_names x.owner.records))
+    → count_by (λ y. bytes_eq x.used.0 y.used.0 && (not (go_together x.used.1 y.used.1) && not (excluded (first_part y.owner.name)))) us ≡ count_by (is_rival x) us
+rivals_by x excluded us e = count_alike _ _ us (λ y. ap (λ (b : Bool). bytes_eq x.used.0 y.used.0 && (not (go_together x.used.1 y.used.1) && not b)) (e (first_part y.owner.name)))
+
 -- where its use goes together with none
-pub rivals_all : (x : ModuleUse) (us : List ModuleUse) (n : ℕ) → go_together x.used.1 x.used.1 ≡ false
-    → n ≡ count_by (is_of_others x None (excludes_versions x.owner)) us → n ≡ count_by (is_rival x) us
-rivals_all x us n h k = k ∙ count_alike _ _ us (λ y. all_rivals (bytes_eq x.used.0 y.used.0) (go_together x.used.1 y.used.1)
-    (excludes_versions x.owner && bytes_eq (first_part x.owner.name) (first_part y.owner.name)) (go_alone x.used.1 y.used.1 h))
+pub rivals_all : (x : ModuleUse) (excluded : Text → Bool) (us : List ModuleUse) (n : ℕ) → ((name : Text) → excluded name ≡ has name (conflict_names x.owner.records))
+    → go_together x.used.1 x.used.1 ≡ false → n ≡ count_by (is_other_user x.used.0 None excluded) us → n ≡ count_by (is_rival x) us
+rivals_all x excluded us n e h k =
+    k ∙ (count_alike _ _ us (λ y. all_rivals (bytes_eq x.used.0 y.used.0) (go_together x.used.1 y.used.1) (excluded (first_part y.owner.name)) (go_alone x.used.1 y.used.1 h))
+    ∙ rivals_by x excluded us e)
 
 -- where it goes together with the same use
-pub rivals_without : (x : ModuleUse) (us : List ModuleUse) (n m : ℕ) → go_together x.used.1 x.used.1 ≡ true
-    → n ≡ count_by (is_of_others x None (excludes_versions x.owner)) us → m ≡ count_by (is_of_others x (Some x.used.1) (excludes_versions x.owner)) us
+pub rivals_without : (x : ModuleUse) (excluded : Text → Bool) (us : List ModuleUse) (n m : ℕ) → ((name : Text) → excluded name ≡ has name (conflict_names x.owner.records))
+    → go_together x.used.1 x.used.1 ≡ true → n ≡ count_by (is_other_user x.used.0 None excluded) us → m ≡ count_by (is_other_user x.used.0 (Some x.used.1) excluded) us
     → n - m ≡ count_by (is_rival x) us
-rivals_without x us n m h k l =
-    let others = is_of_others x None (excludes_versions x.owner) in
+rivals_without x excluded us n m e h k l =
+    let others = is_other_user x.used.0 None excluded in
     let same : ModuleUse → Bool = λ y. same_use x.used.1 y.used.1 in
-    let kin : ModuleUse → Bool = λ y. excludes_versions x.owner && bytes_eq (first_part x.owner.name) (first_part y.owner.name) in
-    (λ i. k i - (l ∙ count_alike _ (λ y. others y && same y) us (λ y. alike_at (bytes_eq x.used.0 y.used.0) (same y) (kin y))) i)
+    let out : ModuleUse → Bool = λ y. excluded (first_part y.owner.name) in
+    (λ i. k i - (l ∙ count_alike _ (λ y. others y && same y) us (λ y. alike_at (bytes_eq x.used.0 y.used.0) (same y) (out y))) i)
     ∙ (sym (count_without others same us)
-    ∙ count_alike _ _ us (λ y. ap (λ (b : Bool). others y && not b) (sym (go_itself x.used.1 y.used.1 h)) ∙ rival_at (bytes_eq x.used.0 y.used.0) (go_together x.used.1 y.used.1) (kin y)))
+    ∙ (count_alike _ _ us (λ y. ap (λ (b : Bool). others y && not b) (sym (go_itself x.used.1 y.used.1 h)) ∙ rival_at (bytes_eq x.used.0 y.used.0) (go_together x.used.1 y.used.1) (out y))
+    ∙ rivals_by x excluded us e))
 
 -- how many use a variable so
 pub alike_counted : (v : Text) (x : VariableUse) (us : List ModuleUse) (n : ℕ) → n ≡ count_by (is_counted (record { variable = v; used = Some x; root = None })) us

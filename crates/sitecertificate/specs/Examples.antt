@@ -150,7 +150,7 @@ SetAndUnset =
 -- or one unsets a value and the other keeps the variable absent,
 abbrev pub UnsetAndAbsent : Type 0
 UnsetAndAbsent =
-    SecondIsCertified (first (conflict (codes "n") ∷ unsets (codes "x") ∷ [])) (second (keeps_absent ∷ []))
+    FirstIsCertified (first (conflict (codes "n") ∷ unsets (codes "x") ∷ [])) (second (keeps_absent ∷ []))
 
 -- or they unset two values,
 abbrev pub TwoValues : Type 0

@@ -16,19 +16,15 @@ use Rattle.sitecertificate.specs.Users.{ModuleUse, first_part, uses_of_module, u
 abbrev pub users_alike : List Module → Text → VariableUse → ℕ
 users_alike ms v x = count_by (λ u. bytes_eq v u.used.0 && same_use x u.used.1) (uses_of_modules ms)
 
--- The module is in conflict with the first part of its own name, and so with all its versions.
-abbrev pub excludes_versions : Module → Bool
-excludes_versions m = has (first_part m.name) (conflict_names m.records)
-
--- versions of one module, of which the first excludes the others
-abbrev pub are_exclusive_versions : Module → Module → Bool
-are_exclusive_versions m n = excludes_versions m && bytes_eq (first_part m.name) (first_part n.name)
+-- A conflict of the first module names the first part of the second's name, and so means all its versions.
+abbrev pub excludes_versions : Module → Module → Bool
+excludes_versions m n = has (first_part n.name) (conflict_names m.records)
 
 -- The second user is a rival of the first: it uses the variable in a way that doesn't go together with that of the
--- first, and is no version that the first excludes.
+-- first, which doesn't exclude all its versions.
 abbrev pub is_rival : ModuleUse → ModuleUse → Bool
 is_rival x y =
-    bytes_eq x.used.0 y.used.0 && (not (go_together x.used.1 y.used.1) && not (are_exclusive_versions x.owner y.owner))
+    bytes_eq x.used.0 y.used.0 && (not (go_together x.used.1 y.used.1) && not (excludes_versions x.owner y.owner))
 
 -- How many rivals a module has among these, in all its variables.
 abbrev pub rivals : List Module → Module → ℕ

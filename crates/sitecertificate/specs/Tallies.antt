@@ -59,9 +59,14 @@ CountsMore old new more = (users : List ModuleUse) → HasCounts old users → H
 abbrev pub CountsOne : Tally → Tally → CodeCounted → Type 0
 CountsOne old new k = (c : CodeCounted) → counted_at new c ≡ counted_at old c + (if same_counted k c then 1 else 0)
 
--- The second uses the variable of the first, in this way where one is given; and where the first part of their names is
--- excluded, it has another.
-abbrev pub is_of_others : ModuleUse → Option VariableUse → Bool → ModuleUse → Bool
-is_of_others x used excluded y =
-    is_counted (record { variable = x.used.0; used = used; root = None }) y
-    && not (excluded && bytes_eq (first_part x.owner.name) (first_part y.owner.name))
+-- the user uses the variable, in this way where one is given
+abbrev pub is_user : Text → Option VariableUse → ModuleUse → Bool
+is_user v used y = is_counted (record { variable = v; used = used; root = None }) y
+
+-- it does, and the first part of its name is excluded
+abbrev pub is_excluded_user : Text → Option VariableUse → (Text → Bool) → ModuleUse → Bool
+is_excluded_user v used excluded y = is_user v used y && excluded (first_part y.owner.name)
+
+-- it does, and the first part of its name isn't excluded
+abbrev pub is_other_user : Text → Option VariableUse → (Text → Bool) → ModuleUse → Bool
+is_other_user v used excluded y = is_user v used y && not (excluded (first_part y.owner.name))

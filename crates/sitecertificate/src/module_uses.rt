@@ -1,16 +1,12 @@
 //! Modules with what they use, computed once for each.
-ghost use Rattle.std.specs.Prelude.{◌≡◌, map, string_bytes, IfOk};
+ghost use Rattle.std.specs.Prelude.{◌≡◌, map, IfOk};
 ghost use Rattle.modulefile.specs.RecordViews.{record_view};
-ghost use Rattle.envvars.specs.Texts.{has};
-ghost use Rattle.modulefile.specs.Records.{conflict_names};
 ghost use Rattle.modules.specs.MoveViews.{module_view};
 ghost use Rattle.sitecertificate.specs.RecordUses as uses;
 ghost use Rattle.sitecertificate.specs.EachOnce.{each_once};
-ghost use Rattle.sitecertificate.specs.FirstParts.{first_part};
 ghost use Rattle.sitecertificate.specs.UseViews.{used_view};
 
 use crate::once::each_once;
-use crate::pairs::excludes_versions;
 use crate::uses::{UsedVariable, used_by};
 use modules::Module;
 use std::alloc::{AllocError, Global};
@@ -22,11 +18,7 @@ pub(crate) struct UsingModule<'a> {
     pub(crate) owner: &'a Module,
     /// What its records use, each use once.
     pub(crate) used: Vec<UsedVariable>,
-    /// Whether it is in conflict with the first part of its own name, and so with all its versions.
-    pub(crate) excludes_versions: bool,
     ghost exact: { map used_view used.items ≡ each_once (uses.used_by (map record_view owner.now.records.items)) },
-    ghost exclusive: { excludes_versions ≡ has (first_part (string_bytes owner.now.name))
-        (conflict_names (map record_view owner.now.records.items)) },
 }
 
 impl<'a> UsingModule<'a> {
@@ -39,7 +31,6 @@ impl<'a> UsingModule<'a> {
         Ok(UsingModule {
             owner,
             used: each_once(alloc, all_used.as_slice())?,
-            excludes_versions: excludes_versions(owner),
         })
     }
 }

@@ -1,15 +1,12 @@
 //! Two modules: whether they exclude each other, so that they are never loaded at once.
-ghost use Rattle.std.specs.Prelude.{◌≡◌, map, bytes_eq, string_bytes};
+ghost use Rattle.std.specs.Prelude.{◌≡◌, map, string_bytes};
 ghost use Rattle.std.specs.List.{list_any};
 ghost use Rattle.modulename.specs.ModuleName.{means};
-ghost use Rattle.envvars.specs.Texts.{has};
-ghost use Rattle.modulefile.specs.Records.{conflicts_of, conflict_names};
+ghost use Rattle.modulefile.specs.Records.{conflicts_of};
 ghost use Rattle.modulefile.specs.RecordViews.{record_view};
 ghost use Rattle.modules.specs.MoveViews.{module_view};
-ghost use Rattle.sitecertificate.specs.FirstParts.{first_part};
 ghost use Rattle.sitecertificate.specs.Clashes as clashes;
 
-use crate::names::first_part;
 use modulefile::Record;
 use modulename::means;
 use modules::Module;
@@ -36,37 +33,6 @@ fn are_in_conflict_with(records: &[Record], full_name: &str) -> bool
     records
         .iter()
         .any(|recorded| is_conflict_with(recorded, full_name))
-}
-
-/// Whether one of the names is this one.
-fn is_named(names: &[String], wanted: &str) -> bool
-    ensures { result ≡ list_any (bytes_eq wanted.now) (map string_bytes names.now) }
-{
-    names.iter().any(|name| wanted == name.as_str())
-}
-
-/// Whether the record is a `conflict` with this name.
-fn is_conflict_of(recorded: &Record, wanted: &str) -> bool
-    ensures { result ≡ list_any (bytes_eq wanted.now) (conflicts_of (record_view recorded.now)) }
-{
-    is_named(recorded.conflicts(), wanted)
-}
-
-/// Whether a conflict among the records names this one.
-fn is_among_conflicts(records: &[Record], wanted: &str) -> bool
-    ensures { result ≡ list_any (λ r. list_any (bytes_eq wanted.now) (conflicts_of (record_view r))) records.now }
-{
-    records
-        .iter()
-        .any(|recorded| is_conflict_of(recorded, wanted))
-}
-
-/// Whether the module is in conflict with the first part of its own name, and so with all its versions.
-pub fn excludes_versions(module: &Module) -> bool
-    ensures { result ≡ has (first_part (string_bytes module.now.name))
-        (conflict_names (map record_view module.now.records.items)) }
-{
-    is_among_conflicts(module.records.as_slice(), first_part(module.name.as_str()))
 }
 
 /// Whether a conflict of the first module means the second.

@@ -48,7 +48,7 @@ fn with_rivals<'a>(
 {
     let mut ranks = Vec::with_capacity(alloc, users.len())?;
     for candidate in users {
-        let rivals = tally.rivals(candidate)?;
+        let rivals = tally.rivals(alloc, candidate)?;
         ranks.push(Ranked { rivals, candidate })?;
     }
     Ok(ranks)

@@ -2,14 +2,19 @@
 ghost use Rattle.std.specs.Prelude.{◌≡◌, ◌+◌, [], ◌∷◌, List, map, IfOk, OnOk};
 ghost use Rattle.std.specs.List.{count_by};
 ghost use Rattle.std.specs.Option.{option_map};
+ghost use Rattle.envvars.specs.Texts.{Text, has};
+ghost use Rattle.modulefile.specs.Records as records;
 ghost use Rattle.modulefile.specs.Moves as moves;
 ghost use Rattle.sitecertificate.specs.Users.{ModuleUse, uses_of_module, uses_of_modules};
-ghost use Rattle.sitecertificate.specs.Ranks.{is_rival, rivals, excludes_versions};
+ghost use Rattle.sitecertificate.specs.Ranks.{is_rival, rivals};
 ghost use Rattle.sitecertificate.specs.UserViews.{user_view};
 ghost use Rattle.sitecertificate.specs.UseKeys.{key_view};
-ghost use Rattle.sitecertificate.specs.Tallies.{counted_at, HasCounts, CountsMore, CountsOne, is_of_others};
+ghost use Rattle.sitecertificate.specs.Conflicts.{has_name};
+ghost use Rattle.sitecertificate.specs.Tallies.{counted_at, HasCounts, CountsMore, CountsOne};
+ghost use Rattle.sitecertificate.specs.Tallies.{is_excluded_user, is_other_user};
 ghost use Rattle.sitecertificate.specs.UsingModules.{module_of};
 
+use crate::conflicts::{Names, conflict_names};
 use crate::keys::{UseKey, key_of};
 use crate::module_uses::UsingModule;
 use crate::users::User;
@@ -120,53 +125,80 @@ impl<'a> Tally<'a> {
         Ok(tally)
     }
 
-    /// How many use the variable of this user, in the way that is given, if one is; where the first part of its name is
-    /// excluded, only those of whom it isn't the first part.
-    fn others<'u>(&self, user: User<'u>, used: Option<UseKey<'u>>, is_excluded: bool) -> usize
-        ensures { (us : List ModuleUse) → HasCounts self.now us → result
-            ≡ count_by (is_of_others (user_view user.entry) (option_map key_view used.entry) is_excluded) us }
+    /// How many use the variable, in the way that is given, if one is, of whose names the first part is one of these.
+    fn excluded<'u>(
+        &self,
+        variable: &'u str,
+        used: Option<UseKey<'u>>,
+        names: &Names<'u>,
+    ) -> Result<usize, AllocError>
+        ensures { IfOk result (λ number. (us : List ModuleUse) → HasCounts self.now us → number
+            ≡ count_by (is_excluded_user variable.now (option_map key_view used.entry) (has_name names.now)) us) }
     {
-        let variable = user.variable();
+        let roots = names.as_slice();
+        let mut number = 0_usize;
+        for name in roots {
+            let root = Some(*name);
+            let count = self.count(Counted {
+                variable,
+                used,
+                root,
+            });
+            number = sum_of(number, count)?;
+        }
+        Ok(number)
+    }
+
+    /// How many use the variable, in the way that is given, if one is, of whose names the first part is none of these.
+    fn others<'u>(
+        &self,
+        variable: &'u str,
+        used: Option<UseKey<'u>>,
+        names: &Names<'u>,
+    ) -> Result<usize, AllocError>
+        ensures { IfOk result (λ number. (us : List ModuleUse) → HasCounts self.now us → number
+            ≡ count_by (is_other_user variable.now (option_map key_view used.entry) (has_name names.now)) us) }
+    {
+        let root = None;
         let all = self.count(Counted {
             variable,
             used,
-            root: None,
-        });
-        if !is_excluded {
-            return all;
-        }
-        let root = Some(user.root());
-        all.saturating_sub(self.count(Counted {
-            variable,
-            used,
             root,
-        }))
+        });
+        Ok(all.saturating_sub(self.excluded(variable, used, names)?))
     }
 
-    /// How many rivals this user has.
-    fn rivals_of(&self, user: User<'_>, is_excluded: bool) -> usize
-        requires { is_excluded ≡ excludes_versions (user_view user).owner }
-        ensures { (us : List ModuleUse) → HasCounts self.now us
-            → result ≡ count_by (is_rival (user_view user.entry)) us }
+    /// How many rivals this user has, whose module is in conflict with these names.
+    fn rivals_of<'u>(&self, user: User<'u>, names: &Names<'u>) -> Result<usize, AllocError>
+        requires { (name : Text) → has_name names.now name
+            ≡ has name (records.conflict_names (user_view user).owner.records) }
+        ensures { IfOk result (λ number. (us : List ModuleUse) → HasCounts self.now us
+            → number ≡ count_by (is_rival (user_view user.entry)) us) }
     {
+        let variable = user.variable();
         let used = &user.used.used;
-        let others = self.others(user, None, is_excluded);
+        let others = self.others(variable, None, names)?;
         if !go_together(used, used) {
-            return others;
+            return Ok(others);
         }
-        others.saturating_sub(self.others(user, Some(key_of(used)), is_excluded))
+        let alike = self.others(variable, Some(key_of(used)), names)?;
+        Ok(others.saturating_sub(alike))
     }
 
     /// How many rivals a module has.
-    pub(crate) fn rivals(&self, candidate: &UsingModule<'_>) -> Result<usize, AllocError>
+    pub(crate) fn rivals<'u>(
+        &self,
+        alloc: Global,
+        candidate: &'u UsingModule<'u>,
+    ) -> Result<usize, AllocError>
         ensures { IfOk result (λ number. (ms : List moves.Module) → HasCounts self.now (uses_of_modules ms)
-            → number ≡ rivals ms (module_of candidate.now)) }
+            → number ≡ rivals ms (module_of candidate.entry.now)) }
     {
-        let is_excluded = candidate.excludes_versions;
+        let names = conflict_names(alloc, candidate.owner.records.as_slice())?;
         let mut number = 0_usize;
         for used in &candidate.used {
             let owner = candidate.owner;
-            let rivals = self.rivals_of(User { owner, used }, is_excluded);
+            let rivals = self.rivals_of(User { owner, used }, &names)?;
             number = sum_of(number, rivals)?;
         }
         Ok(number)

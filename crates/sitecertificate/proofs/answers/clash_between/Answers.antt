@@ -1,4 +1,4 @@
-use Rattle.std.proofs.Common.{Some, None, map, ◌∙◌}
+use Rattle.std.proofs.Common.{Some, None}
 use Rattle.std.specs.Prelude.{string_bytes}
 use Rattle.sitecertificate.specs.Users.{uses_of_modules}
 use Rattle.sitecertificate.specs.UseViews.{use_view}

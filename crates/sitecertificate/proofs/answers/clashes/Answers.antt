@@ -2,11 +2,9 @@ use Rattle.std.proofs.Common.{◌≡◌, List, map, ap, ◌∙◌, subst}
 use Rattle.std.proofs.lemmas.Result.{IfOk-weaker}
 use Rattle.modulefile.specs.Moves.{Module}
 use Rattle.modules.specs.MoveViews.{module_view}
-use Rattle.reversal.specs.VariableUses.{UsedVariable}
 use Rattle.sitecertificate.specs.ClashAnswers.{AreAnswers, without_clashes}
 use Rattle.sitecertificate.specs.EachOnce.{each_once}
 use Rattle.sitecertificate.specs.RecordUses.{used_by_modules}
-use Rattle.sitecertificate.specs.UseViews.{used_view}
 use Rattle.sitecertificate.specs.UsingModules.{module_of}
 use Rattle.sitecertificate.proofs.answers.clashes.Goals as goal
 

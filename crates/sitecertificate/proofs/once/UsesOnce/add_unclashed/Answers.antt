@@ -1,4 +1,4 @@
-use Rattle.std.proofs.Common.{List, None, map, sym, ap, ◌∙◌, subst, append-nil}
+use Rattle.std.proofs.Common.{List, map, sym, ap, ◌∙◌, subst, append-nil}
 use Rattle.std.proofs.lemmas.Result.{on_ok_weaker}
 use Rattle.indexmap.specs.IndexSet.{insert_all}
 use Rattle.reversal.specs.VariableUses.{UsedVariable}

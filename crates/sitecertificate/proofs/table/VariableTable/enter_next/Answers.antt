@@ -1,4 +1,3 @@
-use Rattle.std.proofs.Common.{List}
 use Rattle.std.proofs.lemmas.Result.{on_ok_weaker}
 use Rattle.sitecertificate.specs.Users.{EntersAll, uses_of_module}
 use Rattle.sitecertificate.specs.Tables.{users_at}

@@ -1,5 +1,4 @@
-use Rattle.std.proofs.Common.{List, subst}
-use Rattle.sitecertificate.specs.Users.{ModuleUse}
+use Rattle.std.proofs.Common.{subst}
 use Rattle.sitecertificate.specs.Tallies.{CountsMore}
 use Rattle.sitecertificate.specs.UsingModules.{module_of}
 use Rattle.sitecertificate.proofs.AnswerLemmas.{uses_through}

@@ -1,4 +1,4 @@
-use Rattle.std.proofs.Common.{◌≡◌, List, ap, ◌∙◌}
+use Rattle.std.proofs.Common.{ap, ◌∙◌}
 use Rattle.std.specs.List.{count_by, sum_by}
 use Rattle.sitecertificate.specs.Users.{ModuleUse, uses_of_modules}
 use Rattle.sitecertificate.specs.Ranks.{is_rival}
@@ -10,9 +10,9 @@ use Rattle.sitecertificate.proofs.tally.Tally.rivals.Goals as goal
 pub loop-used-preserved : goal.loop-used-preserved
 loop-used-preserved c = λ ms have.
     sum_turn (λ (x : ModuleUse). count_by (is_rival x) (uses_of_modules ms)) (module_of c.args.candidate.now)
-    c.deref-used-items.result.now c.loop-used.used-index c.used-item.result c.loop-used.number c.rivals_of-rivals.result
+    c.deref-used-items.result.now c.loop-used.used-index c.used-item.result c.loop-used.number c.in_ok-rivals.rivals
     c.in_ok-number.number c.loop-used-test.true c.used-item.is (c.loop-used.invariant ms have)
-    (c.rivals_of-rivals.ensures (uses_of_modules ms) have) c.in_ok-number.ensures
+    (c.in_ok-rivals.ensures (uses_of_modules ms) have) c.in_ok-number.ensures
 
 pub returns : goal.returns
 returns c = λ ms have.
