@@ -612,9 +612,10 @@ ROWS = {
     "a value unset here, and kept absent there": (
         {"/m/a/1": "conflict b\nunsetenv V x\n", "/m/b/1": "unsetenv V\n"},
         [
-            ("a/1", "clashes", "V: unset of 'x' here, unset in b/1 (/m/b/1); used so by 1"),
-            ("b/1", "certified", ""),
+            ("a/1", "certified", ""),
+            ("b/1", "clashes", "V: unset here, unset of 'x' in a/1 (/m/a/1); used so by 1"),
         ],
+        ["# environment: V isn't 'x'"],
     ),
     "a path and a stack": (
         {"/m/a/1": "append-path V b\n", "/m/b/1": "pushenv V c\n"},
@@ -637,6 +638,18 @@ ROWS = {
             ("a/1", "certified", ""),
             ("b/1", "clashes", "V: set here, path with ':' in b/2 (/m/b/2); used so by 1"),
             ("b/2", "certified", ""),
+        ],
+    ),
+    "a conflict that one of three forgot": (
+        {
+            "/m/a/1": "conflict a\nsetenv V x\n",
+            "/m/b/1": "conflict b c\nsetenv V y\n",
+            "/m/c/1": "conflict b c\nsetenv V z\n",
+        },
+        [
+            ("a/1", "clashes", "V: set here, set in b/1 (/m/b/1); used so by 3"),
+            ("b/1", "certified", ""),
+            ("c/1", "certified", ""),
         ],
     ),
     # Directories.

@@ -57,7 +57,7 @@ RARE = (
 # Of the choice among modules that clash, each with what it is for.
 CHOICES = {
     "the rivals": "those that most get on with stay",
-    "the versions that exclude one another": "those that most get on with stay",
+    "the versions that conflicts exclude": "those that most get on with stay",
     "the names": "the order of the files makes no difference",
 }
 
@@ -281,19 +281,18 @@ def first_part(name):
     return name.partition("/")[0]
 
 
-def are_exclusive_versions(one, other):
-    """Versions of one module, of which the first excludes the others."""
-    if is_without("the versions that exclude one another"):
+def excludes_versions(one, other):
+    """A conflict of the first module names the first part of the second's name, and so means all its versions."""
+    if is_without("the versions that conflicts exclude"):
         return False
-    part = first_part(one.name)
-    return part in names_of_conflicts(one.records) and part == first_part(other.name)
+    return first_part(other.name) in names_of_conflicts(one.records)
 
 
 def rivals(module, modules):
     """How many uses there are of its variables by these modules that don't go together with its own."""
     if is_without("the rivals"):
         return 0
-    others = [other for other in modules if not are_exclusive_versions(module, other)]
+    others = [other for other in modules if not excludes_versions(module, other)]
     uses = [use for other in others for use in dict.fromkeys(uses_of(other))]
     pairs = [(own, its) for name, own in dict.fromkeys(uses_of(module)) for theirs, its in uses if name == theirs]
     return sum(not go_together(*pair) for pair in pairs)
