@@ -314,7 +314,7 @@ def test_sessions_of_certified_modules(site, written, number):
     returns(site(written), written.certified, number)
 
 
-@each_site
+@pytest.mark.parametrize("written", [it for it in SITES if it.harmless], ids=lambda written: written.name)
 @pytest.mark.parametrize("number", range(SESSIONS))
 def test_sessions_with_those_that_do_no_harm(site, written, number):
     returns(site(written), written.certified + written.harmless, number)
