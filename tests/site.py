@@ -1,6 +1,6 @@
-"""Three whole sites, as sites write them (site.txt, whose head says how to read it, sitefiles.txt and cluster.txt):
-what `modaudit` says of each of their modulefiles, sessions of those that are certified, and what the others leave or
-how they are refused.
+"""Four whole sites, as sites write them (site.txt, whose head says how to read it, sitefiles.txt, cluster.txt and
+campus.txt): what `modaudit` says of each of their modulefiles, sessions of those that are certified, and what the
+others leave or how they are refused.
 
 The standings, the reasons and what is left are typed by hand from modaudit(1) and modulefile(5).
 """
@@ -19,7 +19,8 @@ from tests.harness import ENV, HERE, SECONDS, SH, same, true
 START = {"PATH": "/usr/bin:/bin", "HOME": "/home/u", "USER": "u"}
 
 COOKIE = "#%Module"
-PLACE = re.compile(r"((?i:compiler|mpi)/[^/]+|[^/]+)/(.+)")
+# A directory that modules add.
+ADDED = re.compile(r"(?i:compiler|mpi)/[^/]+")
 COUNTS = re.compile(
     r"Of these (\d+) modulefiles the profile admits (\d+), "
     r".* and of these (\d+) are certified\. (\d+) of the others do(?:es)? no harm"
@@ -29,7 +30,8 @@ COUNTS = re.compile(
 TOLD = {"reads", "asks", "used", "why", "needs", "where", "beside", "does", "ported"}
 OUTCOMES = {"left", "at load", "at unload"}
 
-# What the head of a site says of its translation, of which this share has to be certified at least.
+# What the head of a site says of its translation. Of each of these, and of the samples together as they stand, this
+# share has to be certified at least.
 PORTED_COUNTS = re.compile(r"the profile admits (\d+) of the \d+, and of these (\d+) are certified")
 CERTIFIED_SHARE = 0.9
 
@@ -65,15 +67,20 @@ exec env -0
 
 
 class File:
-    """A file of the site: its path below the directory of the site, how it stands, what is said of it, and its text."""
+    """A file of the site: its path below the directory of the site, how it stands, what is said of it, and its text.
 
-    def __init__(self, part):
+    It is in a directory that the MODULEPATH of the site has from the start, or in one that modules add.
+    """
+
+    def __init__(self, part, starts):
         head, _, text = part.partition(COOKIE)
         first, *lines = head.splitlines()
         self.path, self.standing = first.split(": ")
         self.text = COOKIE + text
         self.told = [line.split(": ", 1) for line in lines]
-        self.directory, self.name = PLACE.fullmatch(self.path).groups()
+        own = [start for start in starts if self.path.startswith(f"{start}/")]
+        self.directory = own[0] if own else ADDED.match(self.path).group()
+        self.name = self.path.removeprefix(f"{self.directory}/")
 
     def each(self, word):
         """What is said of it under a word, in each line."""
@@ -93,11 +100,13 @@ class Written:
         with open(os.path.join(HERE, name), encoding="utf-8") as file:
             self.head, *parts = re.split(r"^=== ", file.read(), flags=re.MULTILINE)
         self.ported_counts = PORTED_COUNTS.search(" ".join(self.head.split()))
-        self.files = [File(part) for part in parts]
+        self.files = [File(part, starts) for part in parts]
         self.defaults = [file for file in self.files if file.standing.startswith("default ")]
-        self.modules = [file for file in self.files if file not in self.defaults]
+        self.unread = [file for file in self.files if file.standing == "unread"]
+        self.modules = [file for file in self.files if file not in self.defaults + self.unread]
         self.certified = [file for file in self.modules if file.standing == "certified"]
         self.outside = [file for file in self.modules if file.standing == "outside"]
+        self.admitted = len(self.modules) - len(self.outside)
         self.others = [file for file in self.modules if file not in self.certified + self.outside]
         self.harmless = [file for file in self.others if file.only("why").startswith("harmless")]
         self.named = {file.name: file for file in reversed(self.modules)}
@@ -108,11 +117,35 @@ class Written:
         return list(dict.fromkeys(one for name in names for one in (*self.needed(self.named[name]), name)))
 
 
+# The directories of campus.txt, whose head says why they are all in MODULEPATH.
+CAMPUS = (
+    "site",
+    "core",
+    "apps",
+    "bio",
+    "ml",
+    "compiler/gcc/12.3.0",
+    "compiler/gcc/9.4.0",
+    "compiler/intel/2021.4.0",
+    "mpi/gcc/12.3.0/openmpi/4.1.5",
+    "mpi/gcc/12.3.0/mpich/4.1.2",
+    "mpi/gcc/9.4.0/openmpi/4.0.7",
+    "mpi/intel/2021.4.0/impi/2021.4.0",
+    "eb/2022b/all",
+    "spack/0.20/linux-rocky8-zen3",
+    "legacy/centos7",
+)
+
 SITES = [
     Written("site.txt", "/sw/modulefiles", ("core", "apps", "easybuild", "spack")),
     Written("sitefiles.txt", "/apps/modules", ("base", "licensed", "eb", "stack")),
     Written("cluster.txt", "/opt/site/modulefiles", ("Core", "ISV", "ebuild", "spackenv")),
+    Written("campus.txt", "/opt/cluster/modules", CAMPUS),
 ]
+
+# Those that were written before their writers had read anything of this project, whose heads say how they stand once
+# ported as well.
+SAMPLES = [written for written in SITES if written.ported_counts]
 
 each_site = pytest.mark.parametrize("written", SITES, ids=lambda written: written.name)
 
@@ -131,8 +164,7 @@ def each(kind):
 def test_the_counts(written):
     """Those of the head are those of the files."""
     said = COUNTS.search(" ".join(written.head.split()))
-    admitted = len(written.modules) - len(written.outside)
-    found = (len(written.modules), admitted, len(written.certified), len(written.harmless))
+    found = (len(written.modules), written.admitted, len(written.certified), len(written.harmless))
     same(tuple(map(int, said.groups())), found, "the counts of the head")
     same(len({file.path for file in written.files}), len(written.files), "files of different paths")
 
@@ -254,8 +286,17 @@ def test_how_the_modules_stand(site, written, note):
     counts = (len(written.certified), len(wanted))
     same((found["certified"], found["count"]), counts, "how many are certified, and how many are there")
     same(found["disagreements"], [], "what the start has against the certificate")
-    admitted = len(written.modules) - len(written.outside)
-    note(f"{written.name}: {len(written.certified)} certified of {admitted} that the profile admits")
+    unread = sorted(laid.real(f"{written.root}/{file.path}") for file in written.unread)
+    same(sorted(found["unread_default_files"]), unread, "the default files that aren't read")
+    note(f"{written.name}: {len(written.certified)} certified of {written.admitted} that the profile admits")
+
+
+def test_the_share_of_the_samples(note):
+    """Of all samples together at least nine of ten of those that the profile admits are certified as they stand."""
+    certified = sum(len(written.certified) for written in SAMPLES)
+    admitted = sum(written.admitted for written in SAMPLES)
+    true(certified >= CERTIFIED_SHARE * admitted, f"{certified} certified of {admitted}")
+    note(f"{', '.join(written.name for written in SAMPLES)}: {certified} certified of {admitted} together")
 
 
 def ported_standing(file):
@@ -263,7 +304,7 @@ def ported_standing(file):
     return "refused" if said == "outside" else said
 
 
-@pytest.mark.parametrize("written", [it for it in SITES if it.ported_counts], ids=lambda written: written.name)
+@pytest.mark.parametrize("written", SAMPLES, ids=lambda written: written.name)
 def test_how_the_modules_stand_once_ported(site, written, tmp_path, note):
     """As modport writes the site, at least nine of ten of those that the profile admits are certified."""
     laid, root = site(written), str(tmp_path / "ported")
@@ -314,7 +355,7 @@ def test_sessions_of_certified_modules(site, written, number):
     returns(site(written), written.certified, number)
 
 
-@each_site
+@pytest.mark.parametrize("written", [it for it in SITES if it.harmless], ids=lambda written: written.name)
 @pytest.mark.parametrize("number", range(SESSIONS))
 def test_sessions_with_those_that_do_no_harm(site, written, number):
     returns(site(written), written.certified + written.harmless, number)
