@@ -321,6 +321,22 @@ def test_how_the_modules_stand_once_ported(site, written, tmp_path, note):
     note(f"{written.name}: once ported {counts[1]} certified of {counts[0]} that the profile admits")
 
 
+# How many certified modules of a site need one that isn't, as its head says.
+LEFT_ALONE = {"cluster.txt": 3, "campus.txt": 14}
+
+
+@each_site
+def test_what_certified_modules_need(site, written):
+    """Each certified module can be loaded behind what it needs, but for those that need one that isn't certified."""
+    laid = site(written)
+    loads = {file.path: " ".join(["load", *written.needed(file), file.name]) for file in written.certified}
+    refusals = {path: laid.does(words, laid.start())[1] for path, words in loads.items()}
+    refused = {path: refusal for path, refusal in refusals.items() if refusal}
+    same(len(refused), LEFT_ALONE.get(written.name, 0), f"how many can't be loaded: {refused}")
+    told = [file.path for file in written.certified if file.path in refused and file.each("needs")]
+    same(told, [], "those of which it is said what they need")
+
+
 # Sessions of certified modules, and with others of which it is said that they do no harm.
 
 
