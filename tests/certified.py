@@ -2,7 +2,7 @@
 
 Random trees of modulefiles, of which each uses variables as it likes, and of which some read variables and leave what
 these say, some ask for the mode, the switch or the shell, and undo the same in each way or don't, some ask for
-something else, undo nothing or are refused; a random environment that agrees with some of what the certified modules of
+something else, undo nothing or are refused, and some are withheld by hand; a random environment that agrees with some of what the certified modules of
 the site use (`standings.py` says which these are, and which starts agree), and mostly has the values of the audit; and
 random lists of loads, unloads, switches and purges, in which each accepted load is of a certified module with whose
 uses the start agrees and whose reads have in it the values of the audit, and each unload of one that the session
@@ -41,11 +41,13 @@ MOST_SITES = 20_000
 
 
 class Site:
-    """A tree, a MODULEPATH where its site begins, the other variables of its audit, and what is certified there."""
+    """A tree, a MODULEPATH where its site begins, the other variables of its audit, the names of what is withheld, and
+    what is certified there."""
 
-    def __init__(self, tree, modulepath, others):
+    def __init__(self, tree, modulepath, others, without=()):
         self.tree = tree
         self.modulepath = modulepath
+        self.without = without
         self.at_hand = {**others, MODULEPATH: modulepath}
         self.known = {}
         self.directories = standings.site_directories(modulepath, self.modules_in)
@@ -62,7 +64,7 @@ class Site:
         """The module, which is evaluated once in each way."""
         module = self.tree.modules[path]
         if path not in self.known:
-            self.known[path] = SiteModule(name, path, lambda way: module.evaluated(name, dict(self.at_hand), way))
+            self.known[path] = SiteModule(name, path, lambda way: module.evaluated(name, dict(self.at_hand), way), self.without)
         return self.known[path]
 
 
@@ -84,6 +86,9 @@ HOME = "/home/x y"
 TEXTS = (HOME, "v", "a b", "")
 CONDITIONS = st.sampled_from(list(sentence.CONDITIONS))
 OTHERS = ("m", "k", "z", "z/1", "n", "w", "w_1", "m/1", "c", "a")
+# What may be withheld: mostly nothing.
+NAMED = st.sampled_from([*sentence.NAMES, *sentence.FOLDERS, *sentence.ODD_NAMES])
+WITHHELD = st.one_of(st.just([]), st.just([]), several(NAMED, 4))
 
 
 def odd_lines(variables):
@@ -194,7 +199,7 @@ def sites(draw, shell, dirs):
     tree = draw(sentence.trees(dirs, lines(dirs, kinds), in_all))
     first = draw(st.lists(st.sampled_from(dirs), min_size=1, max_size=3, unique=True))
     others = {"HOME": HOME, "OTHER": draw(st.sampled_from([*TEXTS, *sentence.startable(shell)]))}
-    return Site(tree, ":".join(first), others)
+    return Site(tree, ":".join(first), others, draw(WITHHELD))
 
 
 # Starts.
@@ -295,7 +300,8 @@ def sessions(draw, shell, top, product="", folders=("one", "two", "three", "four
 
 def audit_of(program, site, env):
     """The document that the program writes of a site in an environment, whose MODULEPATH is made the site's."""
-    done = subprocess.run([program, "--json"], env=judged(site, env), capture_output=True, timeout=60, check=False)
+    command = [program, "--json", *(word for name in site.without for word in ("--without", name))]
+    done = subprocess.run(command, env=judged(site, env), capture_output=True, timeout=60, check=False)
     if done.stderr or done.returncode not in (0, 1):
         raise Lost(f"modaudit ends with status {done.returncode}, and {done.stderr!r}")
     return json.loads(done.stdout)
@@ -632,7 +638,7 @@ CROWDS = [(LIB, LEGACY), (GCC, AOCC)]
 def choice_of(modules):
     """What is wrong of the choice among modules that clash, or none."""
     sure = standings.certified(modules)
-    others = [module for module in standings.in_step(modules) if module not in sure]
+    others = [module for module in standings.judged_together(modules) if module not in sure]
     if any(standings.clashes_of(one, other) for one in sure for other in sure):
         return "two certified modules clash"
     if not all(any(standings.clashes_of(module, other) for other in sure) for module in others):

@@ -430,9 +430,41 @@ ROWS = {
         {"/m/a/1": "getenv V\n", "/m/b/1": "setenv V x\nis-loaded\n", "/m/c/1": "setenv V x\nremove-path W y\n"},
         [("a/1", "certified", "reads V"), ("b/1", "asks", "is-loaded"), ("c/1", "one-way", "remove-path W y")],
     ),
-    "what modules use that aren't certified": (
-        {"/m/a/1": "getenv V\n", "/m/b/1": "setenv V x\npushenv V y\n"},
-        [("a/1", "reads-used", "V: read here, used in b/1 (/m/b/1)"), ("b/1", "out-of-step", "V: set, and stack")],
+    "what modules use that are out of step": (
+        {"/m/a/1": "getenv V\ngetenv MODULEPATH\n", "/m/b/1": "setenv V x\npushenv V y\n", "/m/c/1": "setenv MODULEPATH /n\n"},
+        [
+            ("a/1", "certified", "reads V, MODULEPATH"),
+            ("b/1", "out-of-step", "V: set, and stack"),
+            ("c/1", "out-of-step", "MODULEPATH: set, and path with ':'"),
+        ],
+    ),
+    "the first variable, and the first module, that is out of step": (
+        {
+            "/m/a/1": "getenv U\ngetenv V\n",
+            "/m/b/1": "setenv U x\npushenv U y\n",
+            "/m/c/1": "setenv V x\nsetenv W x\npushenv W y\n",
+            "/m/c/2": "setenv V x\n",
+        },
+        [
+            ("a/1", "reads-used", "V: read here, used in c/2 (/m/c/2)"),
+            ("b/1", "out-of-step", "U: set, and stack"),
+            ("c/1", "out-of-step", "W: set, and stack"),
+            ("c/2", "certified", ""),
+        ],
+        [FURTHER.format("c/1", "out-of-step", "clashes: V: set here, set in c/2 (/m/c/2); used so by 1")],
+    ),
+    "what a module uses that clashes": (
+        {"/m/a/1": "getenv V\n", "/m/b/1": "setenv W x\n", "/m/c/1": "setenv V x\nsetenv W y\n"},
+        [
+            ("a/1", "reads-used", "V: read here, used in c/1 (/m/c/1)"),
+            ("b/1", "certified", ""),
+            ("c/1", "clashes", "W: set here, set in b/1 (/m/b/1); used so by 2"),
+        ],
+    ),
+    "two that read what the other uses, of which one is out of step": (
+        {"/m/a/1": "getenv V\nsetenv W x\n", "/m/b/1": "getenv W\nsetenv V x\npushenv V y\n"},
+        [("a/1", "certified", "reads V"), ("b/1", "reads-used", "W: read here, used in a/1 (/m/a/1)")],
+        [FURTHER.format("b/1", "reads-used", "out-of-step: V: set, and stack")],
     ),
     "two that read what the other uses": (
         {"/m/a/1": "getenv V\nsetenv W x\n", "/m/b/1": "getenv W\nsetenv V x\n"},
@@ -897,7 +929,7 @@ def test_what_happens_in_the_directories_of_the_command(folder):
 
 def test_modules_that_are_withheld(folder):
     """Of those that would be judged together those are withheld that a name means; the others are judged without them,
-    and what asks, is refused or reads what they use stands as it does with them."""
+    and what asks or is refused stands as it does with them."""
     files = {
         "/m/ask/1": "setenv A 1\nis-loaded\n",
         "/m/b/1": "conflict b\nsetenv V 2\n",
@@ -908,19 +940,20 @@ def test_modules_that_are_withheld(folder):
         "/m/f/1": "nope\n",
     }
     site = Site(folder, files)
-    reads = "reads-used\tV: read here, used in b/1 (/m/b/1)\t/m/d/1"
+    reads = "reads-used\tV: read here, used in {0} (/m/{0})\t/m/d/1"
     besides = ["e/1\tout-of-step\tE: set, and stack\t/m/e/1", 'f/1\trefused\tinvalid command name "nope" (line 2)\t/m/f/1']
     first = "ask/1\tasks\tis-loaded\t/m/ask/1"
     lines = [first, "b/1\tcertified\t\t/m/b/1", "b/2\tcertified\t\t/m/b/2"]
-    lines += ["c/1\tclashes\tV: stack here, set in b/1 (/m/b/1); used so by 2\t/m/c/1", f"d/1\t{reads}", *besides]
+    lines += ["c/1\tclashes\tV: stack here, set in b/1 (/m/b/1); used so by 2\t/m/c/1", "d/1\t" + reads.format("b/1"), *besides]
     sums = ["# 1 asks", "# 1 reads-used", "# 1 out-of-step"]
     site.says([*lines, "# 2 certified of 7", *sums, "# 1 clashes", "# 1 refused"])
     left = [f"b/{number}\twithheld\t--without\t/m/b/{number}" for number in (1, 2)]
     for words in (("--without", "b"), ("--without", "b/1", "--without", "b/2"), ("--quiet", "--without", "b", "--")):
         kept = [] if "--quiet" in words else ["c/1\tcertified\t\t/m/c/1"]
-        site.says([first, *left, *kept, f"d/1\t{reads}", *besides, "# 1 certified of 7", *sums, "# 2 withheld", "# 1 refused"], *words)
+        beside = [*kept, "d/1\t" + reads.format("c/1"), *besides]
+        site.says([first, *left, *beside, "# 1 certified of 7", *sums, "# 2 withheld", "# 1 refused"], *words)
     clash = "c/1\tclashes\tV: stack here, set in b/2 (/m/b/2); used so by 1\t/m/c/1"
-    one = [first, left[0], "b/2\tcertified\t\t/m/b/2", clash, f"d/1\t{reads}", *besides]
+    one = [first, left[0], "b/2\tcertified\t\t/m/b/2", clash, "d/1\t" + reads.format("b/2"), *besides]
     site.says([*one, "# 1 certified of 7", *sums, "# 1 withheld", "# 1 clashes", "# 1 refused"], "--without", "b/1")
     for words in (("--without", "bb"), ("--without", "b/"), ("--without", ""), ("--without", "--json"), ("--without", "a")):
         site.says([*lines, "# 2 certified of 7", *sums, "# 1 clashes", "# 1 refused"], *words)
@@ -930,6 +963,85 @@ def test_modules_that_are_withheld(folder):
     site.refuses(f"Bad arguments\n{USAGE}", "--without")
     site.refuses(f"Bad arguments\n{USAGE}", "--quiet", "--without", "--", "b")
     site.refuses("Not a directory: '--without'", "--", "--without", "b")
+
+
+# Modules that read what withheld ones use: modulefiles, the names of what is withheld, and standings and remarks. So two
+# readers of each other can be certified one by one.
+SCRATCH = {"/m/mytmp/1": "setenv MYTMP [getenv SCRATCH /tmp]/tmp\n", "/m/scratch/1": "setenv SCRATCH /scratch/u\n"}
+EACH_OTHER = {"/m/a/1": "getenv V\nsetenv W x\n", "/m/b/1": "getenv W\nsetenv V x\n"}
+CHAIN = {"/m/a/1": "getenv V\n", "/m/b/1": "getenv W\nsetenv V x\n", "/m/c/1": "setenv W x\n"}
+ASKS_TOO = {"/m/a/1": "is-loaded\ngetenv V\n", "/m/b/1": "setenv V x\n"}
+READS_V = ("a/1", "reads-used", "V: read here, used in b/1 (/m/b/1)")
+READERS = {
+    "nothing is withheld": (
+        (SCRATCH, []),
+        [("mytmp/1", "reads-used", "SCRATCH: read here, used in scratch/1 (/m/scratch/1)"), ("scratch/1", "certified", "")],
+    ),
+    "the user is withheld": (
+        (SCRATCH, ["scratch"]),
+        [("mytmp/1", "certified", "reads SCRATCH"), ("scratch/1", "withheld", "--without")],
+    ),
+    "the reader is withheld": (
+        (SCRATCH, ["mytmp"]),
+        [("mytmp/1", "reads-used", "SCRATCH: read here, used in scratch/1 (/m/scratch/1)"), ("scratch/1", "certified", "")],
+    ),
+    "both are withheld": (
+        (SCRATCH, ["mytmp", "scratch"]),
+        [("mytmp/1", "withheld", "--without"), ("scratch/1", "withheld", "--without")],
+    ),
+    "another is withheld": (
+        (SCRATCH, ["scratch/2"]),
+        [("mytmp/1", "reads-used", "SCRATCH: read here, used in scratch/1 (/m/scratch/1)"), ("scratch/1", "certified", "")],
+    ),
+    "the first of two users is withheld": (
+        ({**SCRATCH, "/m/work/1": "unsetenv SCRATCH\n"}, ["scratch"]),
+        [
+            ("mytmp/1", "reads-used", "SCRATCH: read here, used in work/1 (/m/work/1)"),
+            ("scratch/1", "withheld", "--without"),
+            ("work/1", "certified", ""),
+        ],
+    ),
+    "one of two that read what the other uses is withheld": (
+        (EACH_OTHER, ["b"]),
+        [("a/1", "certified", "reads V"), ("b/1", "reads-used", "W: read here, used in a/1 (/m/a/1)")],
+    ),
+    "the other of them is withheld": (
+        (EACH_OTHER, ["a"]),
+        [READS_V, ("b/1", "certified", "reads W")],
+    ),
+    "both of them are withheld": (
+        (EACH_OTHER, ["a", "b"]),
+        [("a/1", "withheld", "--without"), ("b/1", "withheld", "--without")],
+    ),
+    "the user of a user is withheld": (
+        (CHAIN, ["c"]),
+        [READS_V, ("b/1", "certified", "reads W"), ("c/1", "withheld", "--without")],
+    ),
+    "the user in the middle is withheld": (
+        (CHAIN, ["b"]),
+        [
+            ("a/1", "certified", "reads V"),
+            ("b/1", "reads-used", "W: read here, used in c/1 (/m/c/1)"),
+            ("c/1", "certified", ""),
+        ],
+    ),
+    "nothing is withheld, and the reader asks too": (
+        (ASKS_TOO, []),
+        [("a/1", "asks", "is-loaded"), ("b/1", "certified", "")],
+        [FURTHER.format("a/1", "asks", "reads-used: V: read here, used in b/1 (/m/b/1)")],
+    ),
+    "the user is withheld, and the reader asks too": (
+        (ASKS_TOO, ["b"]),
+        [("a/1", "asks", "is-loaded"), ("b/1", "withheld", "--without")],
+    ),
+}
+
+
+@pytest.mark.parametrize(("given", "rows", "remarks"), [(*row, [])[:3] for row in READERS.values()], ids=READERS)
+def test_readers_of_what_withheld_modules_use(folder, given, rows, remarks):
+    files, names = given
+    site = Site(folder, files)
+    site.says(lines_of(files, rows, remarks), *(word for name in names for word in ("--without", name)))
 
 
 # Remarks.

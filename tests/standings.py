@@ -3,7 +3,8 @@
 It is written from the rules in the crates' pages (sites, certificates), and shares nothing with the definitions that
 the prover reads nor with the programs. `runs.py` has the edits of environments.
 
-A module's file is a function of the way in which it is evaluated (`ways.py`), in the environment of the audit. A use of
+A module's file is a function of the way in which it is evaluated (`ways.py`), in the environment of the audit. It may be
+withheld by hand. A use of
 a variable is what `runs.py` calls a way: ("fixed", None) where a module sets it, ("fixed", value) where it unsets this
 value, ("absent",) where it unsets it without a value, ("path", delimiter), or ("stack",).
 """
@@ -68,11 +69,13 @@ def is_without(clause):
 
 class SiteModule:
     """A module of a site: its name, its file, and what this leaves in each way, in the environment of the audit. It is
-    evaluated in the first way, and in those that this evaluation asks for."""
+    evaluated in the first way, and in those that this evaluation asks for. One that a name of `without` means is
+    withheld."""
 
-    def __init__(self, name, path, left):
+    def __init__(self, name, path, left, without=()):
         self.name = name
         self.path = path
+        self.is_withheld = any(means(given, name) for given in without)
         self.first = left(FIRST)
         self.others = {} if self.first.fault else {way: left(way) for way in other_ways(self.first.asked)}
         # Whether it is settled, by what is left out of the definition.
@@ -259,22 +262,27 @@ def uses(module, name):
     return any(name == used for used, _ in uses_of(module))
 
 
+def is_eligible(module):
+    """It may be certified: it is settled and in step, and isn't withheld."""
+    return is_settled(module) and not steps_out(module) and not module.is_withheld
+
+
 def used_read(module, modules):
-    """The first variable that a module reads and another settled one uses, and the first such one, or none."""
+    """The first variable that a module reads and another eligible one uses, and the first such one, or none."""
     if is_without("that nobody uses what is read"):
         return None
-    others = [other for other in modules if is_settled(other) and not is_same(module, other)]
+    others = [other for other in modules if is_eligible(other) and not is_same(module, other)]
     if is_without("that a reader's conflicts don't free it"):
         others = [other for other in others if not exclude(module, other)]
     return next(((name, other) for name in module.reads for other in others if uses(other, name)), None)
 
 
 def candidates(modules):
-    """The settled modules, of which no other uses what one reads."""
+    """The settled modules that read nothing which another eligible one uses."""
     return [module for module in modules if is_settled(module) and not used_read(module, modules)]
 
 
-# Which of the modules in step are certified, where some clash.
+# Which of the candidates are certified, where some clash.
 
 
 def first_part(name):
@@ -306,14 +314,15 @@ def in_rank(modules):
     return sorted(modules, key=lambda module: (rivals(module, modules), places[module]))
 
 
-def in_step(modules):
-    return [module for module in candidates(modules) if not steps_out(module)]
+def judged_together(modules):
+    """The candidates that may be certified."""
+    return [module for module in candidates(modules) if is_eligible(module)]
 
 
 def certified(modules):
-    """In their rank, each of the modules in step that clashes with no certified one before it."""
+    """In their rank, each of those that are judged together that clashes with no certified one before it."""
     sure = []
-    for module in in_rank(in_step(modules)):
+    for module in in_rank(judged_together(modules)):
         if not any(clashes_of(module, other) for other in sure):
             sure.append(module)
     return [module for module in modules if module in sure]
@@ -388,6 +397,8 @@ def standing_of(module, modules):
         return "reads-used"
     if steps_out(module):
         return "out-of-step"
+    if module.is_withheld:
+        return "withheld"
     return "certified" if module in certified(modules) else "clashes"
 
 

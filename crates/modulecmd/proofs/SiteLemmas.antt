@@ -16,8 +16,8 @@ use Rattle.requests.specs.Steps.{Done, RequestStep, request_context_in}
 use Rattle.sitecertificate.specs.RecordUses.{IsAmong, uses_by}
 use Rattle.sitecertificate.specs.Certificates.{certified}
 use Rattle.sitecertificate.specs.Laws.{IsAsCertified, AreCertifiedTogether, AreLayered, NoneIsLayered}
-use Rattle.sitelaws.specs.Sites.{Site, SiteModule, Reads, ReadsAlike, file_of, AreAmongCandidates}
-use Rattle.sitelaws.specs.Laws.{LoadsAreOf, AreReadAlike, SiteCommandsReturn, ChangesLeaveReads}
+use Rattle.sitelaws.specs.Sites.{Site, SiteModule, Reads, ReadsAlike, file_of}
+use Rattle.sitelaws.specs.Laws.{CanBeCertified, LoadsAreOf, AreReadAlike, SiteCommandsReturn, ChangesLeaveReads}
 use Rattle.modulecmd.specs.Command.{CommandResult, CommandHasResult, standard, with_shell}
 use Rattle.handchanges.specs.HandChanges.{HandChange, changed, IsHandChange, start_after}
 use Rattle.handchanges.specs.Events.{Event, act, by_hand, moves_of, EventsReachWhile}
@@ -49,7 +49,7 @@ abbrev Stands : Site → List Module → List Module → Environment → Environ
 Stands site ms live start e = AreLayered ms start live e × AreReadAlike site start live × (live ≡ [] → e ≡ start)
 
 command_stands : SiteCommandsReturn → OneEffect → DifferenceMakes → (judged_in : Environment) (files : Files) (listings : Listings) (ms : List Module)
-    → AreAmongCandidates (judged_site judged_in files listings) ms → (live : List Module) (start e next : Environment) (c : PrintedCommand)
+    → CanBeCertified (judged_site judged_in files listings) ms → (live : List Module) (start e next : Environment) (c : PrintedCommand)
     → Stands (judged_site judged_in files listings) ms live start e → AreNew start (command_moves c)
     → CommandLoads (judged_site judged_in files listings) (certified ms) start c → CommandMakes files listings c e next
     → Stands (judged_site judged_in files listings) ms (live_after live (command_moves c)) start next
@@ -68,17 +68,17 @@ same_file : (m c : Module) → c.name ≡ m.name → c.path ≡ m.path → file_
 same_file m c name path = λ i. record { name = name i; path = path i }
 
 -- what a live module reads keeps its values
-reads_left : ChangesLeaveReads → (site : Site) (ms live : List Module) (start e : Environment) (c : HandChange) → AreAmongCandidates site ms → AreLayered ms start live e
+reads_left : ChangesLeaveReads → (site : Site) (ms live : List Module) (start e : Environment) (c : HandChange) → CanBeCertified site ms → AreLayered ms start live e
     → IsHandChange (uses_by live) live e c → IsUnread site live c.variable → AreReadAlike site start live → AreReadAlike site (start_after (uses_by live) live start e c) live
 reads_left leave site ms live start e c all layered may unread alike m a =
     let k = live_certified ms live m layered.together a in
     let same = same_file m k.certain k.name k.path in
     subst (ReadsAlike site (start_after (uses_by live) live start e c)) same
-    (leave site ms live start e k.certain c (all k.certain k.certified.listed).settled.records
+    (leave site ms live start e k.certain c (all.settled k.certain k.certified.listed).records
     (subst (ReadsAlike site start) (sym same) (alike m a)) layered may
     (λ r. unread m a (subst (λ (f : SiteModule). Reads site f c.variable) same r)))
 
-change_stands : OneChangeHolds → ChangesLeaveReads → (site : Site) (ms : List Module) → AreAmongCandidates site ms
+change_stands : OneChangeHolds → ChangesLeaveReads → (site : Site) (ms : List Module) → CanBeCertified site ms
     → (live : List Module) (start e : Environment) (c : HandChange) (more : List Move) → Stands site ms live start e → AreNew start more
     → IsHandChange (uses_by live) live e c → IsUnread site live c.variable
     → Stands site ms live (start_after (uses_by live) live start e c) (changed c e) × AreNew (start_after (uses_by live) live start e c) more
@@ -91,7 +91,7 @@ change_stands change leave site ms all live start e c more stands news may unrea
     )
 
 events_stand : SiteCommandsReturn → OneEffect → DifferenceMakes → OneChangeHolds → ChangesLeaveReads
-    → (judged_in : Environment) (files : Files) (listings : Listings) (ms : List Module) → AreAmongCandidates (judged_site judged_in files listings) ms
+    → (judged_in : Environment) (files : Files) (listings : Listings) (ms : List Module) → CanBeCertified (judged_site judged_in files listings) ms
     → (events : List (Event PrintedCommand)) (live : List Module) (start e last_start last : Environment)
     → Stands (judged_site judged_in files listings) ms live start e → AreNew start (moves_of command_moves events)
     → HandsLeaveReads (judged_site judged_in files listings) live events

@@ -11,8 +11,8 @@ use Rattle.requests.specs.Returning.{AreNew}
 use Rattle.sitecertificate.specs.RecordUses.{IsAmong, uses_by}
 use Rattle.sitecertificate.specs.Certificates.{certified}
 use Rattle.sitecertificate.specs.Laws.{AreLayered}
-use Rattle.sitelaws.specs.Sites.{Site, site_of, Reads, file_of, AreAmongCandidates}
-use Rattle.sitelaws.specs.Laws.{LoadsAreOf}
+use Rattle.sitelaws.specs.Sites.{Site, site_of, Reads, file_of}
+use Rattle.sitelaws.specs.Laws.{CanBeCertified, LoadsAreOf}
 use Rattle.modulecmd.specs.Command.{standard}
 use Rattle.handchanges.specs.Events.{Event, act, by_hand, moves_of, EventsReachWhile}
 use Rattle.modulecmd.specs.Runs.{PrintedCommand, ShellsHold, moves_in, command_moves, CommandMakes}
@@ -21,16 +21,16 @@ use Rattle.modulecmd.specs.Runs.{PrintedCommand, ShellsHold, moves_in, command_m
 abbrev pub judged_site : Environment → Files → Listings → Site
 judged_site judged_in files listings = site_of standard judged_in files listings
 
--- These are candidates of the site, all or some: settled modules that read nothing which a settled module uses. From a
--- start whose loaded list is in order, after any commands that load only certified modules with whose uses the start
--- agrees and whose reads have in it the values of the environment that was judged, and unload no module of the start:
--- what the shell holds is in order and is the start with the modules that are live then layered on it. With none it is
--- the start.
+-- These modules can be certified: settled ones of the site, of which no certified one uses what a certified one reads.
+-- From a start whose loaded list is in order, after any commands that load only certified modules with whose uses the
+-- start agrees and whose reads have in it the values of the environment that was judged, and unload no module of the
+-- start: what the shell holds is in order and is the start with the modules that are live then layered on it. With none
+-- it is the start.
 abbrev pub SiteShellsReturn : Type 0
 SiteShellsReturn =
     (judged_in : Environment) (files : Files) (listings : Listings) (ms : List Module) (start last : Environment)
     (cs : List PrintedCommand)
-    → AreAmongCandidates (judged_site judged_in files listings) ms → AreLoadedInOrder start
+    → CanBeCertified (judged_site judged_in files listings) ms → AreLoadedInOrder start
     → ShellsHold files listings start cs last → AreNew start (moves_in cs)
     → LoadsAreOf (judged_site judged_in files listings) (certified ms) start (moves_in cs)
     → Holds (uses_by (live_after [] (moves_in cs))) start (live_after [] (moves_in cs)) last
@@ -59,7 +59,7 @@ abbrev pub SiteShellsAndHandsReturn : Type 0
 SiteShellsAndHandsReturn =
     (judged_in : Environment) (files : Files) (listings : Listings) (ms : List Module)
     (start last_start last : Environment) (events : List (Event PrintedCommand))
-    → AreAmongCandidates (judged_site judged_in files listings) ms → AreLoadedInOrder start
+    → CanBeCertified (judged_site judged_in files listings) ms → AreLoadedInOrder start
     → EventsReachWhile command_moves (CommandMakes files listings) uses_by
     (CommandLoads (judged_site judged_in files listings) (certified ms)) [] start start events last_start last
     → AreNew start (moves_of command_moves events)

@@ -1,7 +1,7 @@
 -- How modules stand further, by what each shows by itself, and by what is answered of clashes.
-use Rattle.std.proofs.Common.{◌≡◌, Bool, true, false, cond, List, [], ◌∷◌, ◌++◌, map, Option, Some, None}
+use Rattle.std.proofs.Common.{◌≡◌, Bool, true, false, cond, List, [], ◌∷◌, ◌++◌, map, Option}
 use Rattle.std.proofs.Common.{Result, Ok, Err, refl, ap, sym, ◌∙◌, subst}
-use Rattle.std.specs.Prelude.{flat_map, MatchOption, string_bytes}
+use Rattle.std.specs.Prelude.{flat_map, string_bytes}
 use Rattle.std.specs.List.{AllByRecursion}
 use Rattle.envvars.specs.Texts.{Text, texts_in}
 use Rattle.envvars.specs.Fields.{without_repeats}
@@ -11,29 +11,26 @@ use Rattle.modulefile.specs.Moves.{Module}
 use Rattle.modules.specs.declared.refusal.Refusal.{Refusal}
 use Rattle.requests.specs.Reasons.{RequestReason}
 use Rattle.settled.specs.Ways.{FileRuns, reads_in}
-use Rattle.sitecertificate.specs.RecordUses.{used_by, are_in_step}
 use Rattle.sitecertificate.specs.ClashAnswers as clashes
 use Rattle.sitecertificate.specs.ClashAnswers.{AreAnswers}
 use Rattle.sitecertificate.specs.declared.answers.Clash.{Clash}
 use Rattle.sitereads.specs.Answers.{IsAnswer}
 use Rattle.sitereads.specs.declared.readers.UsedRead.{UsedRead}
-use Rattle.sitelaws.specs.Sites.{SiteModule, Evaluated, with_records, reads_of, settled_among}
+use Rattle.sitelaws.specs.Sites.{SiteModule, Evaluated, with_records, reads_of, is_withheld}
 use Rattle.siteaudit.specs.declared.standing.Standing.{Standing}
 use Rattle.siteaudit.specs.declared.standing.Standing.TheVariants.{Withheld}
-use Rattle.siteaudit.specs.declared.standing.UnlikeUses.{UnlikeUses}
 use Rattle.siteaudit.specs.declared.standing.ModuleFinding.{ModuleFinding}
 use Rattle.siteaudit.specs.declared.standing.ModuleFinding.TheVariants.{Refused, Stands, InStep}
 use Rattle.siteaudit.specs.declared.judgement.OwnStanding.TheVariants.{Decided, Open}
 use Rattle.siteaudit.specs.declared.auditing.AuditedModule.{AuditedModule}
 use Rattle.siteaudit.specs.declared.walk.EvaluatedFile.{EvaluatedFile}
-use Rattle.siteaudit.specs.declared.walk.Evaluation.{Evaluation}
-use Rattle.siteaudit.specs.Audits.{is_withheld, AreUsedTwice, AreOwnStandings, StandsFurther, HasFurther, HaveFurther}
+use Rattle.siteaudit.specs.Audits.{AreOwnStandings, StandsFurther, HasFurther, HaveFurther}
 use Rattle.siteaudit.specs.Walks.{IsOutcome, IsOfRuns, AreEvaluations}
-use Rattle.siteaudit.specs.SettledRuns.{settled_module, evaluated_file}
-use Rattle.siteaudit.specs.Findings.{AreUnlike, IsFindingBy, IsFindingOf, IsFinding, own_standing, aside_of, Shown, judged_of}
+use Rattle.siteaudit.specs.SettledRuns.{evaluated_file}
+use Rattle.siteaudit.specs.Findings.{IsFindingBy, IsFindingOf, IsFinding, own_standing, aside_of, Shown, judged_of}
 use Rattle.siteaudit.specs.Findings.{aside_in, IsShown, first_answer, answers_left, further_with, beside_left, AreModulesWith}
 use Rattle.siteaudit.proofs.Evaluations.{same_file}
-use Rattle.siteaudit.proofs.FirstReads.{answer_same}
+use Rattle.siteaudit.proofs.EligibleOnes.{LeavesOut, answer_same}
 use Rattle.siteaudit.proofs.Judged.{of_records, reads_by}
 use Rattle.siteaudit.proofs.UsedReads.{AnswersShown}
 
@@ -42,23 +39,18 @@ Outcome = Result (FileRuns RequestReason) RequestReason
 
 -- ---- what a module shows by itself
 
-used_twice : (rs : List Record) (unlike : Option UnlikeUses) → MatchOption unlike (are_in_step (used_by rs) ≡ true) (AreUnlike (used_by rs))
-    → MatchOption unlike (are_in_step (used_by rs) ≡ true) (AreUsedTwice rs)
-used_twice rs None h = h
-used_twice rs (Some unlike) h = record { first = h.first; second = h.second; differ = h.differ }
-
-own_standings : (settled : List Module) (file : EvaluatedFile) (runs : FileRuns RequestReason) (used : Option UsedRead) (finding : ModuleFinding) → IsOfRuns file runs
-    → IsAnswer settled (without_repeats (reads_in runs)) used → (f : IsFindingOf file.unkept runs.first.records used finding) → AreOwnStandings settled runs f.0
-own_standings settled file runs used finding of a (standings, are, by) =
+own_standings : (eligible : List Module) (file : EvaluatedFile) (runs : FileRuns RequestReason) (used : Option UsedRead) (finding : ModuleFinding) → IsOfRuns file runs
+    → IsAnswer eligible (without_repeats (reads_in runs)) used → (f : IsFindingOf file.unkept runs.first.records used file.unlike finding) → AreOwnStandings eligible runs f.0
+own_standings eligible file runs used finding of a (standings, are, by) =
     record {
       question = file.unkept;
       one_way = are.one_way;
       used = used;
-      unlike = are.unlike;
+      unlike = file.unlike;
       asks = of.unkept;
       returns = are.returns;
       reads = a;
-      steps = used_twice runs.first.records are.unlike are.steps;
+      steps = of.unlike;
       all = are.all;
     }
 
@@ -98,36 +90,36 @@ more_beside ms rest m (InStep records) withheld answers h = left_beside ms rest 
 
 -- ---- module after module
 
-one_further : (ms settled : List Module) (m : SiteModule) (outcome : Result EvaluatedFile Refusal) (reads : List Text) (out : Outcome) (used : Option UsedRead) (finding : ModuleFinding) (withheld : Bool)
-    (further : List Standing) (rest : List Module) (answers : List (Option Clash)) → IsOutcome outcome out → reads ≡ without_repeats (reads_of (m, out)) → IsAnswer settled reads used → IsFinding outcome used finding
-    → AreAnswers ms (aside_of m finding ++ rest) answers → further ≡ further_with (own_standing withheld finding) answers → HasFurther ms settled (m, out) further
-one_further ms settled m (Err refusal) reads out used finding withheld further rest answers o texts a f h e =
-    subst (λ (x : Outcome). HasFurther ms settled (m, x) further) (sym o.2)
+one_further : (ms eligible : List Module) (m : SiteModule) (outcome : Result EvaluatedFile Refusal) (reads : List Text) (out : Outcome) (used : Option UsedRead) (finding : ModuleFinding) (withheld : Bool)
+    (further : List Standing) (rest : List Module) (answers : List (Option Clash)) → IsOutcome outcome out → reads ≡ without_repeats (reads_of (m, out)) → IsAnswer eligible reads used → IsFinding outcome used finding
+    → AreAnswers ms (aside_of m finding ++ rest) answers → further ≡ further_with (own_standing withheld finding) answers → HasFurther ms eligible (m, out) further
+one_further ms eligible m (Err refusal) reads out used finding withheld further rest answers o texts a f h e =
+    subst (λ (x : Outcome). HasFurther ms eligible (m, x) further) (sym o.2)
     (e ∙ ap (λ (k : ModuleFinding). further_with (own_standing withheld k) answers) f)
-one_further ms settled m (Ok file) reads out used finding withheld further rest answers (runs, is, of) texts a f h e =
-    let g : IsFindingOf file.unkept runs.first.records used finding = of_records file runs used finding of f in
-    let read : IsAnswer settled (without_repeats (reads_in runs)) used = subst (λ (l : List Text). IsAnswer settled l used) (reads_by reads m out runs is texts) a in
-    subst (λ (x : Outcome). HasFurther ms settled (m, x) further) (sym is) (
+one_further ms eligible m (Ok file) reads out used finding withheld further rest answers (runs, is, of) texts a f h e =
+    let g : IsFindingOf file.unkept runs.first.records used file.unlike finding = of_records file runs used finding of f in
+    let read : IsAnswer eligible (without_repeats (reads_in runs)) used = subst (λ (l : List Text). IsAnswer eligible l used) (reads_by reads m out runs is texts) a in
+    subst (λ (x : Outcome). HasFurther ms eligible (m, x) further) (sym is) (
       g.0,
-      own_standings settled file runs used finding of read g,
+      own_standings eligible file runs used finding of read g,
       stands_further ms m runs.first.records finding withheld g.0 further rest answers g.2 h e,
     )
 
 -- each module stands further as its first records show
-pub all_further : (without : List Text) (es : List Evaluation) (all : List Evaluated) (ms : List Module) (shown : List Shown) (outs : List Evaluated) (answers beside : List (Option Clash)) (modules : List AuditedModule)
-    → AreEvaluations es all → AreEvaluations (map (λ s. s.0) shown) outs → AllByRecursion IsShown shown → AllByRecursion (AnswersShown (map settled_module es)) shown
+pub all_further : (without : List Text) (readers eligible ms : List Module) (shown : List Shown) (outs : List Evaluated) (answers beside : List (Option Clash)) (modules : List AuditedModule)
+    → LeavesOut readers eligible → AreEvaluations (map (λ s. s.0) shown) outs → AllByRecursion IsShown shown → AllByRecursion (AnswersShown readers) shown
     → AreAnswers ms (flat_map aside_in shown) beside → AreModulesWith (map (judged_of without) shown) answers beside modules
-    → HaveFurther ms (settled_among all) outs modules
-all_further without es all ms [] [] answers beside [] h e r a b k = tt
-all_further without es all ms [] [] answers beside (x ∷ modules) h e r a b k = absurd k
-all_further without es all ms [] (o ∷ outs) answers beside modules h e r a b k = absurd e
-all_further without es all ms (s ∷ shown) [] answers beside modules h e r a b k = absurd e
-all_further without es all ms (s ∷ shown) (o ∷ outs) answers beside [] h e r a b k = absurd k
-all_further without es all ms ((e, u, finding) ∷ shown) ((m, out) ∷ outs) answers beside (x ∷ modules) h (one, more) (right, rest) (answer, others) b (k, ks) =
+    → HaveFurther ms eligible outs modules
+all_further without readers eligible ms [] [] answers beside [] h e r a b k = tt
+all_further without readers eligible ms [] [] answers beside (x ∷ modules) h e r a b k = absurd k
+all_further without readers eligible ms [] (o ∷ outs) answers beside modules h e r a b k = absurd e
+all_further without readers eligible ms (s ∷ shown) [] answers beside modules h e r a b k = absurd e
+all_further without readers eligible ms (s ∷ shown) (o ∷ outs) answers beside [] h e r a b k = absurd k
+all_further without readers eligible ms ((e, u, finding) ∷ shown) ((m, out) ∷ outs) answers beside (x ∷ modules) h (one, more) (right, rest) (answer, others) b (k, ks) =
     let withheld : Bool = is_withheld without (string_bytes e.name) in (
-      subst (λ (n : SiteModule). HasFurther ms (settled_among all) (n, out) x.further.items) (sym (same_file e (m, out) one))
-          (one_further ms (settled_among all) (evaluated_file e) e.outcome (texts_in e.reads) out u finding withheld x.further.items (flat_map aside_in shown) beside one.outcome one.reads
-          (answer_same es all (texts_in e.reads) u h answer) right b k.further),
-      all_further without es all ms shown outs (answers_left (own_standing withheld finding) answers) (beside_left (own_standing withheld finding) beside) modules h more rest others
+      subst (λ (n : SiteModule). HasFurther ms eligible (n, out) x.further.items) (sym (same_file e (m, out) one))
+          (one_further ms eligible (evaluated_file e) e.outcome (texts_in e.reads) out u finding withheld x.further.items (flat_map aside_in shown) beside one.outcome one.reads
+          (answer_same readers eligible (texts_in e.reads) u h answer) right b k.further),
+      all_further without readers eligible ms shown outs (answers_left (own_standing withheld finding) answers) (beside_left (own_standing withheld finding) beside) modules h more rest others
           (more_beside ms (flat_map aside_in shown) (evaluated_file e) finding withheld beside b) ks,
     )

@@ -1,38 +1,35 @@
 -- How modules stand by what each shows by itself, and by what is answered of clashes.
 use Rattle.std.proofs.Common.{◌≡◌, inl, inr, Bool, true, false, cond, not, ◌&&◌, List, [], ◌∷◌, ◌++◌, map, filter, find}
 use Rattle.std.proofs.Common.{Option, Some, None, Result, Ok, Err, String, Global, refl, ap, sym, ◌∙◌, subst}
-use Rattle.std.specs.Prelude.{filter_map, flat_map, is_none, MatchOption, string_bytes}
+use Rattle.std.specs.Prelude.{filter_map, flat_map, is_none, string_bytes}
 use Rattle.std.specs.declared.vec.Vec.{Vec}
 use Rattle.std.specs.Option.{option_map}
 use Rattle.std.specs.List.{list_all, list_any, cons_option, AllByRecursion}
-use Rattle.std.proofs.lemmas.Bool.{false≢true, and_parts, and_from}
+use Rattle.std.proofs.lemmas.Bool.{and_parts, and_from}
 use Rattle.envvars.specs.Texts.{Text, has, texts_in}
-use Rattle.envvars.specs.Fields.{colon, without_repeats}
-use Rattle.envvars.proofs.TextLemmas.{bytes_eq-same}
+use Rattle.envvars.specs.Fields.{without_repeats}
 use Rattle.modulefile.specs.RecordViews.{record_view}
 use Rattle.modulefile.specs.declared.records.Record as code
 use Rattle.modulerun.specs.declared.question.Question.{Question}
 use Rattle.modulerun.specs.Questions.{question_view}
 use Rattle.modulefile.specs.Records.{Record}
 use Rattle.modulefile.specs.Moves.{Module}
-use Rattle.reversal.specs.VariableUses.{VariableUse, Pathed, can_return, UsedVariable}
+use Rattle.reversal.specs.VariableUses.{VariableUse, can_return, UsedVariable}
 use Rattle.requests.specs.Reasons.{RequestReason}
 use Rattle.modules.specs.declared.refusal.Refusal.{Refusal}
 use Rattle.settled.specs.Ways.{FileRuns, keep_answers, is_settled, reads_in}
 use Rattle.sitereads.specs.Reads.{uses_variable}
 use Rattle.sitereads.specs.Answers.{IsUsedRead, IsAnswer}
 use Rattle.sitereads.specs.declared.readers.UsedRead.{UsedRead}
-use Rattle.sitecertificate.specs.RecordUses.{used_by, used_by_modules, IsAmong, Uses, modulepath, same_use, use_alike}
-use Rattle.sitecertificate.specs.RecordUses.{are_in_step, is_in_step}
-use Rattle.sitecertificate.specs.UseViews.{use_view}
+use Rattle.sitecertificate.specs.RecordUses.{used_by, used_by_modules, IsAmong, Uses, are_in_step, is_in_step}
 use Rattle.sitecertificate.specs.Certificates.{certified}
-use Rattle.sitecertificate.proofs.UsedLemmas.{by_test, by_cases, cons_first, cons_later}
-use Rattle.sitecertificate.proofs.Exact.{all_each, in_step, in_filter}
+use Rattle.sitecertificate.proofs.UsedLemmas.{by_test, cons_first, cons_later}
+use Rattle.sitecertificate.proofs.Exact.{in_step, in_filter}
 use Rattle.sitecertificate.proofs.CertifiedOnes as ones
 use Rattle.sitecertificate.proofs.Answered.{answered_none, answers_are}
-use Rattle.sitelaws.specs.Sites.{Site, SiteModule, file_of, with_records, EvaluatesTo, HasSettledRecords, HasFreeReads}
-use Rattle.sitelaws.specs.Sites.{AreSettledModules, AreCandidates, Evaluated, settled_of, settled_among, reads_none}
-use Rattle.sitelaws.specs.Sites.{candidates_among, reads_of}
+use Rattle.sitelaws.specs.Sites.{Site, SiteModule, file_of, with_records, EvaluatesTo, HasSettledRecords, is_withheld}
+use Rattle.sitelaws.specs.Sites.{AreEligible, HasFreeReads, AreCandidates, Evaluated, settled_of, eligible_among}
+use Rattle.sitelaws.specs.Sites.{reads_none, candidates_among, reads_of}
 use Rattle.sitelaws.specs.Standings.{IsFirstUnkept, IsFirstOneWay, IsUsedTwice}
 use Rattle.sitecertificate.specs.ClashAnswers.{AreAnswers, without_clashes}
 use Rattle.sitecertificate.specs.declared.answers.Clash.{Clash}
@@ -41,22 +38,22 @@ use Rattle.siteaudit.specs.declared.standing.Standing.{Standing}
 use Rattle.siteaudit.specs.declared.standing.Standing.TheVariants as ways
 use Rattle.siteaudit.specs.declared.standing.Standing.TheVariants.{Certified, Asks, OneWay, ReadsUsed, OutOfStep}
 use Rattle.siteaudit.specs.declared.standing.Standing.TheVariants.{Withheld, Clashes}
-use Rattle.siteaudit.specs.declared.standing.UnlikeUses.{UnlikeUses}
+use Rattle.siteaudit.specs.declared.unlike.UnlikeUses.{UnlikeUses}
 use Rattle.siteaudit.specs.declared.auditing.AuditedModule.{AuditedModule}
 use Rattle.siteaudit.specs.declared.judgement.OwnStanding.{OwnStanding}
 use Rattle.siteaudit.specs.declared.judgement.OwnStanding.TheVariants.{Decided, Open}
 use Rattle.siteaudit.specs.declared.standing.ModuleFinding.{ModuleFinding}
 use Rattle.siteaudit.specs.declared.standing.ModuleFinding.TheVariants.{Refused, Stands, InStep}
-use Rattle.siteaudit.specs.Audits.{is_withheld, remaining, StandsAs, audited_file, AllStand, is_certified, certified_files}
+use Rattle.siteaudit.specs.Audits.{remaining, StandsAs, audited_file, AllStand, is_certified, certified_files}
 use Rattle.siteaudit.specs.Audits.{listed, out_of_step}
 use Rattle.siteaudit.specs.SettledRuns.{evaluated_file}
 use Rattle.siteaudit.specs.declared.walk.EvaluatedFile.{EvaluatedFile}
 use Rattle.siteaudit.specs.declared.walk.Evaluation.{Evaluation}
-use Rattle.siteaudit.specs.Findings.{AreUnlike, IsFindingOf, IsFinding, own_standing, steps_of}
+use Rattle.siteaudit.specs.Findings.{IsFindingOf, IsFinding, own_standing, steps_of}
 use Rattle.siteaudit.specs.Findings.{Shown, judged_of, steps_in, IsShown, first_answer, later_answers, standing_by, standing_with}
 use Rattle.siteaudit.specs.Findings.{answers_left, beside_left, IsModuleWith, AreModulesWith}
 use Rattle.siteaudit.proofs.Evaluations.{same_file}
-use Rattle.siteaudit.proofs.SettledFiles.{kept_same, has_once}
+use Rattle.siteaudit.proofs.SettledFiles.{kept_same, used_twice, twice_not, stepping_by, has_once}
 use Rattle.siteaudit.proofs.StandingLemmas.{not_found}
 use Rattle.siteaudit.proofs.UsedReads.{found_passes, has_text, uses_some, none_used, some_used, AnswersShown}
 
@@ -74,18 +71,6 @@ first_false : (a b : Bool) → a ≡ false → (a && b) ≡ false
 first_false a b h = rw h refl
 
 -- ---- in step, or not
-
-unlike_at : (v : Text) (x y : VariableUse) → use_alike (v, x) (v, y) ≡ true → same_use x y ≡ false → ⊥
-unlike_at v x y h d = false≢true (rw (bytes_eq-same v, d) at h)
-
-twice_not : (rs : List Record) (v : Text) (x y : VariableUse) → IsUsedTwice rs v x y → are_in_step (used_by rs) ≡ true → ⊥
-twice_not rs v x y twice h =
-    let ps : List UsedVariable = used_by rs in
-    let each = and_parts (use_alike (v, x) (modulepath, Pathed colon)) (list_all (use_alike (v, x)) ps)
-    (all_each (λ p. use_alike p (modulepath, Pathed colon) && list_all (use_alike p) ps) ps h (v, x) twice.first) in
-    by_cases twice.second
-    (λ e. unlike_at v x y (ap (use_alike (v, x)) e ∙ each.0) twice.differ)
-    (λ a. unlike_at v x y (all_each (use_alike (v, x)) ps each.1 (v, y) a) twice.differ)
 
 no_step : (m : SiteModule) (rs : List Record) (v : Text) (x y : VariableUse) → IsUsedTwice rs v x y → is_in_step (with_records m rs) ≡ false
 no_step m rs v x y twice = by_test (is_in_step (with_records m rs)) _
@@ -131,23 +116,23 @@ by_withheld without m rs rest false o t = kept_step without (with_records m rs) 
 -- ---- what a module shows by itself
 
 -- it stands so first
-abbrev pub StandsFirst : Option Question → List Record → Option UsedRead → Standing → Type 0
-StandsFirst unkept rs used Certified = ⊥
-StandsFirst unkept rs used (Asks first) = unkept ≡ Some first
-StandsFirst unkept rs used (OneWay first) = (unkept ≡ None) × IsFirstOneWay rs (record_view first)
-StandsFirst unkept rs used (ReadsUsed u) = (unkept ≡ None) × (list_all can_return rs ≡ true) × (used ≡ Some u)
-StandsFirst unkept rs used (OutOfStep v x y) =
-    (unkept ≡ None) × (list_all can_return rs ≡ true) × (used ≡ None) × IsUsedTwice rs (string_bytes v) (use_view x) (use_view y)
-StandsFirst unkept rs used Withheld = ⊥
-StandsFirst unkept rs used (Clashes clash) = ⊥
-StandsFirst unkept rs used (ways.Refused refusal) = ⊥
+abbrev pub StandsFirst : Option Question → List Record → Option UsedRead → Option UnlikeUses → Standing → Type 0
+StandsFirst unkept rs used unlike Certified = ⊥
+StandsFirst unkept rs used unlike (Asks first) = unkept ≡ Some first
+StandsFirst unkept rs used unlike (OneWay first) = (unkept ≡ None) × IsFirstOneWay rs (record_view first)
+StandsFirst unkept rs used unlike (ReadsUsed u) = (unkept ≡ None) × (list_all can_return rs ≡ true) × (used ≡ Some u)
+StandsFirst unkept rs used unlike (OutOfStep v x y) =
+    (unkept ≡ None) × (list_all can_return rs ≡ true) × (used ≡ None) × (unlike ≡ Some (record { variable = v; one = x; other = y }))
+StandsFirst unkept rs used unlike Withheld = ⊥
+StandsFirst unkept rs used unlike (Clashes clash) = ⊥
+StandsFirst unkept rs used unlike (ways.Refused refusal) = ⊥
 
 -- it stands in no way by itself
-record ShowsNone (unkept : Option Question) (rs : List Record) (used : Option UsedRead) : Type 0 where
+record ShowsNone (unkept : Option Question) (rs : List Record) (used : Option UsedRead) (unlike : Option UnlikeUses) : Type 0 where
   kept : unkept ≡ None
   returns : list_all can_return rs ≡ true
   free : used ≡ None
-  steps : are_in_step (used_by rs) ≡ true
+  steps : unlike ≡ None
 
 head_is : (x y : Standing) (xs ys : List Standing) → x ∷ xs ≡ y ∷ ys → x ≡ y
 head_is x y xs ys e = cc
@@ -157,36 +142,35 @@ module _ (rs : List Record) where
   StandingsBy unkept one_way used unlike = listed Asks unkept ++ (listed OneWay one_way ++ (listed ReadsUsed used ++ listed out_of_step unlike))
 
   first_is : (unkept : Option Question) (one_way : Option code.Record) (used : Option UsedRead) (unlike : Option UnlikeUses) (first : Standing) (others : List Standing)
-      → option_map record_view one_way ≡ find (λ r. not (can_return r)) rs → MatchOption unlike (are_in_step (used_by rs) ≡ true) (AreUnlike (used_by rs))
-      → StandingsBy unkept one_way used unlike ≡ first ∷ others → StandsFirst unkept rs used first
-  first_is (Some q) one_way used unlike first others r s e =
-      subst (StandsFirst (Some q) rs used) (head_is (Asks q) first (StandingsBy None one_way used unlike) others e) refl
-  first_is None (Some x) used unlike first others r s e =
-      subst (StandsFirst None rs used) (head_is (OneWay x) first (StandingsBy None None used unlike) others e) (refl, sym r)
-  first_is None None (Some u) unlike first others r s e =
-      subst (StandsFirst None rs (Some u)) (head_is (ReadsUsed u) first (StandingsBy None None None unlike) others e) (refl, not_found can_return rs (sym r), refl)
-  first_is None None None (Some x) first others r s e =
-      subst (StandsFirst None rs None) (head_is (out_of_step x) first [] others e)
-      (refl, not_found can_return rs (sym r), refl, record { first = s.first; second = s.second; differ = s.differ })
-  first_is None None None None first others r s e = absurd (cc)
+      → option_map record_view one_way ≡ find (λ r. not (can_return r)) rs
+      → StandingsBy unkept one_way used unlike ≡ first ∷ others → StandsFirst unkept rs used unlike first
+  first_is (Some q) one_way used unlike first others r e =
+      subst (StandsFirst (Some q) rs used unlike) (head_is (Asks q) first (StandingsBy None one_way used unlike) others e) refl
+  first_is None (Some x) used unlike first others r e =
+      subst (StandsFirst None rs used unlike) (head_is (OneWay x) first (StandingsBy None None used unlike) others e) (refl, sym r)
+  first_is None None (Some u) unlike first others r e =
+      subst (StandsFirst None rs (Some u) unlike) (head_is (ReadsUsed u) first (StandingsBy None None None unlike) others e) (refl, not_found can_return rs (sym r), refl)
+  first_is None None None (Some x) first others r e =
+      subst (StandsFirst None rs None (Some x)) (head_is (out_of_step x) first [] others e) (refl, not_found can_return rs (sym r), refl, refl)
+  first_is None None None None first others r e = absurd (cc)
 
   none_is : (unkept : Option Question) (one_way : Option code.Record) (used : Option UsedRead) (unlike : Option UnlikeUses)
-      → option_map record_view one_way ≡ find (λ r. not (can_return r)) rs → MatchOption unlike (are_in_step (used_by rs) ≡ true) (AreUnlike (used_by rs))
-      → StandingsBy unkept one_way used unlike ≡ [] → ShowsNone unkept rs used
-  none_is (Some q) one_way used unlike r s e = absurd (cc)
-  none_is None (Some x) used unlike r s e = absurd (cc)
-  none_is None None (Some u) unlike r s e = absurd (cc)
-  none_is None None None (Some x) r s e = absurd (cc)
-  none_is None None None None r s e = record { kept = refl; returns = not_found can_return rs (sym r); free = refl; steps = s }
+      → option_map record_view one_way ≡ find (λ r. not (can_return r)) rs
+      → StandingsBy unkept one_way used unlike ≡ [] → ShowsNone unkept rs used unlike
+  none_is (Some q) one_way used unlike r e = absurd (cc)
+  none_is None (Some x) used unlike r e = absurd (cc)
+  none_is None None (Some u) unlike r e = absurd (cc)
+  none_is None None None (Some x) r e = absurd (cc)
+  none_is None None None None r e = record { kept = refl; returns = not_found can_return rs (sym r); free = refl; steps = refl }
 
-pub shows_first : (unkept : Option Question) (rs : List Record) (used : Option UsedRead) (first : Standing) (further : Vec Standing Global) (records : Vec code.Record Global)
-    → IsFindingOf unkept rs used (Stands first further records) → StandsFirst unkept rs used first
-shows_first unkept rs used first further records (standings, are, by) =
-    first_is rs unkept are.one_way used are.unlike first further.items are.returns are.steps (sym are.all ∙ by.0)
+pub shows_first : (unkept : Option Question) (rs : List Record) (used : Option UsedRead) (unlike : Option UnlikeUses) (first : Standing) (further : Vec Standing Global)
+    (records : Vec code.Record Global) → IsFindingOf unkept rs used unlike (Stands first further records) → StandsFirst unkept rs used unlike first
+shows_first unkept rs used unlike first further records (standings, are, by) =
+    first_is rs unkept are.one_way used unlike first further.items are.returns (sym are.all ∙ by.0)
 
-shows_none : (unkept : Option Question) (rs : List Record) (used : Option UsedRead) (records : Vec code.Record Global)
-    → IsFindingOf unkept rs used (InStep records) → ShowsNone unkept rs used
-shows_none unkept rs used records (standings, are, by) = none_is rs unkept are.one_way used are.unlike are.returns are.steps (sym are.all ∙ by.0)
+shows_none : (unkept : Option Question) (rs : List Record) (used : Option UsedRead) (unlike : Option UnlikeUses) (records : Vec code.Record Global)
+    → IsFindingOf unkept rs used unlike (InStep records) → ShowsNone unkept rs used unlike
+shows_none unkept rs used unlike records (standings, are, by) = none_is rs unkept are.one_way used unlike are.returns (sym are.all ∙ by.0)
 
 abbrev Outcome : Type 0
 Outcome = Result (FileRuns RequestReason) RequestReason
@@ -254,7 +238,7 @@ unsettled_step without m runs used outs f = ap (stepping without) (unsettled (re
 
 -- one that stands by itself is no candidate in step
 stands_step : (without : List Text) (m : SiteModule) (file : EvaluatedFile) (reads : List Text) (runs : Runs) (ms : List Module) (used : List UsedVariable) (u : Option UsedRead) (first : Standing) (outs : List Evaluated)
-    → OfFile file reads runs → used_by_modules ms ≡ used → IsAnswer ms reads u → StandsFirst file.unkept runs.first.records u first
+    → OfFile file reads runs → used_by_modules ms ≡ used → IsAnswer ms reads u → StandsFirst file.unkept runs.first.records u file.unlike first
     → stepping without (filter_map settled_of outs) ≡ stepping without (candidates_by (reads_none used (m, Ok runs)) (m, Ok runs) outs)
 stands_step without m file reads runs ms used u Certified outs o same a f = absurd f
 stands_step without m file reads runs ms used u (Asks first) outs o same a f =
@@ -267,7 +251,7 @@ stands_step without m file reads runs ms used u (ReadsUsed w) outs o same a f =
     ap (λ (b : Bool). stepping without (candidates_by b (m, Ok runs) outs)) (sym taken)
 stands_step without m file reads runs ms used u (OutOfStep v x y) outs o same a f =
     let free : reads_none used (m, Ok runs) ≡ true = decided ms used reads m runs None same (subst (IsAnswer ms reads) f.2 a) (same_reads file reads runs o) in
-    left_step without (with_records m runs.first.records) (filter_map settled_of outs) (no_step m runs.first.records _ _ _ f.3)
+    left_step without (with_records m runs.first.records) (filter_map settled_of outs) (no_step m runs.first.records _ _ _ (used_twice file runs _ o.of f.3))
     ∙ by_settled without m runs used outs true true (settled_by file reads runs o f.0 f.1) free
 stands_step without m file reads runs ms used u Withheld outs o same a f = absurd f
 stands_step without m file reads runs ms used u (Clashes clash) outs o same a f = absurd f
@@ -275,22 +259,22 @@ stands_step without m file reads runs ms used u (ways.Refused refusal) outs o sa
 
 -- what a file shows decides whether its module is a candidate in step
 file_step : (without : List Text) (m : SiteModule) (file : EvaluatedFile) (reads : List Text) (runs : Runs) (ms : List Module) (used : List UsedVariable) (u : Option UsedRead) (finding : ModuleFinding) (outs : List Evaluated)
-    → OfFile file reads runs → used_by_modules ms ≡ used → IsAnswer ms reads u → IsFindingOf file.unkept runs.first.records u finding
+    → OfFile file reads runs → used_by_modules ms ≡ used → IsAnswer ms reads u → IsFindingOf file.unkept runs.first.records u file.unlike finding
     → steps_of without m finding ++ stepping without (filter_map settled_of outs) ≡ stepping without (candidates_by (reads_none used (m, Ok runs)) (m, Ok runs) outs)
 file_step without m file reads runs ms used u (Refused refusal) outs o same a (standings, are, by) = absurd by
 file_step without m file reads runs ms used u (Stands first further records) outs o same a f =
-    stands_step without m file reads runs ms used u first outs o same a (shows_first file.unkept runs.first.records u first further records f)
+    stands_step without m file reads runs ms used u first outs o same a (shows_first file.unkept runs.first.records u file.unlike first further records f)
 file_step without m file reads runs ms used u (InStep records) outs o same a f =
-    let n = shows_none file.unkept runs.first.records u records f in
+    let n = shows_none file.unkept runs.first.records u file.unlike records f in
     let free : reads_none used (m, Ok runs) ≡ true = decided ms used reads m runs None same (subst (IsAnswer ms reads) n.free a) (same_reads file reads runs o) in
     ap (λ (l : List Record). cond (is_withheld without m.name) [] (with_records m l ∷ []) ++ stepping without (filter_map settled_of outs)) f.2.1
-    ∙ (by_withheld without m runs.first.records (filter_map settled_of outs) (is_withheld without m.name) refl (and_from (list_all can_return runs.first.records) (are_in_step (used_by runs.first.records)) n.returns n.steps)
+    ∙ (by_withheld without m runs.first.records (filter_map settled_of outs) (is_withheld without m.name) refl (and_from (list_all can_return runs.first.records) (are_in_step (used_by runs.first.records)) n.returns (stepping_by file runs o.of n.steps))
     ∙ by_settled without m runs used outs true true (settled_by file reads runs o n.kept n.returns) free)
 
 -- the records of the code are those of the definitions
-pub of_records : (file : EvaluatedFile) (runs : Runs) (u : Option UsedRead) (finding : ModuleFinding) → IsOfRuns file runs → IsFindingOf file.unkept (map record_view file.records.items) u finding
-    → IsFindingOf file.unkept runs.first.records u finding
-of_records file runs u finding of f = subst (λ (rs : List Record). IsFindingOf file.unkept rs u finding) of.records f
+pub of_records : (file : EvaluatedFile) (runs : Runs) (u : Option UsedRead) (finding : ModuleFinding) → IsOfRuns file runs → IsFindingOf file.unkept (map record_view file.records.items) u file.unlike finding
+    → IsFindingOf file.unkept runs.first.records u file.unlike finding
+of_records file runs u finding of f = subst (λ (rs : List Record). IsFindingOf file.unkept rs u file.unlike finding) of.records f
 
 pub reads_by : (reads : List Text) (m : SiteModule) (out : Outcome) (runs : Runs) → out ≡ Ok runs → reads ≡ without_repeats (reads_of (m, out)) → reads ≡ without_repeats (reads_in runs)
 reads_by reads m out runs same e = e ∙ ap (λ (x : Outcome). without_repeats (reads_of (m, x))) same
@@ -329,13 +313,13 @@ is_candidate used outs o n a e free = into (filter (reads_none used) outs) (in_f
 
 -- ---- answers
 
--- What the premises say of the site: its settled modules, the candidates, and what those use that the answers are of.
+-- What the premises say of the site: its eligible modules, the candidates, and what those use that the answers are of.
 pub record IsJudging (site : Site) (without : List Text) (outs : List Evaluated) (ms : List Module) (readers : List Module) : Type 0 where
-  pub settled : AreSettledModules site (settled_among outs)
-  pub all : AreCandidates site (candidates_among outs)
-  pub candidates : ms ≡ remaining without (candidates_among outs)
-  pub used : used_by_modules readers ≡ used_by_modules (settled_among outs)
-  pub users : (n : Module) (v : Text) (x : VariableUse) → IsAmong n readers → Uses n.records v x → IsAmong n (settled_among outs)
+  pub eligible : AreEligible site without (eligible_among without outs)
+  pub all : AreCandidates site without (candidates_among without outs)
+  pub candidates : ms ≡ remaining without (candidates_among without outs)
+  pub used : used_by_modules readers ≡ used_by_modules (eligible_among without outs)
+  pub users : (n : Module) (v : Text) (x : VariableUse) → IsAmong n readers → Uses n.records v x → IsAmong n (eligible_among without outs)
 
 abbrev in_step_of : List Module → List Module
 in_step_of ms = filter is_in_step ms
@@ -364,17 +348,17 @@ more_answers without all more m (InStep records) answers h = left_by all more (w
 record IsOneOfThem (site : Site) (without : List Text) (ms : List Module) (m : SiteModule) (runs : Runs) : Type 0 where
   listed : is_withheld without m.name ≡ false → IsAmong (with_records m runs.first.records) ms
   records : HasSettledRecords site m runs.first.records
-  free : HasFreeReads site m
+  free : HasFreeReads site without m
 
 one_of_them : (site : Site) (without : List Text) (outs : List Evaluated) (ms readers : List Module) (m : SiteModule) (runs : Runs) → IsJudging site without outs ms readers → IsAmong (m, Ok runs) outs
-    → is_settled runs ≡ true → reads_none (used_by_modules (settled_among outs)) (m, Ok runs) ≡ true → IsOneOfThem site without ms m runs
+    → is_settled runs ≡ true → reads_none (used_by_modules (eligible_among without outs)) (m, Ok runs) ≡ true → IsOneOfThem site without ms m runs
 one_of_them site without outs ms readers m runs j a settled free =
     let n : Module = with_records m runs.first.records in
-    let among : IsAmong n (candidates_among outs) =
-    is_candidate (used_by_modules (settled_among outs)) outs (m, Ok runs) n a (ap (λ (b : Bool). cond b (Some n) None) settled) free in
+    let among : IsAmong n (candidates_among without outs) =
+    is_candidate (used_by_modules (eligible_among without outs)) outs (m, Ok runs) n a (ap (λ (b : Bool). cond b (Some n) None) settled) free in
     let c = (j.all n).0 among in
     record {
-      listed = λ o. subst (IsAmong n) (sym j.candidates) (in_filter (λ (k : Module). not (is_withheld without k.name)) (candidates_among outs) n among (ap not o));
+      listed = λ o. subst (IsAmong n) (sym j.candidates) (in_filter (λ (k : Module). not (is_withheld without k.name)) (candidates_among without outs) n among (ap not o));
       records = c.settled.records;
       free = c.free;
     }
@@ -410,7 +394,7 @@ answered_by : (site : Site) (without : List Text) (ms : List Module) (m : SiteMo
 answered_by site without ms m runs true answers more p o t h = (o, (runs.first.records, p.records, p.free, in_step (with_records m runs.first.records) t))
 answered_by site without ms m runs false answers more p o t h = answered site without ms m runs answers more p o t h
 
--- one that reads what a settled module uses
+-- one that reads what an eligible module uses
 stands_by_read : (site : Site) (without : List Text) (outs : List Evaluated) (ms readers : List Module) (m : SiteModule) (runs : Runs) (reads : List Text) (u : UsedRead) → IsJudging site without outs ms readers → EvaluatesTo site m (Ok runs)
     → is_settled runs ≡ true → SameTexts reads (reads_in runs) → IsUsedRead readers reads u → StandsAs site without ms m (ReadsUsed u)
 stands_by_read site without outs ms readers m runs reads u j e settled same a =
@@ -425,7 +409,7 @@ stands_by_read site without outs ms readers m runs reads u j e settled same a =
         runs.first.records,
         record { runs = runs; evaluated = e; settled = settled; records = refl },
         record { runs = runs; evaluated = e; read = sym (same v) ∙ has_text v reads read },
-        record { settled = (j.settled a.user).0 (j.users a.user v x.0 user.0 x.1); used = x.0; uses = x.1 },
+        record { eligible = (j.eligible a.user).0 (j.users a.user v x.0 user.0 x.1); used = x.0; uses = x.1 },
       ),
     )
 
@@ -435,7 +419,7 @@ first_unkept file runs first of e = sym of.unkept ∙ ap (option_map question_vi
 -- one that stands by itself
 stands_first : (site : Site) (without : List Text) (outs : List Evaluated) (ms readers : List Module) (m : SiteModule) (file : EvaluatedFile) (reads : List Text) (runs : Runs) (u : Option UsedRead) (first : Standing)
     → IsJudging site without outs ms readers → EvaluatesTo site m (Ok runs) → IsAmong (m, Ok runs) outs → OfFile file reads runs → IsAnswer readers reads u
-    → StandsFirst file.unkept runs.first.records u first → StandsAs site without ms m first
+    → StandsFirst file.unkept runs.first.records u file.unlike first → StandsAs site without ms m first
 stands_first site without outs ms readers m file reads runs u Certified j e among o a f = absurd f
 stands_first site without outs ms readers m file reads runs u (Asks first) j e among o a f = (runs, e, first_unkept file runs first o.of f)
 stands_first site without outs ms readers m file reads runs u (OneWay first) j e among o a f = (runs, e, kept_by file runs o.of f.0, f.1)
@@ -443,24 +427,24 @@ stands_first site without outs ms readers m file reads runs u (ReadsUsed w) j e 
     stands_by_read site without outs ms readers m runs reads w j e (settled_by file reads runs o f.0 f.1) (same_reads file reads runs o) (subst (IsAnswer readers reads) f.2 a)
 stands_first site without outs ms readers m file reads runs u (OutOfStep v x y) j e among o a f =
     let p = one_of_them site without outs ms readers m runs j among (settled_by file reads runs o f.0 f.1)
-    (decided readers (used_by_modules (settled_among outs)) reads m runs None j.used (subst (IsAnswer readers reads) f.2 a) (same_reads file reads runs o)) in
-    (runs.first.records, p.records, p.free, f.3)
+    (decided readers (used_by_modules (eligible_among without outs)) reads m runs None j.used (subst (IsAnswer readers reads) f.2 a) (same_reads file reads runs o)) in
+    (runs.first.records, p.records, p.free, used_twice file runs _ o.of f.3)
 stands_first site without outs ms readers m file reads runs u Withheld j e among o a f = absurd f
 stands_first site without outs ms readers m file reads runs u (Clashes clash) j e among o a f = absurd f
 stands_first site without outs ms readers m file reads runs u (ways.Refused refusal) j e among o a f = absurd f
 
 stands_file : (site : Site) (without : List Text) (outs : List Evaluated) (ms readers : List Module) (m : SiteModule) (file : EvaluatedFile) (reads : List Text) (runs : Runs) (u : Option UsedRead) (finding : ModuleFinding)
     (answers : List (Option Clash)) (more : List Module) → IsJudging site without outs ms readers → EvaluatesTo site m (Ok runs) → IsAmong (m, Ok runs) outs
-    → OfFile file reads runs → IsAnswer readers reads u → IsFindingOf file.unkept runs.first.records u finding
+    → OfFile file reads runs → IsAnswer readers reads u → IsFindingOf file.unkept runs.first.records u file.unlike finding
     → AreAnswers (in_step_of ms) (steps_of without m finding ++ more) answers → StandsAs site without ms m (standing_with (own_standing (is_withheld without m.name) finding) answers)
 stands_file site without outs ms readers m file reads runs u (Refused refusal) answers more j e among o a (standings, are, by) h = absurd by
 stands_file site without outs ms readers m file reads runs u (Stands first further records) answers more j e among o a f h =
-    stands_first site without outs ms readers m file reads runs u first j e among o a (shows_first file.unkept runs.first.records u first further records f)
+    stands_first site without outs ms readers m file reads runs u first j e among o a (shows_first file.unkept runs.first.records u file.unlike first further records f)
 stands_file site without outs ms readers m file reads runs u (InStep records) answers more j e among o a f h =
-    let n = shows_none file.unkept runs.first.records u records f in
+    let n = shows_none file.unkept runs.first.records u file.unlike records f in
     let p = one_of_them site without outs ms readers m runs j among (settled_by file reads runs o n.kept n.returns)
-    (decided readers (used_by_modules (settled_among outs)) reads m runs None j.used (subst (IsAnswer readers reads) n.free a) (same_reads file reads runs o)) in
-    answered_by site without ms m runs (is_withheld without m.name) answers more p refl (and_from (list_all can_return runs.first.records) (are_in_step (used_by runs.first.records)) n.returns n.steps)
+    (decided readers (used_by_modules (eligible_among without outs)) reads m runs None j.used (subst (IsAnswer readers reads) n.free a) (same_reads file reads runs o)) in
+    answered_by site without ms m runs (is_withheld without m.name) answers more p refl (and_from (list_all can_return runs.first.records) (are_in_step (used_by runs.first.records)) n.returns (stepping_by file runs o.of n.steps))
     (subst (λ (l : List Record). AreAnswers (in_step_of ms) (cond (is_withheld without m.name) [] (with_records m l ∷ []) ++ more) answers) f.2.1 h)
 
 stands_one : (site : Site) (without : List Text) (outs : List Evaluated) (ms readers : List Module) (m : SiteModule) (outcome : Result EvaluatedFile Refusal) (reads : List Text)
@@ -536,21 +520,21 @@ reads_are without ((e, u, finding) ∷ shown) ((m, out) ∷ outs) answers beside
 -- ---- the certified ones
 
 -- one that stands by itself isn't certified
-uncertified : (unkept : Option Question) (rs : List Record) (u : Option UsedRead) (first : Standing) → StandsFirst unkept rs u first → is_certified first ≡ false
-uncertified unkept rs u Certified f = absurd f
-uncertified unkept rs u (Asks first) f = refl
-uncertified unkept rs u (OneWay first) f = refl
-uncertified unkept rs u (ReadsUsed used) f = refl
-uncertified unkept rs u (OutOfStep v x y) f = refl
-uncertified unkept rs u Withheld f = refl
-uncertified unkept rs u (Clashes clash) f = refl
-uncertified unkept rs u (ways.Refused refusal) f = refl
+uncertified : (unkept : Option Question) (rs : List Record) (u : Option UsedRead) (unlike : Option UnlikeUses) (first : Standing) → StandsFirst unkept rs u unlike first → is_certified first ≡ false
+uncertified unkept rs u unlike Certified f = absurd f
+uncertified unkept rs u unlike (Asks first) f = refl
+uncertified unkept rs u unlike (OneWay first) f = refl
+uncertified unkept rs u unlike (ReadsUsed used) f = refl
+uncertified unkept rs u unlike (OutOfStep v x y) f = refl
+uncertified unkept rs u unlike Withheld f = refl
+uncertified unkept rs u unlike (Clashes clash) f = refl
+uncertified unkept rs u unlike (ways.Refused refusal) f = refl
 
 uncertified_by : (outcome : Result EvaluatedFile Refusal) (u : Option UsedRead) (first : Standing) (further : Vec Standing Global) (records : Vec code.Record Global) → IsFinding outcome u (Stands first further records)
     → is_certified first ≡ false
 uncertified_by (Err refusal) u first further records f = absurd (cc)
 uncertified_by (Ok file) u first further records f =
-    uncertified file.unkept (map record_view file.records.items) u first (shows_first file.unkept (map record_view file.records.items) u first further records f)
+    uncertified file.unkept (map record_view file.records.items) u file.unlike first (shows_first file.unkept (map record_view file.records.items) u file.unlike first further records f)
 
 not_listed : (x : AuditedModule) (modules : List AuditedModule) → is_certified x.standing ≡ false → certified_files (x ∷ modules) ≡ certified_files modules
 not_listed x modules f = rw f refl

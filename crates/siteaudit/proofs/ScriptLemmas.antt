@@ -1,7 +1,7 @@
 -- What the evaluations of a script show, way after way.
 use Rattle.std.proofs.Common.{◌≡◌, ℕ, ◌+◌, ◌<◌, take, length, get_or, Bool, true, false, ◌&&◌, List, [], ◌∷◌, ◌++◌, map, append-nil, refl, ap, sym}
-use Rattle.std.proofs.Common.{◌∙◌, subst, Some, None, Result, Ok, Err, Global}
-use Rattle.std.specs.Prelude.{flat_map, find, not, position}
+use Rattle.std.proofs.Common.{◌∙◌, subst, Option, Some, None, Result, Ok, Err, Global}
+use Rattle.std.specs.Prelude.{flat_map, find, not, position, MatchOption}
 use Rattle.std.specs.List.{list_all}
 use Rattle.std.proofs.lemmas.Bool.{and_parts}
 use Rattle.requests.proofs.ListLemmas.{all_seen}
@@ -16,6 +16,7 @@ use Rattle.envvars.specs.Environment.{Environment}
 use Rattle.tclrules.specs.declared.limits.Limits.{Limits}
 use Rattle.modulefile.specs.Answers.{FileContext}
 use Rattle.modulefile.specs.Files as files
+use Rattle.modulefile.specs.Records.{Record}
 use Rattle.modulefile.specs.RecordViews.{record_view}
 use Rattle.modulerun.specs.Questions.{question_view, questions_in}
 use Rattle.modulerun.specs.Running.{ran_view}
@@ -30,6 +31,10 @@ use Rattle.settled.specs.declared.ways.Way as code
 use Rattle.filetree.specs.Causes.{Cause, Applies, memory, device, because}
 use Rattle.modules.specs.Answers.{cause_of}
 use Rattle.givenup.specs.Causes.{is_given_up}
+use Rattle.sitecertificate.specs.RecordUses.{used_by, are_in_step}
+use Rattle.siteaudit.specs.Walks.{AreUsedTwice}
+use Rattle.siteaudit.specs.Findings.{AreUnlike}
+use Rattle.siteaudit.specs.declared.unlike.UnlikeUses.{UnlikeUses}
 use Rattle.siteaudit.specs.WalkParts.{ComesTo, ScriptRuns, ScriptRunsIn, ShowsOne, ShowsAll, ShowsScript}
 use Rattle.siteaudit.specs.declared.scripts.FileEvaluation.{FileEvaluation}
 
@@ -112,18 +117,25 @@ shows_err limits context text first way before o refusal comes is kept =
 
 -- the whole script
 
+used_twice : (rs : List Record) (unlike : Option UnlikeUses) → MatchOption unlike (are_in_step (used_by rs) ≡ true) (AreUnlike (used_by rs))
+    → MatchOption unlike (are_in_step (used_by rs) ≡ true) (AreUsedTwice rs)
+used_twice rs None h = h
+used_twice rs (Some unlike) h = record { first = h.first; second = h.second; differ = h.differ }
+
 pub shows_script : (limits : Limits) (context : Way → FileContext) (text : Text) (first : FileRun) (e : Environment) (ways : List Way) (all : List Text) (alike few : Bool) (shown : FileEvaluation)
     → ScriptRuns limits (context first_way) text (Ok (ran_view first e)) → ways ≡ other_ways (questions_in first.asked.items)
     → ShowsAll limits context text first ways (variables_read (questions_in first.asked.items)) all alike → few ≡ are_few (questions_in first.asked.items)
     → shown.file.records ≡ first.records
     → option_map question_view shown.file.unkept ≡ find (λ q. not (keeps_answer (few && alike) (map record_view first.records.items) q)) (questions_in first.asked.items)
+    → MatchOption shown.file.unlike (are_in_step (used_by (map record_view first.records.items)) ≡ true) (AreUnlike (used_by (map record_view first.records.items)))
     → texts_in shown.reads ≡ without_repeats all → ShowsScript limits context text (Ok shown)
-shows_script limits context text first e ways all alike few shown ran same shows known records unkept reads = (
+shows_script limits context text first e ways all alike few shown ran same shows known records unkept unlike reads = (
   record { first = ran_view first e; others = shows.outcomes },
   record {
     records = ap (λ (v : Vec _ Global). map record_view v.items) records;
     unkept = unkept ∙ ap (λ (b : Bool). find (λ q. not (keeps_answer b (map record_view first.records.items) q)) (questions_in first.asked.items))
         (both few alike _ _ known (shows.alike e ∙ ap (λ (ws : List Way). are_alike (ran_view first e) ws shows.outcomes) same));
+    unlike = used_twice (map record_view first.records.items) shown.file.unlike unlike;
   },
   reads ∙ ap without_repeats shows.reads,
   ran,

@@ -14,7 +14,7 @@ use Rattle.sitecertificate.specs.declared.uses.UsedVariable as code
 use Rattle.sitecertificate.specs.RecordUses.{IsAmong, modulepath, same_use, use_alike}
 use Rattle.sitecertificate.specs.UseViews.{use_view, used_view}
 use Rattle.sitecertificate.proofs.UsedLemmas.{by_test}
-use Rattle.siteaudit.specs.declared.standing.UnlikeUses.{UnlikeUses}
+use Rattle.siteaudit.specs.declared.unlike.UnlikeUses.{UnlikeUses}
 use Rattle.siteaudit.specs.Findings.{AreUnlike}
 use Rattle.siteaudit.proofs.AmongLemmas.{taken}
 

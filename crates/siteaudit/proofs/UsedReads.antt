@@ -1,16 +1,14 @@
--- What of the reads of evaluated modules settled ones use, by the answers for them.
-use Rattle.std.proofs.Common.{◌≡◌, inl, inr, ℕ, ◌+◌, ◌<◌, take, length, get_or, Bool, true, false, cond, List, [], ◌∷◌, ◌++◌, map, find, Option, Some}
-use Rattle.std.proofs.Common.{None, Result, Ok, Err, refl, ap, sym, ◌∙◌, subst}
+-- What of the reads of evaluated modules others use, by the answers for them.
+use Rattle.std.proofs.Common.{◌≡◌, inl, inr, ℕ, ◌+◌, ◌<◌, take, length, get_or, Bool, true, false, List, [], ◌∷◌, ◌++◌, map}
+use Rattle.std.proofs.Common.{find, Option, Some, None, ap, sym, ◌∙◌, subst}
 use Rattle.std.specs.Prelude.{bytes_eq}
-use Rattle.std.specs.List.{list_any, cons_option, AllByRecursion}
+use Rattle.std.specs.List.{list_any, AllByRecursion}
 use Rattle.std.proofs.lemmas.Bool.{false≢true}
 use Rattle.std.proofs.lemmas.List.{map-append, take_more}
 use Rattle.envvars.specs.Texts.{Text, has}
 use Rattle.envvars.proofs.TextLemmas.{same_text, bytes_eq-same}
 use Rattle.modulefile.specs.Records.{Record}
 use Rattle.modulefile.specs.Moves.{Module}
-use Rattle.modules.specs.declared.refusal.Refusal.{Refusal}
-use Rattle.requests.specs.Reasons.{RequestReason}
 use Rattle.reversal.specs.VariableUses.{VariableUse, UsedVariable}
 use Rattle.sitecertificate.specs.RecordUses.{used_by, used_by_modules, IsAmong, Uses}
 use Rattle.sitecertificate.proofs.UsedLemmas.{by_test, used_among, user_of}
@@ -20,17 +18,10 @@ use Rattle.sitereads.specs.Answers as answers
 use Rattle.sitereads.specs.Answers.{IsAnswer}
 use Rattle.sitereads.specs.declared.readers.Reader.{Reader}
 use Rattle.sitereads.specs.declared.readers.UsedRead.{UsedRead}
-use Rattle.sitelaws.specs.Sites.{SiteModule, Evaluated, with_records, settled_of, settled_among}
-use Rattle.siteaudit.specs.declared.walk.EvaluatedFile.{EvaluatedFile}
 use Rattle.siteaudit.specs.declared.walk.Evaluation.{Evaluation}
-use Rattle.siteaudit.proofs.SettledFiles.{records_same}
-use Rattle.siteaudit.specs.Walks.{IsOutcome, AreEvaluations}
-use Rattle.settled.specs.Ways.{FileRuns, is_settled}
-use Rattle.siteaudit.specs.SettledRuns.{settled_records, read_by, settled_module}
-use Rattle.siteaudit.specs.SettledRuns.{AreUsedReads}
+use Rattle.siteaudit.specs.SettledRuns.{read_by, AreUsedReads}
 use Rattle.siteaudit.specs.Findings.{Shown, reads_along}
 use Rattle.siteaudit.proofs.AmongLemmas.{among_map, of_map}
-use Rattle.siteaudit.proofs.Evaluations.{same_file}
 
 -- ---- the first that passes a test
 
@@ -87,58 +78,6 @@ some_used ms reads v e =
     let u = any_some (λ (m : Module). uses_variable v m.records) ms i.1 in
     let x = uses_some v u.0.records u.2 in
     some_any (λ (p : UsedVariable). has p.0 reads) (used_by_modules ms) (v, x.0) (used_among v x.0 u.0 ms u.1 x.1) (has_text v reads i.0)
-
--- ---- the settled ones of the evaluated modules
-
-module_by : (m : SiteModule) (rs : List Record) (b : Bool) (rest : List Module)
-    → used_by (cond b rs []) ++ used_by_modules rest ≡ used_by_modules (cons_option (cond b (Some (with_records m rs)) None) rest)
-module_by m rs true rest = refl
-module_by m rs false rest = refl
-
-abbrev Outcome : Type 0
-Outcome = Result (FileRuns RequestReason) RequestReason
-
-one_used : (m : SiteModule) (outcome : Result EvaluatedFile Refusal) (out : Outcome) (rest : List Module) → IsOutcome outcome out
-    → used_by (settled_records outcome) ++ used_by_modules rest ≡ used_by_modules (cons_option (settled_of (m, out)) rest)
-one_used m (Ok file) out rest (runs, same, of) =
-    ap (λ (rs : List Record). used_by rs ++ used_by_modules rest) (records_same file runs of)
-    ∙ (module_by m runs.first.records (is_settled runs) rest
-    ∙ sym (ap (λ (x : Outcome). used_by_modules (cons_option (settled_of (m, x)) rest)) same))
-one_used m (Err refusal) out rest o = sym (ap (λ (x : Outcome). used_by_modules (cons_option (settled_of (m, x)) rest)) o.2)
-
--- they use the same variables
-pub same_used : (es : List Evaluation) (outs : List Evaluated) → AreEvaluations es outs → used_by_modules (map settled_module es) ≡ used_by_modules (settled_among outs)
-same_used [] [] h = refl
-same_used [] (o ∷ outs) h = absurd h
-same_used (e ∷ es) [] h = absurd h
-same_used (e ∷ es) (o ∷ outs) h =
-    ap (λ (l : List UsedVariable). used_by (settled_records e.outcome) ++ l) (same_used es outs h.1)
-    ∙ one_used o.0 e.outcome o.1 (settled_among outs) h.0.outcome
-
--- one that uses a variable is one of them
-user_by : (n : Module) (m : SiteModule) (rs : List Record) (b : Bool) (v : Text) (x : VariableUse) (rest : List Module) → n ≡ with_records m (cond b rs []) → Uses n.records v x
-    → IsAmong n (cons_option (cond b (Some (with_records m rs)) None) rest)
-user_by n m rs true v x rest same u = inl same
-user_by n m rs false v x rest same u = absurd (subst (λ (k : Module). Uses k.records v x) same u)
-
-one_user : (n : Module) (e : Evaluation) (o : Evaluated) (v : Text) (x : VariableUse) (rest : List Module) (outcome : Result EvaluatedFile Refusal) → IsOutcome outcome o.1
-    → n ≡ with_records o.0 (settled_records outcome) → Uses n.records v x → IsAmong n (cons_option (settled_of o) rest)
-one_user n e (m, out) v x rest (Ok file) (runs, is, of) same u =
-    subst (λ (k : Outcome). IsAmong n (cons_option (settled_of (m, k)) rest)) (sym is)
-    (user_by n m runs.first.records (is_settled runs) v x rest (same ∙ ap (with_records m) (records_same file runs of)) u)
-one_user n e (m, out) v x rest (Err refusal) h same u = absurd (subst (λ (k : Module). Uses k.records v x) same u)
-
-later_one : (n : Module) (o : Option Module) (rest : List Module) → IsAmong n rest → IsAmong n (cons_option o rest)
-later_one n None rest a = a
-later_one n (Some m) rest a = inr a
-
-pub user_settled : (es : List Evaluation) (outs : List Evaluated) (n : Module) (v : Text) (x : VariableUse) → AreEvaluations es outs → IsAmong n (map settled_module es) → Uses n.records v x
-    → IsAmong n (settled_among outs)
-user_settled [] outs n v x h a u = absurd a
-user_settled (e ∷ es) [] n v x h a u = absurd h
-user_settled (e ∷ es) (o ∷ outs) n v x h (inl same) u =
-    one_user n e o v x (settled_among outs) e.outcome h.0.outcome (same ∙ ap (λ (m : SiteModule). with_records m (settled_records e.outcome)) (sym (same_file e o h.0))) u
-user_settled (e ∷ es) (o ∷ outs) n v x h (inr a) u = later_one n (settled_of o) (settled_among outs) (user_settled es outs n v x h.1 a u)
 
 -- ---- the answer of each
 

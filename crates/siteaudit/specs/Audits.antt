@@ -25,21 +25,22 @@ use Rattle.sitecertificate.specs.EachOnce.{each_once}
 use Rattle.sitecertificate.specs.ClashAnswers as clashes
 use Rattle.sitecertificate.specs.declared.answers.Clash.{Clash}
 use Rattle.settled.specs.Ways.{same_by, FileRuns, are_runs_alike, keeps_answer, reads_in}
-use Rattle.sitelaws.specs.Sites.{Site, SiteModule, Evaluated, file_of, with_records, HasSettledRecords, AreCandidates}
+use Rattle.sitelaws.specs.Sites.{Site, SiteModule, Evaluated, file_of, with_records, HasSettledRecords, is_withheld}
 use Rattle.sitereads.specs.Answers.{IsUsedRead, IsAnswer}
 use Rattle.sitereads.specs.declared.readers.UsedRead.{UsedRead}
-use Rattle.sitelaws.specs.Sites.{settled_among, candidates_among, reads_of, first_directories, added_directories}
+use Rattle.sitelaws.specs.Sites.{AreCandidates, settled_among, eligible_among, candidates_among, reads_of}
+use Rattle.sitelaws.specs.Sites.{first_directories, added_directories}
 use Rattle.sitelaws.specs.Standings as standings
-use Rattle.sitelaws.specs.Standings.{HasStanding, IsCandidateAnd, IsUsedTwice}
+use Rattle.sitelaws.specs.Standings.{HasStanding, IsCandidateAnd}
 use Rattle.sitelaws.specs.Laws.{CertificateHolds}
-use Rattle.siteaudit.specs.Walks.{IsWalk, directories_of}
+use Rattle.siteaudit.specs.Walks.{IsWalk, directories_of, AreUsedTwice}
 use Rattle.siteaudit.specs.Folders.{AreBadDefaultFiles}
 use Rattle.siteaudit.specs.Missing.{missing_among}
 use Rattle.siteaudit.specs.Unread.{unread_among}
 use Rattle.siteaudit.specs.NoModulefiles.{AreNoModulefiles}
 use Rattle.modulerun.specs.declared.question.Question.{Question}
 use Rattle.modulerun.specs.Questions.{question_view}
-use Rattle.siteaudit.specs.declared.standing.UnlikeUses.{UnlikeUses}
+use Rattle.siteaudit.specs.declared.unlike.UnlikeUses.{UnlikeUses}
 use Rattle.siteaudit.specs.declared.standing.Standing.{Standing}
 use Rattle.siteaudit.specs.declared.standing.Standing.TheVariants.{Certified, Asks, OneWay, ReadsUsed, OutOfStep}
 use Rattle.siteaudit.specs.declared.standing.Standing.TheVariants.{Withheld, Clashes, Refused}
@@ -48,40 +49,34 @@ use Rattle.siteaudit.specs.declared.auditing.UnknownNames.{UnknownNames}
 use Rattle.siteaudit.specs.declared.auditing.AddedDirectory.{AddedDirectory}
 use Rattle.siteaudit.specs.declared.auditing.SiteAudit.{SiteAudit}
 
--- ---- modules that are withheld
-
--- a module of this name is withheld by hand: one of the names that are given means it
-abbrev pub is_withheld : List Text → Text → Bool
-is_withheld without name = list_any (λ given. means given name) without
+-- ---- standings
 
 -- those of the modules that aren't withheld
 abbrev pub remaining : List Text → List Module → List Module
 remaining without ms = filter (λ m. not (is_withheld without m.name)) ms
-
--- ---- standings
 
 -- A module of a site, of whose candidates these remain, stands as the code says. The module that uses what it reads, and
 -- the other module of a clash, have the name and the path that are given, and so many of those that remain and are in
 -- step use the variable of the clash as the other does; one that clashes remains itself; one that is withheld is a
 -- candidate in step; a refusal has its reason.
 abbrev pub StandsAs : Site → List Text → List Module → SiteModule → Standing → Type 0
-StandsAs site without ms m Certified = HasStanding site ms m standings.Certified
-StandsAs site without ms m (Asks first) = HasStanding site ms m (standings.Asks (question_view first))
-StandsAs site without ms m (OneWay first) = HasStanding site ms m (standings.OneWay (record_view first))
+StandsAs site without ms m Certified = HasStanding site without ms m standings.Certified
+StandsAs site without ms m (Asks first) = HasStanding site without ms m (standings.Asks (question_view first))
+StandsAs site without ms m (OneWay first) = HasStanding site without ms m (standings.OneWay (record_view first))
 StandsAs site without ms m (ReadsUsed used) =
     (other : Module) × (other.name ≡ string_bytes used.user_name) × (other.path ≡ string_bytes used.user_path)
-    × HasStanding site ms m (standings.ReadsUsed (string_bytes used.variable) other)
+    × HasStanding site without ms m (standings.ReadsUsed (string_bytes used.variable) other)
 StandsAs site without ms m (OutOfStep variable one other) =
-    HasStanding site ms m (standings.OutOfStep (string_bytes variable) (use_view one) (use_view other))
-StandsAs site without ms m Withheld = (is_withheld without m.name ≡ true) × IsCandidateAnd site m IsInStep
+    HasStanding site without ms m (standings.OutOfStep (string_bytes variable) (use_view one) (use_view other))
+StandsAs site without ms m Withheld = (is_withheld without m.name ≡ true) × IsCandidateAnd site without m IsInStep
 StandsAs site without ms m (Clashes clash) =
     (is_withheld without m.name ≡ false)
     × (other : Module) × (other.name ≡ string_bytes clash.other_name) × (other.path ≡ string_bytes clash.other_path)
     × (clash.alike ≡ users_alike (filter is_in_step ms) (string_bytes clash.variable) (use_view clash.theirs))
-    × HasStanding site ms m
+    × HasStanding site without ms m
     (standings.Clashes (string_bytes clash.variable) (use_view clash.own) (use_view clash.theirs) other)
 StandsAs site without ms m (Refused refusal) =
-    (reason : RequestReason) × (cause_of refusal ≡ because reason) × HasStanding site ms m (standings.Refused reason)
+    (reason : RequestReason) × (cause_of refusal ≡ because reason) × HasStanding site without ms m (standings.Refused reason)
 
 -- the module without its standing
 abbrev pub audited_file : AuditedModule → SiteModule
@@ -93,22 +88,23 @@ AllStand site without ms [] = Unit {0}
 AllStand site without ms (m ∷ audited) =
     StandsAs site without ms (audited_file m) m.standing × AllStand site without ms audited
 
--- A module of these reads that stands as one of whose reads a settled module uses one names the first such read, and the
--- first of the settled modules that uses it.
+-- A module of these reads that stands as one of whose reads an eligible module uses one names the first such read, and the
+-- first of the eligible modules that uses it.
 abbrev pub IsFirstRead : List Module → List Text → Standing → Type 0
-IsFirstRead settled reads (ReadsUsed used) = IsUsedRead settled reads used
-IsFirstRead settled reads Certified = Unit {0}
-IsFirstRead settled reads (Asks first) = Unit {0}
-IsFirstRead settled reads (OneWay first) = Unit {0}
-IsFirstRead settled reads (OutOfStep variable one other) = Unit {0}
-IsFirstRead settled reads Withheld = Unit {0}
-IsFirstRead settled reads (Clashes clash) = Unit {0}
-IsFirstRead settled reads (Refused refusal) = Unit {0}
+IsFirstRead eligible reads (ReadsUsed used) = IsUsedRead eligible reads used
+IsFirstRead eligible reads Certified = Unit {0}
+IsFirstRead eligible reads (Asks first) = Unit {0}
+IsFirstRead eligible reads (OneWay first) = Unit {0}
+IsFirstRead eligible reads (OutOfStep variable one other) = Unit {0}
+IsFirstRead eligible reads Withheld = Unit {0}
+IsFirstRead eligible reads (Clashes clash) = Unit {0}
+IsFirstRead eligible reads (Refused refusal) = Unit {0}
 
 -- so does each of them
 abbrev pub AreFirstReads : List Module → List AuditedModule → Type 0
-AreFirstReads settled [] = Unit {0}
-AreFirstReads settled (m ∷ audited) = IsFirstRead settled (texts_in m.reads) m.standing × AreFirstReads settled audited
+AreFirstReads eligible [] = Unit {0}
+AreFirstReads eligible (m ∷ audited) =
+    IsFirstRead eligible (texts_in m.reads) m.standing × AreFirstReads eligible audited
 
 -- it stands as certified
 abbrev pub is_certified : Standing → Bool
@@ -213,18 +209,15 @@ hanging_directories site outcomes = flat_map (additions_to (settled_directories 
 abbrev pub out_of_step : UnlikeUses → Standing
 out_of_step unlike = OutOfStep unlike.variable unlike.one unlike.other
 
--- the records use the variable in these two ways
-abbrev pub AreUsedTwice : List Record → UnlikeUses → Type 0
-AreUsedTwice rs unlike = IsUsedTwice rs (string_bytes unlike.variable) (use_view unlike.one) (use_view unlike.other)
-
 -- a standing, if there is one
 abbrev pub listed : {X : Type 0} → (X → Standing) → Option X → List Standing
 listed stands o = option_to_list (option_map stands o)
 
--- Whatever others do, a module of these runs stands in these ways, in their order, where these modules are the settled
+-- Whatever others do, a module of these runs stands in these ways, in their order, where these modules are the eligible
 -- ones: its first question that doesn't keep its answer, its first record after which the start can't be back, the first
--- of its reads that a settled module uses, and two of its uses of one variable that differ; each of them, if there is one.
-pub record AreOwnStandings (settled : List Module) (runs : FileRuns RequestReason) (standings : List Standing) : Type 0
+-- of its reads that an eligible module uses, and two of its uses of one variable that differ; each of them, if there is
+-- one.
+pub record AreOwnStandings (eligible : List Module) (runs : FileRuns RequestReason) (standings : List Standing) : Type 0
   where
     pub question : Option Question
     pub one_way : Option code.Record
@@ -233,7 +226,7 @@ pub record AreOwnStandings (settled : List Module) (runs : FileRuns RequestReaso
     pub asks : option_map question_view question
         ≡ find (λ q. not (keeps_answer (are_runs_alike runs) runs.first.records q)) runs.first.asked
     pub returns : option_map record_view one_way ≡ find (λ r. not (can_return r)) runs.first.records
-    pub reads : IsAnswer settled (without_repeats (reads_in runs)) used
+    pub reads : IsAnswer eligible (without_repeats (reads_in runs)) used
     pub steps : MatchOption unlike (are_in_step (used_by runs.first.records) ≡ true) (AreUsedTwice runs.first.records)
     pub all : standings ≡ listed Asks question ++ (listed OneWay one_way ++ (listed ReadsUsed used
         ++ listed out_of_step unlike))
@@ -248,24 +241,24 @@ StandsFurther ms m (first ∷ others) further =
 
 -- the further standings of an evaluated module, by its first records; one whose evaluation is refused has none
 abbrev pub HasFurther : List Module → List Module → Evaluated → List Standing → Type 0
-HasFurther ms settled (m, Ok runs) further =
-    (own : List Standing) × AreOwnStandings settled runs own
+HasFurther ms eligible (m, Ok runs) further =
+    (own : List Standing) × AreOwnStandings eligible runs own
     × StandsFurther ms (with_records m runs.first.records) own further
-HasFurther ms settled (m, Err reason) further = further ≡ []
+HasFurther ms eligible (m, Err reason) further = further ≡ []
 
 -- each of them has these
 abbrev pub HaveFurther : List Module → List Module → List Evaluated → List AuditedModule → Type 0
-HaveFurther ms settled [] [] = Unit {0}
-HaveFurther ms settled [] (m ∷ audited) = ⊥
-HaveFurther ms settled (outcome ∷ outcomes) [] = ⊥
-HaveFurther ms settled (outcome ∷ outcomes) (m ∷ audited) =
-    HasFurther ms settled outcome m.further.items × HaveFurther ms settled outcomes audited
+HaveFurther ms eligible [] [] = Unit {0}
+HaveFurther ms eligible [] (m ∷ audited) = ⊥
+HaveFurther ms eligible (outcome ∷ outcomes) [] = ⊥
+HaveFurther ms eligible (outcome ∷ outcomes) (m ∷ audited) =
+    HasFurther ms eligible outcome m.further.items × HaveFurther ms eligible outcomes audited
 
 -- ---- the whole
 
 -- What was found is an audit of the site, where the modules that these names mean are withheld: a walk over it has these
 -- directories and these outcomes. It has each module of the walk, in its order, with the variables that its evaluations
--- read, each once, and how it stands, with the first of its reads that a settled module uses, and how it stands further,
+-- read, each once, and how it stands, with the first of its reads that an eligible module uses, and how it stands further,
 -- by its first records; the certificate of the candidates that remain, each use once; those of its directories that aren't
 -- there, in their order; what the modules in turn add that hangs on modules that aren't settled; the default files above
 -- each folder, which aren't read; the files in the places of modules that are no modulefiles; the bad default files of the
@@ -275,17 +268,17 @@ pub record IsAudit (site : Site) (without : List Text) (found : SiteAudit) : Typ
   pub dirs : List Text
   pub outcomes : List Evaluated
   pub walk : IsWalk site dirs outcomes
-  pub candidates : AreCandidates site (candidates_among outcomes)
+  pub candidates : AreCandidates site without (candidates_among without outcomes)
   pub modules : map audited_file found.modules.items ≡ map (λ outcome. outcome.0) outcomes
   pub reads : map (λ m. texts_in m.reads) found.modules.items ≡ map (λ o. without_repeats (reads_of o)) outcomes
-  pub standing : AllStand site without (remaining without (candidates_among outcomes)) found.modules.items
-  pub used : AreFirstReads (settled_among outcomes) found.modules.items
+  pub standing : AllStand site without (remaining without (candidates_among without outcomes)) found.modules.items
+  pub used : AreFirstReads (eligible_among without outcomes) found.modules.items
   pub certificate : map used_view found.certificate.items
-      ≡ each_once (certificate (remaining without (candidates_among outcomes)))
+      ≡ each_once (certificate (remaining without (candidates_among without outcomes)))
   pub missing_directories : texts_in found.missing_directories ≡ missing_among site.listings dirs
   pub hanging : map addition_of found.hanging_directories.items ≡ hanging_directories site outcomes
-  pub further : HaveFurther (filter is_in_step (remaining without (candidates_among outcomes))) (settled_among outcomes)
-      outcomes found.modules.items
+  pub further : HaveFurther (filter is_in_step (remaining without (candidates_among without outcomes)))
+      (eligible_among without outcomes) outcomes found.modules.items
   pub no_modulefiles : AreNoModulefiles site.files site.listings dirs (texts_in found.no_modulefiles)
   pub unread_default_files : texts_in found.unread_default_files ≡ unread_among site.listings dirs
   pub bad_default_files : AreBadDefaultFiles site.limits site.files site.listings (map (λ outcome. outcome.0) outcomes)

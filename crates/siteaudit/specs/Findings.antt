@@ -1,7 +1,7 @@
 -- What each module of a site shows by itself, and what the answers about clashes make of it: for this crate's own
 -- contracts alone.
-use Rattle.std.specs.Prelude.{◌≡◌, Bool, true, false, not, if◌then◌else◌, List, [], ◌∷◌, ◌++◌, map, flat_map, find}
-use Rattle.std.specs.Prelude.{Option, Some, None, Result, Ok, Err, MatchOption, string_bytes}
+use Rattle.std.specs.Prelude.{◌≡◌, Bool, false, not, if◌then◌else◌, List, [], ◌∷◌, ◌++◌, map, flat_map, find}
+use Rattle.std.specs.Prelude.{Option, Some, None, Result, Ok, Err, string_bytes}
 use Rattle.std.specs.List.{AllByRecursion}
 use Rattle.std.specs.Option.{option_map}
 use Rattle.envvars.specs.Texts.{Text}
@@ -14,19 +14,18 @@ use Rattle.modulefile.specs.Moves.{Module}
 use Rattle.reversal.specs.VariableUses.{Pathed, can_return, UsedVariable}
 use Rattle.modules.specs.MoveViews.{module_view}
 use Rattle.modules.specs.declared.refusal.Refusal.{Refusal}
-use Rattle.sitecertificate.specs.RecordUses.{used_by, used_by_modules, IsAmong, modulepath, same_use}
-use Rattle.sitecertificate.specs.RecordUses.{are_in_step}
+use Rattle.sitecertificate.specs.RecordUses.{used_by_modules, IsAmong, modulepath, same_use}
 use Rattle.sitecertificate.specs.UseViews.{use_view}
 use Rattle.sitereads.specs.declared.readers.UsedRead.{UsedRead}
-use Rattle.sitelaws.specs.Sites.{SiteModule, with_records}
+use Rattle.sitelaws.specs.Sites.{SiteModule, with_records, is_withheld}
 use Rattle.sitecertificate.specs.declared.answers.Clash.{Clash}
 use Rattle.sitecertificate.specs.ClashAnswers.{AreAnswers, without_clashes}
 use Rattle.sitecertificate.specs.EachOnce.{each_once}
 use Rattle.siteaudit.specs.declared.walk.EvaluatedFile.{EvaluatedFile}
 use Rattle.siteaudit.specs.declared.walk.Evaluation.{Evaluation}
-use Rattle.siteaudit.specs.Audits.{is_withheld, listed, out_of_step}
-use Rattle.siteaudit.specs.SettledRuns.{AreUsedReads, evaluated_file, settled_module}
-use Rattle.siteaudit.specs.declared.standing.UnlikeUses.{UnlikeUses}
+use Rattle.siteaudit.specs.Audits.{listed, out_of_step}
+use Rattle.siteaudit.specs.SettledRuns.{AreUsedReads, evaluated_file, eligible_module}
+use Rattle.siteaudit.specs.declared.unlike.UnlikeUses.{UnlikeUses}
 use Rattle.siteaudit.specs.declared.standing.Standing.{Standing}
 use Rattle.siteaudit.specs.declared.standing.Standing.TheVariants as ways
 use Rattle.siteaudit.specs.declared.standing.Standing.TheVariants.{Certified, Asks, OneWay, ReadsUsed, Withheld, Clashes}
@@ -47,13 +46,11 @@ pub record AreUnlike (ps : List UsedVariable) (unlike : UnlikeUses) : Type 0 whe
   pub differ : same_use (use_view unlike.one) (use_view unlike.other) ≡ false
 
 -- Whatever others do, a module stands in these ways, in their order: by the first of its questions that doesn't keep its
--- answer, by its records, and by the first of its reads that a settled module uses.
+-- answer, by its records, by the first of its reads that an eligible module uses, and by two of its uses that differ.
 pub record AreStandingsOf (unkept : Option Question) (rs : List Record) (used : Option UsedRead)
-    (standings : List Standing) : Type 0 where
+    (unlike : Option UnlikeUses) (standings : List Standing) : Type 0 where
   pub one_way : Option code.Record
-  pub unlike : Option UnlikeUses
   pub returns : option_map record_view one_way ≡ find (λ r. not (can_return r)) rs
-  pub steps : MatchOption unlike (are_in_step (used_by rs) ≡ true) (AreUnlike (used_by rs))
   pub all : standings ≡ listed Asks unkept ++ (listed OneWay one_way ++ (listed ReadsUsed used
       ++ listed out_of_step unlike))
 
@@ -65,13 +62,14 @@ IsFindingBy standings rs (Stands first further records) =
 IsFindingBy standings rs (InStep records) = (standings ≡ []) × (map record_view records.items ≡ rs)
 
 -- what a module with these records shows by itself, where its evaluation is accepted
-abbrev pub IsFindingOf : Option Question → List Record → Option UsedRead → ModuleFinding → Type 0
-IsFindingOf unkept rs used finding =
-    (standings : List Standing) × AreStandingsOf unkept rs used standings × IsFindingBy standings rs finding
+abbrev pub IsFindingOf : Option Question → List Record → Option UsedRead → Option UnlikeUses → ModuleFinding → Type 0
+IsFindingOf unkept rs used unlike finding =
+    (standings : List Standing) × AreStandingsOf unkept rs used unlike standings × IsFindingBy standings rs finding
 
--- what the outcome of its evaluations shows, and what it reads that a settled module uses
+-- what the outcome of its evaluations shows, and what it reads that an eligible module uses
 abbrev pub IsFinding : Result EvaluatedFile Refusal → Option UsedRead → ModuleFinding → Type 0
-IsFinding (Ok file) used finding = IsFindingOf file.unkept (map record_view file.records.items) used finding
+IsFinding (Ok file) used finding =
+    IsFindingOf file.unkept (map record_view file.records.items) used file.unlike finding
 IsFinding (Err refusal) used finding = finding ≡ Refused refusal
 
 -- how it stands by it, by whether it is withheld
@@ -95,7 +93,7 @@ aside_of m (InStep records) = []
 
 -- ---- all modules
 
--- an evaluation, what of its reads a settled module uses, and what it shows
+-- an evaluation, what of its reads an eligible module uses, and what it shows
 abbrev pub Shown : Type 0
 Shown = Evaluation × Option UsedRead × ModuleFinding
 
@@ -219,7 +217,7 @@ pub record AreStandings (without : List Text) (evaluations : List Evaluation) (m
   pub aside : List Module
   pub answers : List (Option Clash)
   pub beside : List (Option Clash)
-  pub read : AreUsedReads (map settled_module evaluations) evaluations used
+  pub read : AreUsedReads (map (eligible_module without) evaluations) evaluations used
   pub by_themselves : AreJudged without evaluations (reads_along evaluations used) judged in_step aside
   pub answered : AreAnswers in_step in_step answers
   pub answered_beside : AreAnswers in_step aside beside

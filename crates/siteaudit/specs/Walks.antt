@@ -1,6 +1,6 @@
 -- What a walk over a site answers (own).
 use Rattle.std.specs.Prelude.{◌≡◌, ℕ, ◌<◌, ◌≤◌, true, not, List, [], ◌∷◌, ◌++◌, length, map, flat_map, find}
-use Rattle.std.specs.Prelude.{None, Result, Ok, Err, string_bytes}
+use Rattle.std.specs.Prelude.{None, Result, Ok, Err, MatchOption, string_bytes}
 use Rattle.std.specs.Option.{option_map}
 use Rattle.envvars.specs.Texts.{Text, texts_in}
 use Rattle.envvars.specs.Fields.{without_repeats, are_distinct}
@@ -10,6 +10,7 @@ use Rattle.envloaded.specs.Loaded.{loaded_in}
 use Rattle.tclrules.specs.declared.limits.Limits.{Limits}
 use Rattle.filetree.specs.Agreement.{Files, Listings, InEachPair}
 use Rattle.filetree.specs.Causes.{Applies, because}
+use Rattle.modulefile.specs.Records.{Record}
 use Rattle.modulefile.specs.RecordViews.{record_view}
 use Rattle.modulerun.specs.Questions.{question_view}
 use Rattle.settled.specs.Ways.{FileRuns, are_runs_alike, keeps_answer}
@@ -17,13 +18,16 @@ use Rattle.modulefile.specs.Judgments.{bad_edit}
 use Rattle.requests.specs.Reasons.{RequestReason, refused_edit}
 use Rattle.modules.specs.Answers.{cause_of}
 use Rattle.modules.specs.declared.refusal.Refusal.{Refusal}
-use Rattle.sitecertificate.specs.RecordUses.{IsAmong}
+use Rattle.sitecertificate.specs.RecordUses.{IsAmong, used_by, are_in_step}
+use Rattle.sitecertificate.specs.UseViews.{use_view}
 use Rattle.sitelaws.specs.Sites.{Site, Evaluated, EvaluatesTo, first_directories, added_directories}
 use Rattle.sitelaws.specs.Sites.{reads_of}
 use Rattle.sitelaws.specs.Sites.{site_of}
 use Rattle.sitelaws.specs.Sites.{IsDirectory, AreDirectories, AreModulesIn}
+use Rattle.sitelaws.specs.Standings.{IsUsedTwice}
 use Rattle.siteaudit.specs.declared.fault.WalkFault.{WalkFault}
 use Rattle.siteaudit.specs.declared.fault.WalkFault.TheVariants.{Refused, TooManyDirectories}
+use Rattle.siteaudit.specs.declared.unlike.UnlikeUses.{UnlikeUses}
 use Rattle.siteaudit.specs.declared.walk.EvaluatedFile.{EvaluatedFile}
 use Rattle.siteaudit.specs.declared.walk.Evaluation.{Evaluation}
 use Rattle.siteaudit.specs.declared.walk.SiteWalk.{SiteWalk}
@@ -49,12 +53,18 @@ pub record IsWalk (site : Site) (dirs : List Text) (outcomes : List Evaluated) :
 
 -- ---- what the code has for them
 
--- What the code has of the evaluations of a file is of these: the records of the first, and the first of its questions
--- that doesn't keep its answer.
+-- the records use the variable in these two ways
+abbrev pub AreUsedTwice : List Record → UnlikeUses → Type 0
+AreUsedTwice rs unlike = IsUsedTwice rs (string_bytes unlike.variable) (use_view unlike.one) (use_view unlike.other)
+
+-- What the code has of the evaluations of a file is of these: the records of the first, the first of its questions that
+-- doesn't keep its answer, and two ways in which the records use one variable, unless they are in step.
 pub record IsOfRuns (file : EvaluatedFile) (runs : FileRuns RequestReason) : Type 0 where
   pub records : map record_view file.records.items ≡ runs.first.records
   pub unkept : option_map question_view file.unkept
       ≡ find (λ q. not (keeps_answer (are_runs_alike runs) runs.first.records q)) runs.first.asked
+  pub unlike : MatchOption file.unlike (are_in_step (used_by runs.first.records) ≡ true)
+      (AreUsedTwice runs.first.records)
 
 -- It stands for their outcome: for what they leave, or the reason of the refusal.
 abbrev pub IsOutcome : Result EvaluatedFile Refusal → Result (FileRuns RequestReason) RequestReason → Type 0

@@ -3,20 +3,20 @@ ghost use Rattle.std.specs.Prelude.{◌≡◌, ◌++◌, map, string_bytes, IfOk
 ghost use Rattle.std.specs.Vec.Iter.{into_iter_items};
 ghost use Rattle.modulefile.specs.RecordViews.{record_view};
 ghost use Rattle.modules.specs.MoveViews.{module_view};
+ghost use Rattle.sitelaws.specs.Sites as sites;
 ghost use Rattle.sitelaws.specs.Sites.{with_records};
 ghost use Rattle.sitecertificate.specs.UseViews.{used_view};
-ghost use Rattle.siteaudit.specs.Audits as spec;
 ghost use Rattle.siteaudit.specs.Findings as findings;
 ghost use Rattle.siteaudit.specs.Findings.{own_standing, steps_of, aside_of, AddsJudged, AreJudged, AreStandings};
 ghost use Rattle.siteaudit.specs.Findings.{answers_left, beside_left, further_with, IsModuleWith, AreModulesWith};
 ghost use Rattle.siteaudit.specs.Findings.{first_answer, later_answers, reads_along};
 
 use crate::auditing::AuditedModule;
+use crate::eligible::is_withheld;
 use crate::reads::used_in;
 use crate::standing::{ModuleFinding, Standing, judge, push_standing};
 use crate::walk::Evaluation;
 use modulefile::Record;
-use modulename::means;
 use modules::Module;
 use sitecertificate::{Clash, FoundClashes, UsedVariable, clashes};
 use sitereads::UsedRead;
@@ -50,7 +50,7 @@ pub(crate) struct JudgedModule {
 pub(crate) struct JudgedSite {
     /// All of them, in their order.
     pub(crate) judged: Vec<JudgedModule>,
-    /// The settled ones in step whose reads none of them uses and that aren't withheld, in the same order.
+    /// The eligible ones whose reads none of them uses, in the same order.
     pub(crate) in_step: Vec<Module>,
     /// Those that stand by themselves and may clash besides, with their first records, in the same order.
     pub(crate) aside: Vec<Module>,
@@ -73,13 +73,6 @@ fn module_of(
     })
 }
 
-/// Whether one of the names that are given means a module of this name, so that it is withheld.
-fn is_withheld(without: &[String], name: &str) -> bool
-    ensures { result ≡ spec.is_withheld (map string_bytes without.now) name.now }
-{
-    without.iter().any(|given| means(given.as_str(), name))
-}
-
 /// How a module stands by what it shows by itself. Where other modules decide it joins those that are settled and in
 /// step, unless it is withheld; where it may clash besides it joins those that stand by themselves.
 fn sort_out(
@@ -92,7 +85,7 @@ fn sort_out(
     aside: &mut Vec<Module>,
 ) -> Result<OwnStanding, AllocError>
     ensures standing { IfOk result (λ standing.
-        standing ≡ own_standing (spec.is_withheld (map string_bytes without.now) name.now) finding) }
+        standing ≡ own_standing (sites.is_withheld (map string_bytes without.now) name.now) finding) }
     ensures steps { OnOk result (map module_view in_step.new.items ≡ map module_view in_step.old.items
         ++ steps_of (map string_bytes without.now) (record { name = name.now; path = path.now }) finding) }
     ensures others { OnOk result (map module_view aside.new.items ≡ map module_view aside.old.items
@@ -125,7 +118,7 @@ fn next_answer<T: Drop>(answers: &mut IntoIter<Option<T>>) -> Option<T>
     }
 }
 
-/// Judges one module more by itself, of whose reads a settled module uses this, where the modules that these names mean
+/// Judges one module more by itself, of whose reads an eligible module uses this, where the modules that these names mean
 /// are withheld.
 fn judge_next(
     alloc: Global,
@@ -161,7 +154,7 @@ fn judge_next(
     Ok(())
 }
 
-/// Judges each module by itself, of whose reads settled modules use these, where the modules that these names mean are
+/// Judges each module by itself, of whose reads eligible modules use these, where the modules that these names mean are
 /// withheld.
 pub(crate) fn judge_all(
     alloc: Global,
@@ -299,7 +292,7 @@ pub(crate) fn judge_modules(
     ensures { IfOk result (λ found. AreStandings (map string_bytes without.now) evaluations.items found.modules.items
         (map used_view found.certificate.items)) }
 {
-    let used = used_in(alloc, evaluations.as_slice())?;
+    let used = used_in(alloc, evaluations.as_slice(), without)?;
     let JudgedSite {
         judged,
         in_step,

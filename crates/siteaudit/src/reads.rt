@@ -1,60 +1,59 @@
-//! What the modules of a site read that settled ones of them use.
-ghost use Rattle.std.specs.Prelude.{◌≡◌, map, IfOk};
+//! What the modules of a site read that eligible ones of them use.
+ghost use Rattle.std.specs.Prelude.{◌≡◌, map, string_bytes, IfOk};
 ghost use Rattle.sitereads.specs.Answers.{module_of, reads_of};
-ghost use Rattle.modulefile.specs.RecordViews.{record_view};
-ghost use Rattle.siteaudit.specs.SettledRuns as spec;
-ghost use Rattle.siteaudit.specs.SettledRuns.{read_by, settled_module, AreUsedReads};
+ghost use Rattle.siteaudit.specs.SettledRuns.{read_by, eligible_module, AreUsedReads};
 
-use crate::settled_runs::settled_file;
+use crate::eligible::eligible_records;
 use crate::walk::Evaluation;
 use envvars::fields::slices;
-use modulefile::Record;
 use sitereads::{Reader, UsedRead, used_reads};
 use std::alloc::{AllocError, Global};
 
-/// The records of a settled module; of another none.
-fn settled_records(evaluation: &Evaluation) -> &[Record]
-    ensures { map record_view result.now ≡ spec.settled_records evaluation.entry.now.outcome }
-{
-    match settled_file(evaluation) {
-        Some(file) => file.records.as_slice(),
-        None => &[],
-    }
-}
-
-/// The module of an evaluation, with what it reads. One that isn't settled has no records here.
-fn reader_of(alloc: Global, evaluation: &Evaluation) -> Result<Reader<'_>, AllocError>
-    ensures of_module { IfOk result (λ reader. module_of reader ≡ settled_module evaluation.entry.now) }
+/// The module of an evaluation, with what it reads. One that isn't eligible has no records here.
+fn reader_of<'a>(
+    alloc: Global,
+    evaluation: &'a Evaluation,
+    without: &[String],
+) -> Result<Reader<'a>, AllocError>
+    ensures of_module { IfOk result (λ reader.
+        module_of reader ≡ eligible_module (map string_bytes without.now) evaluation.entry.now) }
     ensures reads { IfOk result (λ reader. reads_of reader ≡ read_by evaluation.entry.now) }
 {
     Ok(Reader {
         name: evaluation.name.as_str(),
         path: evaluation.path.as_str(),
-        records: settled_records(evaluation),
+        records: eligible_records(evaluation, without),
         reads: slices(alloc, evaluation.reads.as_slice())?,
     })
 }
 
 /// The same of each evaluation.
-fn readers(alloc: Global, evaluations: &[Evaluation]) -> Result<Vec<Reader<'_>>, AllocError>
-    ensures modules { IfOk result (λ readers. map module_of readers.items ≡ map settled_module evaluations.entry.now) }
+fn readers<'a>(
+    alloc: Global,
+    evaluations: &'a [Evaluation],
+    without: &[String],
+) -> Result<Vec<Reader<'a>>, AllocError>
+    ensures modules { IfOk result (λ readers. map module_of readers.items
+        ≡ map (eligible_module (map string_bytes without.now)) evaluations.entry.now) }
     ensures reads { IfOk result (λ readers. map reads_of readers.items ≡ map read_by evaluations.entry.now) }
 {
     let mut readers = Vec::new(alloc);
     for evaluation in evaluations {
-        readers.push(reader_of(alloc, evaluation)?)?;
+        readers.push(reader_of(alloc, evaluation, without)?)?;
     }
     Ok(readers)
 }
 
-/// For each evaluation, in their order, the first variable that its module reads and a settled module of them uses;
-/// `None` where there is none.
+/// For each evaluation, in their order, the first variable that its module reads and an eligible module of them uses,
+/// where the modules that these names mean are withheld; `None` where there is none.
 pub(crate) fn used_in(
     alloc: Global,
     evaluations: &[Evaluation],
+    without: &[String],
 ) -> Result<Vec<Option<UsedRead>>, AllocError>
-    ensures { IfOk result (λ used. AreUsedReads (map settled_module evaluations.now) evaluations.now used.items) }
+    ensures { IfOk result (λ used. AreUsedReads (map (eligible_module (map string_bytes without.now)) evaluations.now)
+        evaluations.now used.items) }
 {
-    let readers = readers(alloc, evaluations)?;
+    let readers = readers(alloc, evaluations, without)?;
     used_reads(alloc, readers.as_slice())
 }

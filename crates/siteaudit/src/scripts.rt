@@ -1,6 +1,6 @@
 //! The evaluations of a script: the first, for loading in sh with nothing loaded, and those in the other ways that it asks
 //! for.
-ghost use Rattle.std.specs.Prelude.{◌≡◌, ◌++◌, find, not, map, string_bytes, IfOk, IfErr, OnOk};
+ghost use Rattle.std.specs.Prelude.{◌≡◌, true, ◌++◌, find, not, map, string_bytes, IfOk, IfErr, OnOk, MatchOption};
 ghost use Rattle.std.specs.Option.{option_map};
 ghost use Rattle.envvars.specs.Texts.{texts_in};
 ghost use Rattle.envvars.specs.Fields.{without_repeats};
@@ -10,9 +10,12 @@ ghost use Rattle.settled.specs.Resting as resting;
 ghost use Rattle.settled.specs.Ways as spec;
 ghost use Rattle.settled.specs.Ways.{keeps_answer};
 ghost use Rattle.settled.specs.WayViews.{way_view};
+ghost use Rattle.sitecertificate.specs.RecordUses.{used_by, are_in_step};
+ghost use Rattle.siteaudit.specs.Findings.{AreUnlike};
 ghost use Rattle.siteaudit.specs.WalkParts.{site_context, ComesTo, GivesUp, ScriptRuns, ShowsOne, ShowsAll, ShowsScript};
 
 use crate::files::SiteSettings;
+use crate::unlike::unlike_in;
 use crate::walk::EvaluatedFile;
 use envvars::WorkingCopy;
 use envvars::fields::{deduplicated, owned, slices};
@@ -141,18 +144,27 @@ fn file_of(alloc: Global, alike: bool, ran: FileRun) -> Result<EvaluatedFile, Al
     ensures records { IfOk result (λ file. file.records ≡ ran.records) }
     ensures unkept { IfOk result (λ file. option_map question_view file.unkept ≡ find (λ q. not (keeps_answer alike
         (map record_view ran.records.items) q)) (questions_in ran.asked.items)) }
+    ensures unlike { IfOk result (λ file. MatchOption file.unlike
+        (are_in_step (used_by (map record_view ran.records.items)) ≡ true)
+        (AreUnlike (used_by (map record_view ran.records.items)))) }
 {
     let place = first_unkept(alloc, alike, &ran)?;
     let FileRun { records, asked, .. } = ran;
+    let unlike = unlike_in(alloc, records.as_slice())?;
     match place {
         Some(place) => {
             let mut asked = asked;
             let unkept = Some(asked.swap_remove(place));
-            Ok(EvaluatedFile { records, unkept })
+            Ok(EvaluatedFile {
+                records,
+                unkept,
+                unlike,
+            })
         }
         None => Ok(EvaluatedFile {
             records,
             unkept: None,
+            unlike,
         }),
     }
 }

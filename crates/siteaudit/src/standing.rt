@@ -1,23 +1,19 @@
 //! How each module of a site stands: whether it is certified, and else why it is not.
-ghost use Rattle.std.specs.Prelude.{◌≡◌, true, not, ◌++◌, cond, find, map, option_to_list, Some, None, string_bytes};
-ghost use Rattle.std.specs.Prelude.{IfOk, OnOk, MatchOption};
+ghost use Rattle.std.specs.Prelude.{◌≡◌, not, ◌++◌, cond, find, map, option_to_list, Some, None, IfOk, OnOk};
 ghost use Rattle.std.specs.Option.{option_map};
-ghost use Rattle.envvars.specs.Fields.{colon};
 ghost use Rattle.modulefile.specs.RecordViews.{record_view};
 ghost use Rattle.reversal.specs.VariableUses as variable_uses;
-ghost use Rattle.sitecertificate.specs.RecordUses as uses;
-ghost use Rattle.sitecertificate.specs.RecordUses.{use_alike, are_in_step, modulepath};
-ghost use Rattle.sitecertificate.specs.UseViews.{use_view, used_view};
 ghost use Rattle.siteaudit.specs.Audits as audits;
-ghost use Rattle.siteaudit.specs.Findings.{AreUnlike, AreStandingsOf, IsFindingBy, IsFindingOf, IsFinding};
+ghost use Rattle.siteaudit.specs.Findings.{AreStandingsOf, IsFindingBy, IsFindingOf, IsFinding};
 
+use crate::unlike::UnlikeUses;
 use crate::walk::EvaluatedFile;
 use message::texts::copies;
-use modulefile::{Delimiter, PathEdit, Record};
+use modulefile::{PathEdit, Record};
 use modulerun::Question;
 use modules::Refusal;
 use settled::can_return;
-use sitecertificate::{Clash, UsedVariable, VariableUse, first_unlike, used_by};
+use sitecertificate::{Clash, VariableUse};
 use sitereads::UsedRead;
 use std::alloc::{AllocError, Global};
 
@@ -31,7 +27,8 @@ pub enum Standing {
     Asks(Question),
     /// Each question keeps its answer, and this is the first of its records after which the start can't be back.
     OneWay(Record),
-    /// It is settled, and reads a variable that a settled module uses.
+    /// It is settled, and reads a variable that an eligible module uses: one that is settled and in step and isn't
+    /// withheld.
     ReadsUsed(UsedRead),
     /// It is settled, and uses the variable in these two ways; or the variable is MODULEPATH, and the second way is
     /// that of a path with colons.
@@ -46,14 +43,6 @@ pub enum Standing {
     Clashes(Clash),
     /// Its evaluation is refused.
     Refused(Refusal),
-}
-
-/// Two uses of one variable that differ.
-#[derive(Drop)]
-pub(crate) struct UnlikeUses {
-    variable: String,
-    one: VariableUse,
-    other: VariableUse,
 }
 
 /// What a module shows by itself.
@@ -107,73 +96,6 @@ fn one_way_in(alloc: Global, records: &[Record]) -> Result<Option<Record>, Alloc
     }
 }
 
-/// MODULEPATH, as a path with colons.
-fn directories_use(alloc: Global) -> Result<UsedVariable, AllocError>
-    ensures { IfOk result (λ used. used_view used ≡ (modulepath, variable_uses.Pathed colon)) }
-{
-    Ok(UsedVariable {
-        variable: String::from_str(alloc, "MODULEPATH")?,
-        used: VariableUse::Pathed(Delimiter::COLON),
-    })
-}
-
-/// The first use of a variable in another way: that of the directories, or one of the module's own.
-fn find_unlike<'a>(
-    one: &UsedVariable,
-    directories: &'a [UsedVariable],
-    used: &'a [UsedVariable],
-) -> Option<&'a UsedVariable>
-    ensures { option_map (λ x. used_view x.now) result ≡ find (λ other. not (use_alike (used_view one.now) other))
-        (map used_view directories.entry.now ++ map used_view used.entry.now) }
-{
-    match first_unlike(one, directories) {
-        Some(other) => Some(other),
-        None => first_unlike(one, used),
-    }
-}
-
-/// Copies of two uses of one variable.
-fn unlike_of(
-    alloc: Global,
-    one: &UsedVariable,
-    other: &UsedVariable,
-) -> Result<UnlikeUses, AllocError>
-    ensures variable { IfOk result (λ unlike. string_bytes unlike.variable ≡ (used_view one.now).0) }
-    ensures one { IfOk result (λ unlike. use_view unlike.one ≡ (used_view one.now).1) }
-    ensures other { IfOk result (λ unlike. use_view unlike.other ≡ (used_view other.now).1) }
-{
-    Ok(UnlikeUses {
-        variable: String::from_str(alloc, one.variable.as_str())?,
-        one: one.used.copy(alloc)?,
-        other: other.used.copy(alloc)?,
-    })
-}
-
-/// Two ways in which one variable is used, of which the second may be that of MODULEPATH as a path with colons; `None`
-/// where the uses are in step.
-fn unlike_uses(alloc: Global, used: &[UsedVariable]) -> Result<Option<UnlikeUses>, AllocError>
-    ensures { IfOk result (λ found. MatchOption found (are_in_step (map used_view used.now) ≡ true)
-        (AreUnlike (map used_view used.now))) }
-{
-    let directories = [directories_use(alloc)?];
-    for one in used {
-        if let Some(other) = find_unlike(one, &directories, used) {
-            return Ok(Some(unlike_of(alloc, one, other)?));
-        }
-    }
-    Ok(None)
-}
-
-/// The same of what the records of a module use.
-fn unlike_in(alloc: Global, records: &[Record]) -> Result<Option<UnlikeUses>, AllocError>
-    ensures { IfOk result (λ found. MatchOption found
-        (are_in_step (uses.used_by (map record_view records.now)) ≡ true)
-        (AreUnlike (uses.used_by (map record_view records.now)))) }
-{
-    let used = used_by(alloc, records)?;
-    unlike_uses(alloc, used.as_slice())
-}
-
 /// Two uses of one variable that differ, as a standing.
 fn out_of_step(unlike: UnlikeUses) -> Standing
     ensures { result ≡ audits.out_of_step unlike }
@@ -203,18 +125,19 @@ pub(crate) fn push_standing(
     Ok(())
 }
 
-/// How a module with these records stands by itself, in each way in which it does, where it asks this and a settled
-/// module uses this of its reads.
+/// How a module with these records stands by itself, in each way in which it does, where it asks this, an eligible module
+/// uses this of its reads, and it uses a variable in these two ways.
 fn standings_of(
     alloc: Global,
     records: &[Record],
     unkept: Option<Question>,
     used: Option<UsedRead>,
+    unlike: Option<UnlikeUses>,
 ) -> Result<Vec<Standing>, AllocError>
-    ensures { IfOk result (λ standings. AreStandingsOf unkept (map record_view records.now) used standings.items) }
+    ensures { IfOk result (λ standings.
+        AreStandingsOf unkept (map record_view records.now) used unlike standings.items) }
 {
     let one_way = one_way_in(alloc, records)?;
-    let unlike = unlike_in(alloc, records)?;
     let mut standings = Vec::new(alloc);
     push_standing(&mut standings, unkept.map(Standing::Asks))?;
     push_standing(&mut standings, one_way.map(Standing::OneWay))?;
@@ -241,14 +164,18 @@ fn judge_file(
     file: EvaluatedFile,
     used: Option<UsedRead>,
 ) -> Result<ModuleFinding, AllocError>
-    ensures { IfOk result (IsFindingOf file.unkept (map record_view file.records.items) used) }
+    ensures { IfOk result (IsFindingOf file.unkept (map record_view file.records.items) used file.unlike) }
 {
-    let EvaluatedFile { records, unkept } = file;
-    let standings = standings_of(alloc, records.as_slice(), unkept, used)?;
+    let EvaluatedFile {
+        records,
+        unkept,
+        unlike,
+    } = file;
+    let standings = standings_of(alloc, records.as_slice(), unkept, used, unlike)?;
     Ok(finding_by(standings, records))
 }
 
-/// What a module shows by itself, by the outcome of its evaluations, and by what it reads that a settled module uses.
+/// What a module shows by itself, by the outcome of its evaluations, and by what it reads that an eligible module uses.
 pub(crate) fn judge(
     alloc: Global,
     outcome: Result<EvaluatedFile, Refusal>,

@@ -15,6 +15,7 @@ use crate::directories::push_found;
 use crate::fault::WalkFault;
 use crate::files::{SiteSettings, check_loaded};
 use crate::progress::WalkProgress;
+use crate::unlike::UnlikeUses;
 use envvars::{Env, Vars};
 use filetree::Tree;
 use indexmap::IndexSet;
@@ -37,6 +38,9 @@ pub struct EvaluatedFile {
     pub records: Vec<Record>,
     /// The first question of the first that doesn't keep its answer.
     pub unkept: Option<Question>,
+    /// Two ways in which the records use one variable, or MODULEPATH otherwise than as a path with colons; `None` where
+    /// they are in step.
+    pub unlike: Option<UnlikeUses>,
 }
 
 /// A module of a site, with what the evaluations of its file show, or why the first is refused.

@@ -57,26 +57,26 @@ of_settled site m rs p =
     let k = and_parts (keep_answers p.runs) (list_all can_return p.runs.first.records) p.settled in
     (Ok p.runs, p.evaluated, rw (k.0, k.1) refl)
 
-says : (site : Site) (ms : List Module) (m : SiteModule) (s : Standing) → HasStanding site ms m s → Says site m s
-says site ms m Certified h = of_settled site m h.0 h.1
-says site ms m (Asks q) (runs, h, first) =
+says : (site : Site) (without : List Text) (ms : List Module) (m : SiteModule) (s : Standing) → HasStanding site without ms m s → Says site m s
+says site without ms m Certified h = of_settled site m h.0 h.1
+says site without ms m (Asks q) (runs, h, first) =
     (Ok runs, h, rw (not_all (keeps_answer (are_runs_alike runs) runs.first.records) runs.first.asked q first) refl)
-says site ms m (OneWay r) (runs, h, kept, first) = (Ok runs, h, rw (kept, not_all can_return runs.first.records r first) refl)
-says site ms m (ReadsUsed v n) h = of_settled site m h.0 h.1
-says site ms m (OutOfStep v x y) h = of_settled site m h.0 h.1
-says site ms m (Clashes v x y n) h = of_settled site m h.0 h.1
-says site ms m (Refused reason) h = (Err reason, h, refl)
+says site without ms m (OneWay r) (runs, h, kept, first) = (Ok runs, h, rw (kept, not_all can_return runs.first.records r first) refl)
+says site without ms m (ReadsUsed v n) h = of_settled site m h.0 h.1
+says site without ms m (OutOfStep v x y) h = of_settled site m h.0 h.1
+says site without ms m (Clashes v x y n) h = of_settled site m h.0 h.1
+says site without ms m (Refused reason) h = (Err reason, h, refl)
 
-same_said : files.OneOutcome → (site : Site) (ms : List Module) (m : SiteModule) (s t : Standing) → HasStanding site ms m s → HasStanding site ms m t → said s ≡ said t
-same_said one site ms m s t h k =
-    let a = says site ms m s h in
-    let b = says site ms m t k in
+same_said : files.OneOutcome → (site : Site) (without : List Text) (ms : List Module) (m : SiteModule) (s t : Standing) → HasStanding site without ms m s → HasStanding site without ms m t → said s ≡ said t
+same_said one site without ms m s t h k =
+    let a = says site without ms m s h in
+    let b = says site without ms m t k in
     sym a.2 ∙ (ap seen (one_outcome one site m a.0 b.0 a.1 b.1) ∙ b.2)
 
 -- free reads, or not
 
-not_free : (site : Site) (m : SiteModule) (v : Text) (n : Module) → HasFreeReads site m → Reads site m v → IsUserOf site v n → ⊥
-not_free site m v n free r u = free v n u.used r u.settled u.uses
+not_free : (site : Site) (without : List Text) (m : SiteModule) (v : Text) (n : Module) → HasFreeReads site without m → Reads site m v → IsUserOf site without v n → ⊥
+not_free site without m v n free r u = free v n u.used r u.eligible u.uses
 
 -- in step and out of step
 
@@ -93,21 +93,21 @@ not_both rs v x y u s = by_second u.second
         not_alike x y u.differ (s.modulepath x (subst (λ (w : Text). IsAmong (w, x) (used_by rs)) name u.first) ∙ sym other)
     by_second (inr a) = not_alike x y u.differ (s.one_use v x y u.first a)
 
-certified_not_twice : files.OneOutcome → (site : Site) (ms : List Module) (m : SiteModule) (v : Text)
-    (x y : VariableUse) → HasStanding site ms m Certified → HasStanding site ms m (OutOfStep v x y) → ⊥
-certified_not_twice one site ms m v x y (rs, p, f, c) (qs, q, g, u) =
+certified_not_twice : files.OneOutcome → (site : Site) (without : List Text) (ms : List Module) (m : SiteModule) (v : Text)
+    (x y : VariableUse) → HasStanding site without ms m Certified → HasStanding site without ms m (OutOfStep v x y) → ⊥
+certified_not_twice one site without ms m v x y (rs, p, f, c) (qs, q, g, u) =
     not_both rs v x y (subst (λ (l : List Record). IsUsedTwice l v x y) (sym (one_list one site m rs qs p q)) u) c.in_step.in_step
 
-certified_not_clash : files.OneOutcome → (site : Site) (ms : List Module) (m : SiteModule) (v : Text)
-    (x y : VariableUse) (n : Module) → HasStanding site ms m Certified → HasStanding site ms m (Clashes v x y n) → ⊥
-certified_not_clash one site ms m v x y n (rs, p, f, c) (qs, q, g, k) =
+certified_not_clash : files.OneOutcome → (site : Site) (without : List Text) (ms : List Module) (m : SiteModule) (v : Text)
+    (x y : VariableUse) (n : Module) → HasStanding site without ms m Certified → HasStanding site without ms m (Clashes v x y n) → ⊥
+certified_not_clash one site without ms m v x y n (rs, p, f, c) (qs, q, g, k) =
     let w : ClashesWith ms (with_records m rs) v x y n = subst (λ (l : List Record). ClashesWith ms (with_records m l) v x y n) (sym (one_list one site m rs qs p q)) k in
     certified_apart ms (with_records m rs) n v x y c w.certain w.another w.clash
 
-twice_not_clash : files.OneOutcome → (site : Site) (ms : List Module) (m : SiteModule) (v w : Text)
-    (x y a b : VariableUse) (n : Module) → HasStanding site ms m (OutOfStep v x y)
-    → HasStanding site ms m (Clashes w a b n) → ⊥
-twice_not_clash one site ms m v w x y a b n (rs, p, f, u) (qs, q, g, k) =
+twice_not_clash : files.OneOutcome → (site : Site) (without : List Text) (ms : List Module) (m : SiteModule) (v w : Text)
+    (x y a b : VariableUse) (n : Module) → HasStanding site without ms m (OutOfStep v x y)
+    → HasStanding site without ms m (Clashes w a b n) → ⊥
+twice_not_clash one site without ms m v w x y a b n (rs, p, f, u) (qs, q, g, k) =
     let c : ClashesWith ms (with_records m rs) w a b n = subst (λ (l : List Record). ClashesWith ms (with_records m l) w a b n) (sym (one_list one site m rs qs p q)) k in
     not_both rs v x y u c.in_step.in_step
 
@@ -116,28 +116,28 @@ twice_not_clash one site ms m v w x y a b n (rs, p, f, u) (qs, q, g, k) =
 apart : (s t : Standing) → (said s == said t) ≡ false → said s ≡ said t → ⊥
 apart s t f e = false≢true (sym f ∙ (ap (λ x. said s == x) (sym e) ∙ eq-eqb (said s) (said s) refl))
 
-by_said : files.OneOutcome → (site : Site) (ms : List Module) (m : SiteModule) (s t : Standing) → said s ≡ said t
-    → HasStanding site ms m s → HasStanding site ms m t → standing_word s ≡ standing_word t
-by_said one site ms m Certified Certified e h k = refl
-by_said one site ms m Certified (ReadsUsed v n) e h k = absurd (not_free site m v n h.2 k.2 k.3)
-by_said one site ms m Certified (OutOfStep v x y) e h k = absurd (certified_not_twice one site ms m v x y h k)
-by_said one site ms m Certified (Clashes v x y n) e h k = absurd (certified_not_clash one site ms m v x y n h k)
-by_said one site ms m (ReadsUsed v n) Certified e h k = absurd (not_free site m v n k.2 h.2 h.3)
-by_said one site ms m (ReadsUsed v n) (ReadsUsed w l) e h k = refl
-by_said one site ms m (ReadsUsed v n) (OutOfStep w x y) e h k = absurd (not_free site m v n k.2 h.2 h.3)
-by_said one site ms m (ReadsUsed v n) (Clashes w x y l) e h k = absurd (not_free site m v n k.2 h.2 h.3)
-by_said one site ms m (OutOfStep v x y) Certified e h k = absurd (certified_not_twice one site ms m v x y k h)
-by_said one site ms m (OutOfStep v x y) (ReadsUsed w l) e h k = absurd (not_free site m w l h.2 k.2 k.3)
-by_said one site ms m (OutOfStep v x y) (OutOfStep w a b) e h k = refl
-by_said one site ms m (OutOfStep v x y) (Clashes w a b n) e h k = absurd (twice_not_clash one site ms m v w x y a b n h k)
-by_said one site ms m (Clashes v x y n) Certified e h k = absurd (certified_not_clash one site ms m v x y n k h)
-by_said one site ms m (Clashes v x y n) (ReadsUsed w l) e h k = absurd (not_free site m w l h.2 k.2 k.3)
-by_said one site ms m (Clashes v x y n) (OutOfStep w a b) e h k = absurd (twice_not_clash one site ms m w v a b x y n k h)
-by_said one site ms m (Clashes v x y n) (Clashes w a b l) e h k = refl
-by_said one site ms m (Asks q) (Asks p) e h k = refl
-by_said one site ms m (OneWay r) (OneWay q) e h k = refl
-by_said one site ms m (Refused r) (Refused q) e h k = refl
-by_said one site ms m s t e h k = absurd (apart s t refl e)
+by_said : files.OneOutcome → (site : Site) (without : List Text) (ms : List Module) (m : SiteModule) (s t : Standing) → said s ≡ said t
+    → HasStanding site without ms m s → HasStanding site without ms m t → standing_word s ≡ standing_word t
+by_said one site without ms m Certified Certified e h k = refl
+by_said one site without ms m Certified (ReadsUsed v n) e h k = absurd (not_free site without m v n h.2 k.2 k.3)
+by_said one site without ms m Certified (OutOfStep v x y) e h k = absurd (certified_not_twice one site without ms m v x y h k)
+by_said one site without ms m Certified (Clashes v x y n) e h k = absurd (certified_not_clash one site without ms m v x y n h k)
+by_said one site without ms m (ReadsUsed v n) Certified e h k = absurd (not_free site without m v n k.2 h.2 h.3)
+by_said one site without ms m (ReadsUsed v n) (ReadsUsed w l) e h k = refl
+by_said one site without ms m (ReadsUsed v n) (OutOfStep w x y) e h k = absurd (not_free site without m v n k.2 h.2 h.3)
+by_said one site without ms m (ReadsUsed v n) (Clashes w x y l) e h k = absurd (not_free site without m v n k.2 h.2 h.3)
+by_said one site without ms m (OutOfStep v x y) Certified e h k = absurd (certified_not_twice one site without ms m v x y k h)
+by_said one site without ms m (OutOfStep v x y) (ReadsUsed w l) e h k = absurd (not_free site without m w l h.2 k.2 k.3)
+by_said one site without ms m (OutOfStep v x y) (OutOfStep w a b) e h k = refl
+by_said one site without ms m (OutOfStep v x y) (Clashes w a b n) e h k = absurd (twice_not_clash one site without ms m v w x y a b n h k)
+by_said one site without ms m (Clashes v x y n) Certified e h k = absurd (certified_not_clash one site without ms m v x y n k h)
+by_said one site without ms m (Clashes v x y n) (ReadsUsed w l) e h k = absurd (not_free site without m w l h.2 k.2 k.3)
+by_said one site without ms m (Clashes v x y n) (OutOfStep w a b) e h k = absurd (twice_not_clash one site without ms m w v a b x y n k h)
+by_said one site without ms m (Clashes v x y n) (Clashes w a b l) e h k = refl
+by_said one site without ms m (Asks q) (Asks p) e h k = refl
+by_said one site without ms m (OneWay r) (OneWay q) e h k = refl
+by_said one site without ms m (Refused r) (Refused q) e h k = refl
+by_said one site without ms m s t e h k = absurd (apart s t refl e)
 
 pub one_standing : files.OneOutcome → OneStanding
-one_standing one site ms m s t h k = by_said one site ms m s t (same_said one site ms m s t h k) h k
+one_standing one site without ms m s t h k = by_said one site without ms m s t (same_said one site without ms m s t h k) h k

@@ -11,7 +11,7 @@ use Rattle.modulefile.specs.Laws as files
 use Rattle.modulefile.specs.Records.{Record}
 use Rattle.modulefile.specs.Effects.{load}
 use Rattle.modulefile.specs.Moves.{Module, Move, Loads, Unloads, module_of_move, Fits, moved, MovesReach}
-use Rattle.reversal.specs.VariableUses.{VariableUse, UsedVariable, Untouched}
+use Rattle.reversal.specs.VariableUses.{VariableUse, Untouched}
 use Rattle.reversal.specs.Live.{entries_over}
 use Rattle.reversal.specs.Starts.{HasVariable, IsStartWith}
 use Rattle.reversal.specs.Requests as moves
@@ -31,11 +31,10 @@ use Rattle.sitecertificate.specs.Laws.{CertifiedAreExact, IsAsCertified, AreCert
 use Rattle.sitecertificate.specs.Laws.{AreCertifiedTogether, CertifiedMovesPreserve, NoneIsLayered}
 use Rattle.sitecertificate.proofs.UsedLemmas.{by_cases, first_or_none, user_of}
 use Rattle.sitecertificate.proofs.AsCertified.{certain_use, used_alike}
-use Rattle.sitelaws.specs.Sites.{Site, SiteModule, over_site, HasSettledRecords, Reads, ReadsAlike, file_of, HasFreeReads}
-use Rattle.sitelaws.specs.Sites.{IsCandidate, AreAmongCandidates}
+use Rattle.sitelaws.specs.Sites.{Site, SiteModule, over_site, HasSettledRecords, Reads, ReadsAlike, file_of}
 use Rattle.sitelaws.specs.Admitted.{IsAdmitted}
-use Rattle.sitelaws.specs.Laws.{LoadAlike, SettledRecordsAreAll, LoadsAreOf, SiteSessionsReturn, AuditsHold, AreReadAlike}
-use Rattle.sitelaws.specs.Laws.{SiteCommandsReturn}
+use Rattle.sitelaws.specs.Laws.{LoadAlike, SettledRecordsAreAll, LoadsAreOf, CanBeCertified, SiteSessionsReturn}
+use Rattle.sitelaws.specs.Laws.{AuditsHold, AreReadAlike, SiteCommandsReturn}
 use Rattle.sitelaws.proofs.Admissions.{mode_of, IsFrom, TracedReach, traced, any_shell, session_traced}
 use Rattle.sitelaws.proofs.Forbidden.{no_conflict}
 use Rattle.sitelaws.proofs.SettledRecords.{of_user}
@@ -65,8 +64,9 @@ live_certified ms [] l t a = absurd a
 live_certified ms (m ∷ live) l t (inl e) = subst (IsAsCertified ms) (sym e) t.0
 live_certified ms (m ∷ live) l t (inr a) = live_certified ms live l t.2 a
 
-certain_candidate : (site : Site) (ms : List Module) (l : Module) (c : IsAsCertified ms l) → AreAmongCandidates site ms → IsCandidate site c.certain
-certain_candidate site ms l c all = all c.certain c.certified.listed
+-- a certified module has its records
+certain_records : (site : Site) (ms : List Module) (c : Module) → CanBeCertified site ms → IsCertified ms c → HasSettledRecords site (file_of c) c.records
+certain_records site ms c all k = (all.settled c k.listed).records
 
 -- ---- what is read has the values of the environment at hand
 
@@ -91,24 +91,24 @@ alike_after site cs start live (Unloads m ∷ todo) loads alike =
     alike_after site cs start (without_live m.name live) todo loads (left_alike site start live m.name alike)
 
 -- no live module uses it
-not_used : (site : Site) (ms live : List Module) (m : SiteModule) (v : Text) → AreAmongCandidates site ms → AreCertifiedTogether ms live → HasFreeReads site m
-    → Reads site m v → uses_by live v ≡ Untouched
-not_used site ms live m v all together free r = by_cases (first_or_none v (used_by_modules live))
+not_used : (site : Site) (ms live : List Module) (m : Module) (v : Text) → CanBeCertified site ms → AreCertifiedTogether ms live → IsCertified ms m
+    → Reads site (file_of m) v → uses_by live v ≡ Untouched
+not_used site ms live m v all together k r = by_cases (first_or_none v (used_by_modules live))
     (λ i. let x = first_use v (used_by_modules live) in
     let u = user_of v x live i in
     let c = live_certified ms live u.user together u.there in
-    absurd (free v c.certain x r (certain_candidate site ms u.user c all).settled (certain_use ms u.user c v x u.uses)))
+    absurd (all.free m c.certain v x k c.certified r (certain_use ms u.user c v x u.uses)))
     (λ n. n.untouched)
 
 value_untouched : (start e : Environment) (v : Text) (live : List Module) (u : VariableUse) → u ≡ Untouched → HasVariable u start v live e → lookup e v ≡ lookup start v
 value_untouched start e v live u same h = (subst (λ (x : VariableUse). HasVariable x start v live e) same h).value
 
 -- so it has the value of the start while certified modules are live
-reads_as_start : files.OneOutcome → (site : Site) (ms live : List Module) (start old : Environment) (c : Module) → AreAmongCandidates site ms → AreLayered ms start live old
-    → IsCandidate site c → ReadsAlike site start (file_of c) → ReadsAlike site old (file_of c)
+reads_as_start : files.OneOutcome → (site : Site) (ms live : List Module) (start old : Environment) (c : Module) → CanBeCertified site ms → AreLayered ms start live old
+    → IsCertified ms c → ReadsAlike site start (file_of c) → ReadsAlike site old (file_of c)
 reads_as_start one site ms live start old c all layered k alike v r =
-    by_cases (of_user one site (file_of c) c.records v k.settled.records r)
-    (λ editable. value_untouched start old v live (uses_by live v) (not_used site ms live (file_of c) v all layered.together k.free r) (layered.start_with_live.variables v editable))
+    by_cases (of_user one site (file_of c) c.records v (certain_records site ms c all k) r)
+    (λ editable. value_untouched start old v live (uses_by live v) (not_used site ms live c v all layered.together k r) (layered.start_with_live.variables v editable))
     (λ other. layered.start_with_live.others v other)
     ∙ alike v r
 
@@ -118,19 +118,19 @@ is_move : (m : Move) → is_changing (mode_of m) ≡ true
 is_move (Loads m) = refl
 is_move (Unloads m) = refl
 
--- what the move of a candidate has of its records
+-- what the move of a certified module has of its records
 pub record IsMoveOf (c : Module) (m : Move) : Type 0 where
   pub undoes : UndoAlike (module_of_move m).records c.records
   pub loads : mode_of m ≡ load → LoadAlike c.records (module_of_move m).records
 
-move_records : files.OneOutcome → SettledRecordsAreAll → (site : Site) (ms live : List Module) (start old : Environment) (m : Move) (c : Module) → AreAmongCandidates site ms
-    → AreLayered ms start live old → IsCandidate site c → ReadsAlike site start (file_of c) → c.name ≡ (module_of_move m).name → c.path ≡ (module_of_move m).path
+move_records : files.OneOutcome → SettledRecordsAreAll → (site : Site) (ms live : List Module) (start old : Environment) (m : Move) (c : Module) → CanBeCertified site ms
+    → AreLayered ms start live old → IsCertified ms c → ReadsAlike site start (file_of c) → c.name ≡ (module_of_move m).name → c.path ≡ (module_of_move m).path
     → IsFrom (over_site site) m old → IsMoveOf c m
 move_records one law site ms live start old m c all layered k alike name path (ran, left, is, before, mode) =
     let same = same_file (module_of_move m) c name path in
     let now = reads_as_start one site ms live start old c all layered k alike in
     let found = law site (file_of (module_of_move m)) c.records ran left
-    (subst (λ (f : SiteModule). HasSettledRecords site f c.records) same k.settled.records)
+    (subst (λ (f : SiteModule). HasSettledRecords site f c.records) same (certain_records site ms c all k))
     (ap is_changing mode ∙ is_move m)
     (subst (ReadsAlike site left.context.before) same (subst (λ (e : Environment). ReadsAlike site e (file_of c)) (sym before) now)) in
     record {
@@ -149,14 +149,14 @@ none_in_conflict conflicts start old live m first begin over (xs, read, none) =
 
 -- ---- moves
 
-undone : files.OneOutcome → SettledRecordsAreAll → (site : Site) (ms live : List Module) (start old : Environment) (m : Module) → AreAmongCandidates site ms
+undone : files.OneOutcome → SettledRecordsAreAll → (site : Site) (ms live : List Module) (start old : Environment) (m : Module) → CanBeCertified site ms
     → AreLayered ms start live old → AreReadAlike site start live → IsFrom (over_site site) (Unloads m) old → IsNew start (Unloads m) → Fits (Unloads m) old → Undoes live m
 undone one law site ms live start old m all layered alike from new fits =
     let l = of_live (uses_by live) start old live m layered.begins.order.loaded layered.order layered.start_with_live new fits in
     let among = named_among m.name l.loaded live l.found in
     let c = live_certified ms live l.loaded layered.together among in
     let reads : ReadsAlike site start (file_of c.certain) = subst (ReadsAlike site start) (sym (same_file l.loaded c.certain c.name c.path)) (alike l.loaded among) in
-    let now = move_records one law site ms live start old (Unloads m) c.certain all layered (certain_candidate site ms l.loaded c all) reads
+    let now = move_records one law site ms live start old (Unloads m) c.certain all layered c.certified reads
     (c.name ∙ sym l.name) (c.path ∙ sym l.path) from in
     record {
       loaded = l.loaded;
@@ -168,7 +168,7 @@ same_env : (m : Move) (old a b : Environment) → moved m old ≡ Ok a → moved
 same_env m old a b h k = let q : Ok b ≡ Ok a = sym k ∙ h in cc
 
 are_certified : files.OneOutcome → CertifiedAreExact → EntriesHaveConflicts → CertifiedMovesPreserve → SettledRecordsAreAll
-    → (site : Site) (ms live : List Module) (start old new : Environment) (todo : List Move) → AreAmongCandidates site ms
+    → (site : Site) (ms live : List Module) (start old new : Environment) (todo : List Move) → CanBeCertified site ms
     → AreLayered ms start live old → AreReadAlike site start live → AreNew start todo
     → LoadsAreOf site (certified ms) start todo → TracedReach (over_site site) todo old new → MovesReach todo old new
     → AreCertified ms start live todo
@@ -177,7 +177,7 @@ are_certified one exact conflicts preserve law site ms live start old new (Loads
     news ((c, among, name, path, agrees, reads), loads) ((admitted, from), (other, made, traces)) (fits, (mid, move, reach)) =
     let first = list_in_order start layered.begins.order.loaded in
     let certain : IsCertified ms c = (exact ms c).0 among in
-    let now = move_records one law site ms live start old (Loads m) c all layered (all c certain.listed) reads name path from in
+    let now = move_records one law site ms live start old (Loads m) c all layered certain reads name path from in
     let is_certain : IsAsCertified ms m = record {
       certain = c;
       certified = certain;

@@ -1,9 +1,9 @@
--- The settled modules of a site, and the candidates among them, by the outcomes of its evaluations.
-use Rattle.std.proofs.Common.{◌≡◌, inl, inr, Bool, true, false, cond, List, [], ◌∷◌, map, filter, Some, None, Result, Ok}
-use Rattle.std.proofs.Common.{Err, refl, ap, sym, ◌∙◌, subst}
+-- The settled modules of a site, and the eligible ones and the candidates among them, by the outcomes of its evaluations.
+use Rattle.std.proofs.Common.{◌≡◌, inl, inr, Bool, true, false, cond, not, List, [], ◌∷◌, map, filter, Some}
+use Rattle.std.proofs.Common.{None, Result, Ok, Err, refl, ap, sym, ◌∙◌, subst}
 use Rattle.std.specs.Prelude.{filter_map}
 use Rattle.std.specs.List.{list_any}
-use Rattle.std.proofs.lemmas.Bool.{false≢true, not_from_true, not_from_false}
+use Rattle.std.proofs.lemmas.Bool.{false≢true, not_from_true, not_from_false, and_parts, and_from}
 use Rattle.envvars.specs.Texts.{Text, has}
 use Rattle.modulefile.specs.Records.{Record}
 use Rattle.modulefile.specs.Moves.{Module}
@@ -11,12 +11,13 @@ use Rattle.modulefile.specs.Laws as files
 use Rattle.reversal.specs.VariableUses.{UsedVariable}
 use Rattle.requests.specs.Reasons.{RequestReason}
 use Rattle.settled.specs.Ways.{FileRuns, is_settled}
-use Rattle.sitecertificate.specs.RecordUses.{IsAmong, used_by_modules}
+use Rattle.sitecertificate.specs.RecordUses.{IsAmong, used_by_modules, is_in_step}
 use Rattle.sitecertificate.proofs.UsedLemmas.{by_test, by_cases, cons_first, cons_later, cons_either, used_among, user_of}
-use Rattle.sitecertificate.proofs.Exact.{any_some, some_any, filtered, in_filter}
+use Rattle.sitecertificate.proofs.Exact.{any_some, some_any, filtered, in_filter, in_step, to_in_step}
 use Rattle.sitelaws.specs.Sites.{Site, SiteModule, file_of, with_records, EvaluatesTo, HasSettledRecords, Reads}
-use Rattle.sitelaws.specs.Sites.{IsOfSite, IsSettledModule, AreSettledModules, HasFreeReads, AreCandidates, Evaluated}
-use Rattle.sitelaws.specs.Sites.{settled_of, settled_among, reads_of, reads_none, candidates_among, AreEvaluated}
+use Rattle.sitelaws.specs.Sites.{IsOfSite, IsSettledModule, AreSettledModules, is_withheld, IsEligible, AreEligible}
+use Rattle.sitelaws.specs.Sites.{HasFreeReads, AreCandidates, Evaluated, settled_of, settled_among, is_eligible}
+use Rattle.sitelaws.specs.Sites.{eligible_among, reads_of, reads_none, candidates_among, AreEvaluated}
 use Rattle.sitelaws.specs.Laws.{SettledModulesFound}
 use Rattle.sitelaws.proofs.Evaluations.{one_outcome, read_by_runs}
 
@@ -90,6 +91,22 @@ settled_found one site outcomes all n = (
   (λ s. let p = outcome_of one site outcomes n all s in keeps n p.0 outcomes p.1 p.3),
 )
 
+-- the eligible ones
+
+by_test_eligible : (site : Site) (without : List Text) (m : Module) → IsSettledModule site m → is_eligible without m ≡ true → IsEligible site without m
+by_test_eligible site without m s t =
+    let p = and_parts (is_in_step m) (not (is_withheld without m.name)) t in
+    record { settled = s; in_step = in_step m p.0; kept = by_test (is_withheld without m.name) _ (λ w. absurd (false≢true (rw w at p.1))) (λ k. k) }
+
+to_test_eligible : (site : Site) (without : List Text) (m : Module) → IsEligible site without m → is_eligible without m ≡ true
+to_test_eligible site without m e = and_from (is_in_step m) (not (is_withheld without m.name)) (to_in_step m e.in_step) (not_from_false (is_withheld without m.name) e.kept)
+
+eligible_found : files.OneOutcome → (site : Site) (without : List Text) (outcomes : List Evaluated) → AreEvaluated site outcomes → AreEligible site without (eligible_among without outcomes)
+eligible_found one site without outcomes all m = (
+  (λ a. let f = filtered (is_eligible without) (settled_among outcomes) m a in by_test_eligible site without m ((settled_found one site outcomes all m).0 f.0) f.1),
+  (λ e. in_filter (is_eligible without) (settled_among outcomes) m ((settled_found one site outcomes all m).1 e.settled) (to_test_eligible site without m e)),
+)
+
 -- what is read by an outcome
 
 read_at : files.OneOutcome → (site : Site) (m : SiteModule) (o : Outcome) (v : Text) → EvaluatesTo site m o → Reads site m v → has v (reads_of (m, o)) ≡ true
@@ -100,42 +117,42 @@ reads_by : (site : Site) (m : SiteModule) (o : Outcome) (v : Text) → Evaluates
 reads_by site m (Ok runs) v h t = record { runs = runs; evaluated = h; read = t }
 reads_by site m (Err reason) v h t = absurd (false≢true t)
 
--- a module that reads none of what settled ones use has free reads, and the other way round
+-- a module that reads none of what eligible ones use has free reads, and the other way round
 
 abbrev reads_one : List UsedVariable → Evaluated → Bool
 reads_one used p = list_any (λ (q : UsedVariable). has q.0 (reads_of p)) used
 
-free_by : files.OneOutcome → (site : Site) (outcomes : List Evaluated) (p : Evaluated) → AreEvaluated site outcomes → IsAmong p outcomes
-    → reads_none (used_by_modules (settled_among outcomes)) p ≡ true → HasFreeReads site p.0
-free_by one site outcomes p all a none = λ v n x r s u.
-    let used = used_by_modules (settled_among outcomes) in
-    let there = used_among v x n (settled_among outcomes) ((settled_found one site outcomes all n).1 s) u in
-    let t : reads_one used p ≡ true = some_any (λ (q : UsedVariable). has q.0 (reads_of p)) used (v, x) there (read_at one site p.0 p.1 v (all.evaluated p a) r) in
-    false≢true (sym (not_from_true (reads_one used p) t) ∙ none)
+module _ (one : files.OneOutcome) (site : Site) (without : List Text) (outcomes : List Evaluated) (all : AreEvaluated site outcomes) where
+  abbrev used : List UsedVariable
+  used = used_by_modules (eligible_among without outcomes)
 
-none_by : files.OneOutcome → (site : Site) (outcomes : List Evaluated) (p : Evaluated) → AreEvaluated site outcomes → IsAmong p outcomes
-    → HasFreeReads site p.0 → reads_none (used_by_modules (settled_among outcomes)) p ≡ true
-none_by one site outcomes p all a free =
-    let used = used_by_modules (settled_among outcomes) in
-    by_test (reads_one used p) _
-    (λ t. let q = any_some (λ (x : UsedVariable). has x.0 (reads_of p)) used t in
-    let u = user_of q.0.0 q.0.1 (settled_among outcomes) q.1 in
-    absurd (free q.0.0 u.user q.0.1 (reads_by site p.0 p.1 q.0.0 (all.evaluated p a) q.2) ((settled_found one site outcomes all u.user).0 u.there) u.uses))
-    (λ f. not_from_false (reads_one used p) f)
+  eligible : AreEligible site without (eligible_among without outcomes)
+  eligible = eligible_found one site without outcomes all
 
-abbrev is_free : List Evaluated → Evaluated → Bool
-is_free outcomes p = reads_none (used_by_modules (settled_among outcomes)) p
+  free_by : (p : Evaluated) → IsAmong p outcomes → reads_none used p ≡ true → HasFreeReads site without p.0
+  free_by p a none = λ v n x r e u.
+      let there = used_among v x n (eligible_among without outcomes) ((eligible n).1 e) u in
+      let t : reads_one used p ≡ true = some_any (λ (q : UsedVariable). has q.0 (reads_of p)) used (v, x) there (read_at one site p.0 p.1 v (all.evaluated p a) r) in
+      false≢true (sym (not_from_true (reads_one used p) t) ∙ none)
 
-candidates_found : files.OneOutcome → (site : Site) (outcomes : List Evaluated) → AreEvaluated site outcomes → AreCandidates site (candidates_among outcomes)
-candidates_found one site outcomes all n = (
-  (λ a. let p = kept n (filter (is_free outcomes) outcomes) a in
-      let f = filtered (is_free outcomes) outcomes p.0 p.1 in
-      let s = settled_by site outcomes p.0 n all f.0 p.2 in
-      record { settled = s.1; free = subst (HasFreeReads site) (sym s.0) (free_by one site outcomes p.0 all f.0 f.1) }),
-  (λ c. let p = outcome_of one site outcomes n all c.settled in
-      keeps n p.0 (filter (is_free outcomes) outcomes)
-      (in_filter (is_free outcomes) outcomes p.0 p.1 (none_by one site outcomes p.0 all p.1 (subst (HasFreeReads site) (sym p.2) c.free))) p.3),
-)
+  none_by : (p : Evaluated) → IsAmong p outcomes → HasFreeReads site without p.0 → reads_none used p ≡ true
+  none_by p a free =
+      by_test (reads_one used p) _
+      (λ t. let q = any_some (λ (x : UsedVariable). has x.0 (reads_of p)) used t in
+      let u = user_of q.0.0 q.0.1 (eligible_among without outcomes) q.1 in
+      absurd (free q.0.0 u.user q.0.1 (reads_by site p.0 p.1 q.0.0 (all.evaluated p a) q.2) ((eligible u.user).0 u.there) u.uses))
+      (λ f. not_from_false (reads_one used p) f)
+
+  candidates_found : AreCandidates site without (candidates_among without outcomes)
+  candidates_found n = (
+    (λ a. let p = kept n (filter (reads_none used) outcomes) a in
+        let f = filtered (reads_none used) outcomes p.0 p.1 in
+        let s = settled_by site outcomes p.0 n all f.0 p.2 in
+        record { settled = s.1; free = subst (HasFreeReads site without) (sym s.0) (free_by p.0 f.0 f.1) }),
+    (λ c. let p = outcome_of one site outcomes n all c.settled in
+        keeps n p.0 (filter (reads_none used) outcomes)
+        (in_filter (reads_none used) outcomes p.0 p.1 (none_by p.0 p.1 (subst (HasFreeReads site without) (sym p.2) c.free))) p.3),
+  )
 
 pub settled_modules_found : files.OneOutcome → SettledModulesFound
-settled_modules_found one site outcomes all = (settled_found one site outcomes all, candidates_found one site outcomes all)
+settled_modules_found one site without outcomes all = (settled_found one site outcomes all, eligible_found one site without outcomes all, candidates_found one site without outcomes all)

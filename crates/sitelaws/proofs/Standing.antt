@@ -23,7 +23,7 @@ use Rattle.sitecertificate.proofs.Exact.{any_some, in_step, clashes, to_clashes}
 use Rattle.sitecertificate.proofs.CertifiedOnes.{is_certified, to_certified, certified_most}
 use Rattle.sitecertificate.proofs.Members.{fails_each}
 use Rattle.sitelaws.specs.Sites.{Site, SiteModule, EvaluatesTo, HasSettledRecords, IsOfSite, with_records}
-use Rattle.sitelaws.specs.Sites.{AreSettledModules, HasFreeReads, AreCandidates}
+use Rattle.sitelaws.specs.Sites.{AreEligible, HasFreeReads, AreCandidates}
 use Rattle.sitelaws.specs.Standings.{Standing, Certified, Asks, OneWay, ReadsUsed, OutOfStep, Clashes, Refused}
 use Rattle.sitelaws.specs.Standings.{IsUsedTwice, ClashesWith, HasStanding}
 use Rattle.sitelaws.specs.Laws.{EachStands, CertifiedStand}
@@ -84,13 +84,13 @@ no_clash ms m a s h = certified_most ms m a s (λ n v x y c o k. false≢true (s
 
 -- standings
 
-abbrev Stands : Site → List Module → SiteModule → Type 0
-Stands site ms m = (standing : Standing) × HasStanding site ms m standing
+abbrev Stands : Site → List Text → List Module → SiteModule → Type 0
+Stands site without ms m = (standing : Standing) × HasStanding site without ms m standing
 
-candidate_stands : (site : Site) (ms : List Module) (m : SiteModule) (rs : List Record)
-    → AreCandidates site ms → IsOfSite site m → HasSettledRecords site m rs → HasFreeReads site m → list_all can_return rs ≡ true
-    → Stands site ms m
-candidate_stands site ms m rs all of_site p free returns =
+candidate_stands : (site : Site) (without : List Text) (ms : List Module) (m : SiteModule) (rs : List Record)
+    → AreCandidates site without ms → IsOfSite site m → HasSettledRecords site m rs → HasFreeReads site without m → list_all can_return rs ≡ true
+    → Stands site without ms m
+candidate_stands site without ms m rs all of_site p free returns =
     let n : Module = with_records m rs in
     let listed : IsAmong n ms = (all n).1 (record { settled = record { of_site = of_site; records = p }; free = free }) in
     by_test (are_in_step (used_by rs)) _
@@ -100,46 +100,47 @@ candidate_stands site ms m rs all of_site p free returns =
     (λ c. (Certified, (rs, p, free, no_clash ms n listed (in_step n s) c))))
     (λ f. let k = out_of_step rs f in (OutOfStep k.0 k.1 k.2, (rs, p, free, k.3)))
 
-settled_stands : files.OneOutcome → (site : Site) (settled ms : List Module) (m : SiteModule) (runs : FileRuns RequestReason) → AreSettledModules site settled → AreCandidates site ms
-    → IsOfSite site m → EvaluatesTo site m (Ok runs) → keep_answers runs ≡ true → list_all can_return runs.first.records ≡ true → Stands site ms m
-settled_stands one site settled ms m runs found all of_site h kept returns =
+settled_stands : files.OneOutcome → (site : Site) (without : List Text) (eligible ms : List Module) (m : SiteModule) (runs : FileRuns RequestReason)
+    → AreEligible site without eligible → AreCandidates site without ms
+    → IsOfSite site m → EvaluatesTo site m (Ok runs) → keep_answers runs ≡ true → list_all can_return runs.first.records ≡ true → Stands site without ms m
+settled_stands one site without eligible ms m runs found all of_site h kept returns =
     let p : HasSettledRecords site m runs.first.records = record {
       runs = runs;
       evaluated = h;
       settled = and_from (keep_answers runs) (list_all can_return runs.first.records) kept returns;
       records = refl;
     } in
-    by_test (list_any (λ (q : UsedVariable). has q.0 (reads_in runs)) (used_by_modules settled)) _
-    (λ t. let q = any_some (λ (q : UsedVariable). has q.0 (reads_in runs)) (used_by_modules settled) t in
-    let u = user_of q.0.0 q.0.1 settled q.1 in (
+    by_test (list_any (λ (q : UsedVariable). has q.0 (reads_in runs)) (used_by_modules eligible)) _
+    (λ t. let q = any_some (λ (q : UsedVariable). has q.0 (reads_in runs)) (used_by_modules eligible) t in
+    let u = user_of q.0.0 q.0.1 eligible q.1 in (
       ReadsUsed q.0.0 u.user,
       (
         runs.first.records,
         p,
         record { runs = runs; evaluated = h; read = q.2 },
-        record { settled = (found u.user).0 u.there; used = q.0.1; uses = u.uses },
+        record { eligible = (found u.user).0 u.there; used = q.0.1; uses = u.uses },
       ),
     ))
-    (λ f. candidate_stands site ms m runs.first.records all of_site p
-    (λ v n x r s u. false≢true (sym (fails_each (λ (q : UsedVariable). has q.0 (reads_in runs)) (used_by_modules settled) (v, x) f
-    (used_among v x n settled ((found n).1 s) u)) ∙ read_by_runs one site m runs v h r)) returns)
+    (λ f. candidate_stands site without ms m runs.first.records all of_site p
+    (λ v n x r e u. false≢true (sym (fails_each (λ (q : UsedVariable). has q.0 (reads_in runs)) (used_by_modules eligible) (v, x) f
+    (used_among v x n eligible ((found n).1 e) u)) ∙ read_by_runs one site m runs v h r)) returns)
 
-evaluated_stands : files.OneOutcome → (site : Site) (settled ms : List Module) (m : SiteModule) (o : Result (FileRuns RequestReason) RequestReason)
-    → AreSettledModules site settled → AreCandidates site ms → IsOfSite site m → EvaluatesTo site m o → Stands site ms m
-evaluated_stands one site settled ms m (Ok runs) found all of_site h =
+evaluated_stands : files.OneOutcome → (site : Site) (without : List Text) (eligible ms : List Module) (m : SiteModule) (o : Result (FileRuns RequestReason) RequestReason)
+    → AreEligible site without eligible → AreCandidates site without ms → IsOfSite site m → EvaluatesTo site m o → Stands site without ms m
+evaluated_stands one site without eligible ms m (Ok runs) found all of_site h =
     by_test (keep_answers runs) _
     (λ k. by_test (list_all can_return runs.first.records) _
-    (λ t. settled_stands one site settled ms m runs found all of_site h k t)
+    (λ t. settled_stands one site without eligible ms m runs found all of_site h k t)
     (λ g. let r = first_that_fails can_return runs.first.records g in (OneWay r.0, (runs, h, k, r.1))))
     (λ f. let q = first_that_fails (keeps_answer (are_runs_alike runs) runs.first.records) runs.first.asked f in (Asks q.0, (runs, h, q.1)))
-evaluated_stands one site settled ms m (Err reason) found all of_site h = (Refused reason, h)
+evaluated_stands one site without eligible ms m (Err reason) found all of_site h = (Refused reason, h)
 
 pub each_stands : files.OneOutcome → files.SomeOutcome → EachStands
-each_stands one runs site settled ms m found all of_site =
-    let o = some_outcome runs site m in evaluated_stands one site settled ms m o.0 found all of_site o.1
+each_stands one runs site without eligible ms m found all of_site =
+    let o = some_outcome runs site m in evaluated_stands one site without eligible ms m o.0 found all of_site o.1
 
 pub certified_stand : CertifiedAreExact → CertifiedStand
-certified_stand exact site ms m all = (
+certified_stand exact site without ms m all = (
   (λ h. (h.0, h.1, (exact ms (with_records m h.0)).1 h.3)),
   (λ h. let c = (exact ms (with_records m h.0)).0 h.2 in (h.0, h.1, ((all (with_records m h.0)).0 c.listed).free, c)),
 )

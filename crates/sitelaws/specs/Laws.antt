@@ -27,9 +27,9 @@ use Rattle.sitecertificate.specs.Certificates.{IsCertified, certified, AgreesWit
 use Rattle.sitecertificate.specs.Laws.{AreLayered}
 use Rattle.settled.specs.Resting.{is_changing}
 use Rattle.sitelaws.specs.Sites.{Site, SiteModule, over_site, HasSettledRecords, Reads, ReadsAlike, IsDirectory}
-use Rattle.sitelaws.specs.Sites.{IsOfSite, file_of, AreSettledModules, AreCandidates, AreAmongCandidates, IsClosed}
-use Rattle.sitelaws.specs.Sites.{AreDirectories, AreNamesBelow, AreModulesIn, Evaluated, settled_among}
-use Rattle.sitelaws.specs.Sites.{candidates_among, with_records, AreEvaluated}
+use Rattle.sitelaws.specs.Sites.{IsOfSite, file_of, IsSettledModule, AreSettledModules, AreEligible, AreCandidates}
+use Rattle.sitelaws.specs.Sites.{IsClosed, AreDirectories, AreNamesBelow, AreModulesIn, Evaluated, settled_among}
+use Rattle.sitelaws.specs.Sites.{eligible_among, candidates_among, with_records, AreEvaluated}
 use Rattle.sitelaws.specs.Standings.{Standing, Certified, standing_word, HasStanding}
 use Rattle.sitelaws.specs.Admitted.{AdmittedMovesReach}
 
@@ -63,11 +63,13 @@ ModulesFound =
     (site : Site) (dirs : List Text) (ms : List SiteModule) → AreDirectories site dirs → AreModulesIn site dirs ms
     → (m : SiteModule) → IsAmong m ms ↔ IsOfSite site m
 
--- The settled modules of a site are those that are settled by the outcomes of its evaluations, and so are the candidates.
+-- The settled modules of a site are those that are settled by the outcomes of its evaluations; and so are the eligible
+-- ones and the candidates, whichever modules are withheld.
 abbrev pub SettledModulesFound : Type 0
 SettledModulesFound =
-    (site : Site) (outcomes : List Evaluated) → AreEvaluated site outcomes
-    → AreSettledModules site (settled_among outcomes) × AreCandidates site (candidates_among outcomes)
+    (site : Site) (without : List Text) (outcomes : List Evaluated) → AreEvaluated site outcomes
+    → AreSettledModules site (settled_among outcomes) × AreEligible site without (eligible_among without outcomes)
+    × AreCandidates site without (candidates_among without outcomes)
 
 -- What is loaded so: the records are of kinds after which the start can be back, keep the same variables absent as
 -- these, and are in conflict with the same names.
@@ -90,22 +92,29 @@ SettledRecordsAreAll =
 -- site.
 abbrev pub CertifiedStand : Type 0
 CertifiedStand =
-    (site : Site) (ms : List Module) (m : SiteModule) → AreCandidates site ms
-    → HasStanding site ms m Certified
+    (site : Site) (without : List Text) (ms : List Module) (m : SiteModule) → AreCandidates site without ms
+    → HasStanding site without ms m Certified
     ↔ ((rs : List Record) × HasSettledRecords site m rs × IsAmong (with_records m rs) (certified ms))
 
 -- Each module of a site has a standing.
 abbrev pub EachStands : Type 0
 EachStands =
-    (site : Site) (settled ms : List Module) (m : SiteModule) → AreSettledModules site settled → AreCandidates site ms
-    → IsOfSite site m → (standing : Standing) × HasStanding site ms m standing
+    (site : Site) (without : List Text) (eligible ms : List Module) (m : SiteModule) → AreEligible site without eligible
+    → AreCandidates site without ms → IsOfSite site m
+    → (standing : Standing) × HasStanding site without ms m standing
 
 -- It stands in one of the seven ways alone.
 abbrev pub OneStanding : Type 0
 OneStanding =
-    (site : Site) (ms : List Module) (m : SiteModule) (s t : Standing) → HasStanding site ms m s
-    → HasStanding site ms m t
-    → standing_word s ≡ standing_word t
+    (site : Site) (without : List Text) (ms : List Module) (m : SiteModule) (s t : Standing)
+    → HasStanding site without ms m s → HasStanding site without ms m t → standing_word s ≡ standing_word t
+
+-- These modules can be certified: each is a settled one of the site, with its records, and what a certified one of them
+-- reads no certified one of them uses, be it the same.
+pub record CanBeCertified (site : Site) (ms : List Module) : Type 0 where
+  pub settled : (m : Module) → IsAmong m ms → IsSettledModule site m
+  pub free : (m n : Module) (v : Text) (x : VariableUse) → IsCertified ms m → IsCertified ms n
+      → Reads site (file_of m) v → Uses n.records v x → ⊥
 
 -- One of the modules has this name and this file, the start agrees with what it uses, and what it reads has in the start
 -- the values of the environment at hand.
@@ -135,16 +144,16 @@ CertificateHolds site certain =
     → Holds (uses_by (live_after [] (session_moves before))) start (live_after [] (session_moves before))
     (end_environment start before)
 
--- The theorem of sites: so it is for the certified modules among candidates of a site, be it all of them or some.
--- Nothing is asked of the records of loads and unloads, of their kinds, or of how the modules go together, and nothing of
--- what modules use that the session doesn't load.
+-- The theorem of sites: so it is for the certified modules of any that can be certified, however these were chosen.
+-- Nothing is asked of the records of loads and unloads, of their kinds, or of how the modules go together; of modules that
+-- aren't certified nothing at all, and the start agrees with what the session loads alone.
 abbrev pub SiteSessionsReturn : Type 0
-SiteSessionsReturn = (site : Site) (ms : List Module) → AreAmongCandidates site ms → CertificateHolds site (certified ms)
+SiteSessionsReturn = (site : Site) (ms : List Module) → CanBeCertified site ms → CertificateHolds site (certified ms)
 
 -- The same for any modules that are certified: in whatever order an audit has them.
 abbrev pub AuditsHold : Type 0
 AuditsHold =
-    (site : Site) (ms certain : List Module) → AreAmongCandidates site ms
+    (site : Site) (ms certain : List Module) → CanBeCertified site ms
     → ((m : Module) → IsAmong m certain → IsCertified ms m) → CertificateHolds site certain
 
 -- what each of the modules reads has in the start the values of the environment at hand
@@ -157,7 +166,7 @@ abbrev pub SiteCommandsReturn : Type 0
 SiteCommandsReturn =
     (site : Site) (ms : List Module) (shell : Shell) (start e : Environment) (live : List Module)
     (action : RequestedAction) (d : Done)
-    → AreAmongCandidates site ms → AreLayered ms start live e → AreReadAlike site start live
+    → CanBeCertified site ms → AreLayered ms start live e → AreReadAlike site start live
     → RequestStep (in_shell (over_site site) shell) e action (Ok d) → AreNew start d.moves
     → LoadsAreOf site (certified ms) start d.moves
     → AreLayered ms start (live_after live d.moves) d.env × AreReadAlike site start (live_after live d.moves)

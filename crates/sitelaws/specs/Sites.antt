@@ -1,8 +1,9 @@
 -- A whole site (own): its directories, its modules, and the records of those that are settled.
-use Rattle.std.specs.Prelude.{◌≡◌, ◌↔◌, Bool, true, not, List, [], ◌∷◌, ◌++◌, map, filter, filter_map, flat_map}
-use Rattle.std.specs.Prelude.{bytes_eq, if◌then◌else◌, Option, Some, None, Result, Ok, Err}
+use Rattle.std.specs.Prelude.{◌≡◌, ◌↔◌, Bool, true, false, not, ◌&&◌, List, [], ◌∷◌, ◌++◌, map, filter, filter_map}
+use Rattle.std.specs.Prelude.{flat_map, bytes_eq, if◌then◌else◌, Option, Some, None, Result, Ok, Err}
 use Rattle.std.specs.List.{list_any}
 use Rattle.std.specs.List.Sorted.{IsStrictlySortedBy}
+use Rattle.modulename.specs.ModuleName.{means}
 use Rattle.modulename.specs.Versions.{version_order}
 use Rattle.envvars.specs.Texts.{Text, has}
 use Rattle.envvars.specs.Environment.{Environment, lookup}
@@ -22,7 +23,7 @@ use Rattle.requests.specs.Refusals.{RefusedAs}
 use Rattle.requests.specs.Reasons.{RequestReason, file_refused}
 use Rattle.requests.specs.Steps as requests
 use Rattle.requests.specs.Steps.{RequestContext, request_context_in, entries_of, script_at}
-use Rattle.sitecertificate.specs.RecordUses.{IsAmong, Uses, used_by_modules, modulepath}
+use Rattle.sitecertificate.specs.RecordUses.{IsAmong, Uses, used_by_modules, modulepath, IsInStep, is_in_step}
 
 -- A site: the files and directories of a tree, the limits on the evaluation of each file, and the environment at hand.
 -- Its MODULEPATH is where the site begins, and each file is evaluated in it.
@@ -171,23 +172,37 @@ pub record IsSettledModule (site : Site) (m : Module) : Type 0 where
 abbrev pub AreSettledModules : Site → List Module → Type 0
 AreSettledModules site ms = (m : Module) → IsAmong m ms ↔ IsSettledModule site m
 
--- No settled module of the site uses a variable that this one reads.
-abbrev pub HasFreeReads : Site → SiteModule → Type 0
-HasFreeReads site m =
-    (v : Text) (n : Module) (x : VariableUse) → Reads site m v → IsSettledModule site n → Uses n.records v x → ⊥
+-- ---- modules that are withheld, and those that may be certified
+
+-- a module of this name is withheld by hand: one of the names that are given means it
+abbrev pub is_withheld : List Text → Text → Bool
+is_withheld without name = list_any (λ given. means given name) without
+
+-- An eligible module: a settled one of the site that is in step and isn't withheld, so that it may be certified.
+pub record IsEligible (site : Site) (without : List Text) (m : Module) : Type 0 where
+  pub settled : IsSettledModule site m
+  pub in_step : IsInStep m
+  pub kept : is_withheld without m.name ≡ false
+
+-- the list has all eligible modules of the site, and no others
+abbrev pub AreEligible : Site → List Text → List Module → Type 0
+AreEligible site without ms = (m : Module) → IsAmong m ms ↔ IsEligible site without m
+
+-- No eligible module uses a variable that this one reads.
+abbrev pub HasFreeReads : Site → List Text → SiteModule → Type 0
+HasFreeReads site without m =
+    (v : Text) (n : Module) (x : VariableUse) → Reads site m v → IsEligible site without n → Uses n.records v x → ⊥
 
 -- A candidate for the certificate: a settled module of the site, whose reads are free.
-pub record IsCandidate (site : Site) (m : Module) : Type 0 where
+pub record IsCandidate (site : Site) (without : List Text) (m : Module) : Type 0 where
   pub settled : IsSettledModule site m
-  pub free : HasFreeReads site (file_of m)
+  pub free : HasFreeReads site without (file_of m)
 
 -- the list has all candidates of the site, and no others
-abbrev pub AreCandidates : Site → List Module → Type 0
-AreCandidates site ms = (m : Module) → IsAmong m ms ↔ IsCandidate site m
+abbrev pub AreCandidates : Site → List Text → List Module → Type 0
+AreCandidates site without ms = (m : Module) → IsAmong m ms ↔ IsCandidate site without m
 
--- each of the list is a candidate of the site, which may have others
-abbrev pub AreAmongCandidates : Site → List Module → Type 0
-AreAmongCandidates site ms = (m : Module) → IsAmong m ms → IsCandidate site m
+-- ---- directories in lists, and modules in these
 
 -- The list of directories is closed: it has those of MODULEPATH, and each that a module adds which is in one of the
 -- list.
@@ -232,14 +247,22 @@ abbrev pub reads_of : Evaluated → List Text
 reads_of (m, Ok runs) = reads_in runs
 reads_of (m, Err reason) = []
 
+-- the module is in step and isn't withheld
+abbrev pub is_eligible : List Text → Module → Bool
+is_eligible without m = is_in_step m && not (is_withheld without m.name)
+
+-- the eligible ones of some evaluated modules, in their order
+abbrev pub eligible_among : List Text → List Evaluated → List Module
+eligible_among without outcomes = filter (is_eligible without) (settled_among outcomes)
+
 -- it reads none of the variables in these uses
 abbrev pub reads_none : List UsedVariable → Evaluated → Bool
 reads_none used outcome = not (list_any (λ p. has p.0 (reads_of outcome)) used)
 
 -- the candidates among some evaluated modules, in their order
-abbrev pub candidates_among : List Evaluated → List Module
-candidates_among outcomes =
-    filter_map settled_of (filter (reads_none (used_by_modules (settled_among outcomes))) outcomes)
+abbrev pub candidates_among : List Text → List Evaluated → List Module
+candidates_among without outcomes =
+    filter_map settled_of (filter (reads_none (used_by_modules (eligible_among without outcomes))) outcomes)
 
 -- The list has each module of the site with the outcome of its evaluations, and no others.
 pub record AreEvaluated (site : Site) (outcomes : List Evaluated) : Type 0 where

@@ -12,7 +12,7 @@ use Rattle.sitecertificate.specs.RecordUses.{IsAmong, Uses, used_by, same_use, m
 use Rattle.sitecertificate.specs.Clashes.{is_other, Clash}
 use Rattle.sitecertificate.specs.Certificates.{IsCertified}
 use Rattle.sitelaws.specs.Sites.{Site, SiteModule, EvaluatesTo, HasSettledRecords, Reads, with_records}
-use Rattle.sitelaws.specs.Sites.{IsSettledModule, HasFreeReads}
+use Rattle.sitelaws.specs.Sites.{IsEligible, HasFreeReads}
 
 pub data Standing : Type 0 where
   -- settled, in step, and without a clash: its loads and unloads need no judgement
@@ -21,7 +21,7 @@ pub data Standing : Type 0 where
   Asks : (first : Question) → Standing
   -- each question keeps its answer, and this is the first of its records after which the start can't be back
   OneWay : (first : Record) → Standing
-  -- it is settled, and reads the variable, which the other settled module uses
+  -- it is settled, and reads the variable, which the other module, an eligible one, uses
   ReadsUsed : (variable : Text) (other : Module) → Standing
   -- it is a candidate, and uses the variable in these two ways; or the variable is MODULEPATH, and the second way is
   -- that of a path with colons
@@ -64,30 +64,31 @@ pub record ClashesWith (ms : List Module) (m : Module) (v : Text) (x y : Variabl
   pub clash : Clash m other v x y
 
 -- the module is settled, its reads are free, and this holds of it with its records
-abbrev pub IsCandidateAnd : Site → SiteModule → (Module → Type 0) → Type 0
-IsCandidateAnd site m P = (rs : List Record) × HasSettledRecords site m rs × HasFreeReads site m × P (with_records m rs)
+abbrev pub IsCandidateAnd : Site → List Text → SiteModule → (Module → Type 0) → Type 0
+IsCandidateAnd site without m P =
+    (rs : List Record) × HasSettledRecords site m rs × HasFreeReads site without m × P (with_records m rs)
 
--- A settled module of the site uses the variable.
-pub record IsUserOf (site : Site) (v : Text) (n : Module) : Type 0 where
-  pub settled : IsSettledModule site n
+-- An eligible module of the site uses the variable.
+pub record IsUserOf (site : Site) (without : List Text) (v : Text) (n : Module) : Type 0 where
+  pub eligible : IsEligible site without n
   pub used : VariableUse
   pub uses : Uses n.records v used
 
--- A module of the site, whose candidates are these, stands so. Each module stands in one of the seven ways: its
--- evaluation is refused, or asks what doesn't keep its answer, or has a record after which the start can't be back, or
--- it is settled; and a settled one reads what another uses, or is a candidate that is out of step, or is in step and
--- clashes, or is certified.
-abbrev pub HasStanding : Site → List Module → SiteModule → Standing → Type 0
-HasStanding site ms m Certified = IsCandidateAnd site m (λ n. IsCertified ms n)
-HasStanding site ms m (Asks first) =
+-- A module of the site, whose candidates are these where the modules that the names mean are withheld, stands so. Each
+-- module stands in one of the seven ways: its evaluation is refused, or asks what doesn't keep its answer, or has a
+-- record after which the start can't be back, or it is settled; and a settled one reads what an eligible one uses, or is
+-- a candidate that is out of step, or is in step and clashes, or is certified.
+abbrev pub HasStanding : Site → List Text → List Module → SiteModule → Standing → Type 0
+HasStanding site without ms m Certified = IsCandidateAnd site without m (λ n. IsCertified ms n)
+HasStanding site without ms m (Asks first) =
     (runs : FileRuns RequestReason) × EvaluatesTo site m (Ok runs) × IsFirstUnkept runs first
-HasStanding site ms m (OneWay first) =
+HasStanding site without ms m (OneWay first) =
     (runs : FileRuns RequestReason) × EvaluatesTo site m (Ok runs) × (keep_answers runs ≡ true)
     × IsFirstOneWay runs.first.records first
-HasStanding site ms m (ReadsUsed variable other) =
-    (rs : List Record) × HasSettledRecords site m rs × Reads site m variable × IsUserOf site variable other
-HasStanding site ms m (OutOfStep variable one other) =
-    IsCandidateAnd site m (λ n. IsUsedTwice n.records variable one other)
-HasStanding site ms m (Clashes variable own theirs other) =
-    IsCandidateAnd site m (λ n. ClashesWith ms n variable own theirs other)
-HasStanding site ms m (Refused reason) = EvaluatesTo site m (Err reason)
+HasStanding site without ms m (ReadsUsed variable other) =
+    (rs : List Record) × HasSettledRecords site m rs × Reads site m variable × IsUserOf site without variable other
+HasStanding site without ms m (OutOfStep variable one other) =
+    IsCandidateAnd site without m (λ n. IsUsedTwice n.records variable one other)
+HasStanding site without ms m (Clashes variable own theirs other) =
+    IsCandidateAnd site without m (λ n. ClashesWith ms n variable own theirs other)
+HasStanding site without ms m (Refused reason) = EvaluatesTo site m (Err reason)

@@ -13,7 +13,7 @@ pub fn admissions()
 
 /// A walk over a site that has gone through each directory that it found has all directories of the site, and the modules
 /// that `avail` lists in them are those of the site. The settled ones among them are those whose evaluations say so, and
-/// the candidates those that read nothing which a settled one uses.
+/// the candidates those that read nothing which an eligible one uses, whichever modules are withheld.
 pub fn walks()
     ensures names { NamesListed }
     ensures directories { DirectoriesFound }
@@ -47,8 +47,9 @@ pub fn standings()
 /// with whose uses the start agrees and whose reads have in it the values of the environment at hand, and which unloads
 /// none that is loaded at the start: each environment is in order, and is the start with the live modules layered on it;
 /// where none is live it is the start, and the maps are equal.
-/// There is no premise about records: conflicts that are judged at each load keep apart what excludes each other. And of
-/// what modules use that the session doesn't load nothing is asked. So it is for any modules that are certified.
+/// There is no premise about records: conflicts that are judged at each load keep apart what excludes each other. Of modules
+/// that aren't certified nothing is asked. So it is for any modules that are certified, however these were chosen: each is a
+/// settled one of the site, and none of them uses what one of them reads.
 pub fn sessions_return()
     ensures certificate { SiteSessionsReturn }
     ensures audits { AuditsHold }

@@ -24,5 +24,5 @@ returns c =
     (record { file = c.in_ok-file_of.field-0; reads = c.in_ok-once_each.field-0 })
     c.in_ok-first.ensures.1 (ap (map way_view) c.as_slice-2.ensures.value ∙ (c.in_ok-ways.ensures ∙ ap (λ (qs : List Question). other_ways (questions_in qs)) c.as_slice.ensures.value))
     shows (c.in_ok-few.ensures ∙ ap (λ (qs : List Question). are_few (questions_in qs)) c.as_slice-3.ensures.value)
-    c.in_ok-file_of.ensures.records c.in_ok-file_of.ensures.unkept
+    c.in_ok-file_of.ensures.records c.in_ok-file_of.ensures.unkept c.in_ok-file_of.ensures.unlike
     (c.in_ok-once_each.ensures ∙ ap (λ (xs : List (String Global)). without_repeats (map string_bytes xs)) c.as_slice-4.ensures.value)

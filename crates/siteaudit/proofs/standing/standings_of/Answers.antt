@@ -9,12 +9,10 @@ returns c =
     let asks : c.map.result ≡ option_map Asks c.args.unkept = search rules in
     let one_way : c.map-2.result ≡ option_map OneWay c.in_ok-one_way.one_way = search rules in
     let used : c.map-3.result ≡ option_map ReadsUsed c.args.used = search rules in
-    let unlike : c.map-4.result ≡ option_map out_of_step c.in_ok-unlike.unlike = search rules in
+    let unlike : c.map-4.result ≡ option_map out_of_step c.args.unlike = search rules in
     record {
       one_way = c.in_ok-one_way.one_way;
-      unlike = c.in_ok-unlike.unlike;
       returns = c.in_ok-one_way.ensures;
-      steps = c.in_ok-unlike.ensures;
       all = gathered c.map.result c.map-2.result c.map-3.result c.map-4.result c.new-standings.result.items c.push_standing.new.standings.items c.push_standing-2.new.standings.items
           c.push_standing-3.new.standings.items c.push_standing-4.new.standings.items c.new-standings.ensures.items c.in_ok-push_standing.ensures c.in_ok-push_standing-2.ensures
           c.in_ok-push_standing-3.ensures c.in_ok-push_standing-4.ensures

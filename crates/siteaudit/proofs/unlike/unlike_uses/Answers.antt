@@ -5,7 +5,7 @@ use Rattle.sitecertificate.specs.RecordUses.{IsAmong, use_alike}
 use Rattle.sitecertificate.specs.UseViews.{used_view}
 use Rattle.siteaudit.proofs.AmongLemmas.{among_map}
 use Rattle.siteaudit.proofs.StandingLemmas.{found_fails, not_found, are_unlike, item_among, suits_more}
-use Rattle.siteaudit.proofs.standing.unlike_uses.Goals as goal
+use Rattle.siteaudit.proofs.unlike.unlike_uses.Goals as goal
 
 pub returns-in-Some : goal.returns-in-Some
 returns-in-Some c =

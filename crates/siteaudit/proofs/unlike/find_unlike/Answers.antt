@@ -3,7 +3,7 @@ use Rattle.reversal.specs.VariableUses.{UsedVariable}
 use Rattle.sitecertificate.specs.RecordUses.{use_alike}
 use Rattle.sitecertificate.specs.UseViews.{used_view}
 use Rattle.siteaudit.proofs.StandingLemmas.{found_first, found_second}
-use Rattle.siteaudit.proofs.standing.find_unlike.Goals as goal
+use Rattle.siteaudit.proofs.unlike.find_unlike.Goals as goal
 
 pub returns-in-Some : goal.returns-in-Some
 returns-in-Some c =
