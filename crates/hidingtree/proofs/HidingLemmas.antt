@@ -22,20 +22,20 @@ any_seen p v (x ∷ xs) = ap (λ b. p (v x) || b) (any_seen p v xs)
 
 -- ---- paths
 
-or_nothing : (b : Bool) → (b || false) ≡ b
+pub or_nothing : (b : Bool) → (b || false) ≡ b
 or_nothing true = refl
 or_nothing false = refl
 
-or_true : (b : Bool) → (b || true) ≡ true
+pub or_true : (b : Bool) → (b || true) ≡ true
 or_true true = refl
 or_true false = refl
 
 -- what is among paths with one more
-among_more : (paths : List Text) (path q : Text) → is_among (paths ++ path ∷ []) q ≡ (is_among paths q || bytes_eq q path)
+pub among_more : (paths : List Text) (path q : Text) → is_among (paths ++ path ∷ []) q ≡ (is_among paths q || bytes_eq q path)
 among_more paths path q = list_any-append (bytes_eq q) paths (path ∷ []) ∙ ap (λ b. is_among paths q || b) (or_nothing (bytes_eq q path))
 
 -- the one more is
-among_last : (paths : List Text) (path : Text) → is_among (paths ++ path ∷ []) path ≡ true
+pub among_last : (paths : List Text) (path : Text) → is_among (paths ++ path ∷ []) path ≡ true
 among_last paths path = among_more paths path path ∙ (ap (λ b. is_among paths path || b) ((bytes_eq-Decides path path).1 refl) ∙ or_true (is_among paths path))
 
 -- a path that isn't the one, or is none of some, whatever that is
@@ -156,7 +156,7 @@ if_kept : (t : Bool) (before now : Text → Bool) (Where : Text → Type 0) → 
 if_kept false before now Where h path was = subst (λ (f : Text → Bool). f path ≡ true) (sym h) was
 if_kept true before now Where h path was = h.1.kept path was
 
-failed_too : {X E : Type 0} (is_failure : E → Bool) (before now : Text → Bool) (result : Result X E) (Where : Text → Type 0) → FailsAt is_failure before now result Where
+pub failed_too : {X E : Type 0} (is_failure : E → Bool) (before now : Text → Bool) (result : Result X E) (Where : Text → Type 0) → FailsAt is_failure before now result Where
     → (path : Text) → before path ≡ true → now path ≡ true
 failed_too is_failure before now (Ok x) Where h path was = subst (λ (f : Text → Bool). f path ≡ true) (sym h) was
 failed_too is_failure before now (Err e) Where h path was = if_kept (is_failure e) before now Where h path was

@@ -1,1 +1,2 @@
 pub mod HidingLemmas
+pub mod FailingLemmas

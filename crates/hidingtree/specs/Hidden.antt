@@ -1,9 +1,9 @@
 -- Files and directories without what stands at some paths (own): at such a path is no file and no directory.
-use Rattle.std.specs.Prelude.{◌≡◌, ◌⊎◌, ℕ, Bool, true, false, List, [], ◌∷◌, ◌++◌, length, nat_lt, Option, Some, None}
-use Rattle.std.specs.Prelude.{bytes_eq, if◌then◌else◌}
-use Rattle.std.specs.List.{All, list_any}
+use Rattle.std.specs.Prelude.{◌≡◌, ◌⊎◌, ℕ, ◌+◌, ◌<◌, ◌≤◌, Bool, true, false, List, [], ◌∷◌, ◌++◌, length, nat_lt}
+use Rattle.std.specs.Prelude.{Option, Some, None, bytes_eq, if◌then◌else◌}
+use Rattle.std.specs.List.{All, IsDistinct, list_any}
 use Rattle.message.specs.Messages.{Text}
-use Rattle.filetree.specs.Agreement.{Files, Listings}
+use Rattle.filetree.specs.Agreement.{FailsOnlyWhere, Files, InEachPair, Listings}
 
 -- the path is one of these
 abbrev pub is_among : List Text → Text → Bool
@@ -62,3 +62,36 @@ hides_more hidden (Some path) = nat_lt (length hidden) 1000
 abbrev pub hidden_with : {X : Type 0} → List X → Option X → List X
 hidden_with hidden None = hidden
 hidden_with hidden (Some path) = if nat_lt (length hidden) 1000 then hidden ++ path ∷ [] else hidden
+
+-- ---- paths that are read once more
+
+-- each pair that agrees has the same file at the path, or has none there
+abbrev pub HasOneFile : (Files → Listings → Type 0) → Text → Type 0
+HasOneFile agrees path = (file : Option Text) × InEachPair agrees (λ files folders. files path ≡ file)
+
+-- Some of these paths are hidden besides those before: each once, no more than how often the device has failed in
+-- between, and no more than a thousand in all.
+pub record HidesMore (paths : List Text) (before now : ℕ) (older hidden : List Text) : Type 0 where
+  pub more : List Text
+  pub order : hidden ≡ older ++ more
+  pub some : All (λ path. is_among paths path ≡ true) more
+  pub counted : before + length more ≤ now
+  pub once : IsDistinct bytes_eq older → IsDistinct bytes_eq hidden
+  pub most : (more ≡ []) ⊎ (length hidden ≤ 1000)
+
+-- Each of these paths is hidden, or one file alone is left there; and each is hidden at which the device has failed in
+-- between.
+pub record AreAllHidden (paths : List Text) (agrees : Files → Listings → Type 0) (before now : Text → Bool)
+    (hidden : List Text) : Type 0 where
+  pub left : All (λ path. (is_among hidden path ≡ true) ⊎ HasOneFile agrees path) paths
+  pub failed : FailsOnlyWhere before now (λ path. is_among hidden path ≡ true)
+
+-- The device has failed in between at one of these paths more than are hidden, which are a thousand.
+pub record IsOneTooMany (paths : List Text) (has_failed : Text → Bool) (before now : ℕ) (older hidden : List Text)
+    : Type 0 where
+  pub path : Text
+  pub among : is_among paths path ≡ true
+  pub failed : has_failed path ≡ true
+  pub shown : is_among hidden path ≡ false
+  pub counted : before + length hidden < now + length older
+  pub most : 1000 ≤ length hidden

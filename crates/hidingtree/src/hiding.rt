@@ -1,14 +1,17 @@
 //! A tree in which nothing stands at some paths.
-ghost use Rattle.std.specs.Prelude.{◌≡◌, ◌≤◌, ◌+◌, ◌++◌, [], ◌∷◌, false, true, length, map, string_bytes};
+ghost use Rattle.std.specs.Prelude.{◌≡◌, ◌⊎◌, ◌≤◌, ◌+◌, ◌++◌, List, [], ◌∷◌, false, true, length, map, string_bytes};
 ghost use Rattle.std.specs.Prelude.{IfErr, IfOk, OnOk};
 ghost use Rattle.std.specs.Option.{ForSome};
+ghost use Rattle.message.specs.Messages.{Text};
+ghost use Rattle.filetree.specs.Agreement.{ReadsOn};
 ghost use Rattle.filetree.specs.declared.tree.TreeFault.TheVariants as faults;
-ghost use Rattle.hidingtree.specs.Hidden.{AllFailed, AreApart, MayAgreeWithout, count_of, hidden_with, hides_more};
-ghost use Rattle.hidingtree.specs.Hidden.{is_among, without};
+ghost use Rattle.hidingtree.specs.Hidden.{AllFailed, AreAllHidden, AreApart, HidesMore, IsOneTooMany, MayAgreeWithout};
+ghost use Rattle.hidingtree.specs.Hidden.{count_of, hidden_with, hides_more, is_among, without};
 ghost use Rattle.hidingtree.specs.Left.{left_without};
 
 use filetree::{Tree, TreeFault};
 use std::alloc::{AllocError, Global};
+use std::mem;
 
 /// How many paths are hidden at most before it is given up.
 pub const MOST_HIDDEN: usize = 1_000;
@@ -79,6 +82,89 @@ impl<T: Tree + Drop> HidingTree<T> {
         Ok(true)
     }
 
+    /// Hides what `hide_failed` hides, and besides that each path at which something was seen and the device fails by now:
+    /// all of them are read once more. Whether there is one, and all could be hidden, fewer than a thousand at first. What
+    /// is to be seen then is asked for anew.
+    ///
+    /// It fails for want of memory; then too no path is shown again.
+    pub fn hide_all_failed(&mut self) -> Result<bool, AllocError>
+        ensures reads { ReadsOn T.agrees T.failures self.old.tree self.new.tree }
+        ensures hidden { OnOk result (HidesMore (map string_bytes self.old.seen.items)
+            (T.failures self.old.tree) (T.failures self.new.tree)
+            (map string_bytes (hidden_with self.old.hidden.items self.old.failed_at))
+            (map string_bytes self.new.hidden.items)) }
+        ensures all { IfOk result (λ all. all ≡ true
+            → (hides_more self.old.hidden.items self.old.failed_at ≡ true)
+            × AreAllHidden (map string_bytes self.old.seen.items) (T.agrees self.new.tree)
+            (T.failed self.old.tree) (T.failed self.new.tree) (map string_bytes self.new.hidden.items)) }
+        ensures fewer { IfOk result (λ all. all ≡ false
+            → ((hides_more self.old.hidden.items self.old.failed_at ≡ false)
+            × (self.new.hidden.items ≡ self.old.hidden.items))
+            ⊎ IsOneTooMany (map string_bytes self.old.seen.items) (T.failed self.new.tree)
+            (T.failures self.old.tree) (T.failures self.new.tree)
+            (map string_bytes (hidden_with self.old.hidden.items self.old.failed_at))
+            (map string_bytes self.new.hidden.items)) }
+        ensures kept { IfErr result (λ e. (more : List Text)
+            × (map string_bytes self.new.hidden.items ≡ map string_bytes self.old.hidden.items ++ more)) }
+    {
+        let seen = mem::replace(&mut self.seen, Vec::new(self.alloc));
+        if !self.hide_failed()? {
+            return Ok(false);
+        }
+        self.hide_failing(seen.as_slice())
+    }
+
+    /// Reads these paths once more, and hides each at which the device fails, while fewer than a thousand are hidden.
+    /// Whether all could be. What is to be seen then is asked for anew.
+    fn hide_failing(&mut self, paths: &[String]) -> Result<bool, AllocError>
+        ensures reads { ReadsOn T.agrees T.failures self.old.tree self.new.tree }
+        ensures hidden { HidesMore (map string_bytes paths.now)
+            (T.failures self.old.tree) (T.failures self.new.tree)
+            (map string_bytes self.old.hidden.items) (map string_bytes self.new.hidden.items) }
+        ensures all { IfOk result (λ all. all ≡ true → AreAllHidden (map string_bytes paths.now)
+            (T.agrees self.new.tree) (T.failed self.old.tree) (T.failed self.new.tree)
+            (map string_bytes self.new.hidden.items)) }
+        ensures fewer { IfOk result (λ all. all ≡ false → IsOneTooMany (map string_bytes paths.now)
+            (T.failed self.new.tree) (T.failures self.old.tree) (T.failures self.new.tree)
+            (map string_bytes self.old.hidden.items) (map string_bytes self.new.hidden.items)) }
+    {
+        self.seen.clear();
+        for path in paths {
+            if !self.hide_if_failing(path.as_str())? {
+                return Ok(false);
+            }
+        }
+        Ok(true)
+    }
+
+    /// Reads a path once more, and hides it where the device fails and fewer than a thousand are hidden. Whether nothing is
+    /// left that can fail there.
+    fn hide_if_failing(&mut self, path: &str) -> Result<bool, AllocError>
+        requires { self.old.seen.items ≡ [] }
+        ensures seen { self.new.seen.items ≡ [] }
+        ensures reads { ReadsOn T.agrees T.failures self.old.tree self.new.tree }
+        ensures hidden { HidesMore (path.now ∷ []) (T.failures self.old.tree) (T.failures self.new.tree)
+            (map string_bytes self.old.hidden.items) (map string_bytes self.new.hidden.items) }
+        ensures all { IfOk result (λ all. all ≡ true → AreAllHidden (path.now ∷ [])
+            (T.agrees self.new.tree) (T.failed self.old.tree) (T.failed self.new.tree)
+            (map string_bytes self.new.hidden.items)) }
+        ensures fewer { IfOk result (λ all. all ≡ false → IsOneTooMany (path.now ∷ [])
+            (T.failed self.new.tree) (T.failures self.old.tree) (T.failures self.new.tree)
+            (map string_bytes self.old.hidden.items) (map string_bytes self.new.hidden.items)) }
+    {
+        if is_among(&self.hidden, path) {
+            return Ok(true);
+        }
+        let Err(fault) = self.tree.read(path) else {
+            return Ok(true);
+        };
+        match self.hide(path, fault) {
+            Ok(()) => Ok(true),
+            Err(TreeFault::Device) => Ok(false),
+            Err(TreeFault::OutOfMemory) => Err(AllocError),
+        }
+    }
+
     /// Why there is no answer where the device failed at a path that can't be hidden: a thousand are, or else memory
     /// didn't suffice to keep it.
     pub fn fault_in_the_end(&self) -> TreeFault
@@ -116,6 +202,10 @@ impl<T: Tree + Drop> HidingTree<T> {
         ensures hidden { OnOk result (map string_bytes self.new.hidden.items
             ≡ map string_bytes self.old.hidden.items ++ path.now ∷ []) }
         ensures unseen { OnOk result (is_among (map string_bytes self.old.seen.items) path.now ≡ false) }
+        ensures few { OnOk result ((fault ≡ faults.Device) × (length self.new.hidden.items ≤ 1000)) }
+        ensures many { IfErr result (λ e. e ≡ faults.Device
+            → (is_among (map string_bytes self.old.seen.items) path.now ≡ true)
+            ⊎ (1000 ≤ length self.old.hidden.items)) }
         ensures kept { IfErr result (λ e. self.new.hidden.items ≡ self.old.hidden.items) }
         ensures fault { IfErr result (λ e. e ≡ faults.Device → fault ≡ faults.Device) }
     {
