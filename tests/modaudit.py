@@ -14,6 +14,7 @@ import re
 import select
 import shutil
 import subprocess
+import threading
 import time
 
 import pytest
@@ -1718,6 +1719,31 @@ def test_how_much_may_not_be_read(folder):
     ring(folder, "/m/a/y")
     done = site.run()
     same((done.stdout, done.stderr, done.returncode), (b"", b"ERROR: Reading failed\n", 2), "one more")
+
+
+def take_away(paths):
+    for path in paths:
+        os.remove(path)
+
+
+def test_a_site_that_goes_away_meanwhile(folder):
+    """Files are taken away at once, early or late in the audit: it ends soon, whatever of them it has seen by then. What was
+    seen and is gone has a line each; where that would be more than a thousand there is no audit."""
+    names = [f"name{number // 5}/{number % 5}" for number in range(3000)]
+    for delay, count in ((0.05, 900), (0.1, 900), (0.2, 900), (0.1, 3000)):
+        paths = [folder.module(name, "prepend-path PATH /opt/bin\n") for name in names]
+        going = threading.Timer(delay, take_away, (paths[-count:],))
+        going.start()
+        done = folder.run()
+        going.join()
+        what = f"of {count} that go away after {delay} s"
+        lost = done.stdout.count(b"\trefused\tReading failed\t")
+        if done.returncode == 2:
+            same((done.stdout, done.stderr), (b"", b"ERROR: Reading failed\n"), f"what is said {what}")
+            true(count > 1000, f"there is an audit {what}")
+        else:
+            same((done.stderr, done.returncode in (0, 1)), (b"", True), f"standard error and the status {what}")
+            true(lost <= count and b" certified of " in done.stdout, f"the report {what} has {lost} lines")
 
 
 # Faults.

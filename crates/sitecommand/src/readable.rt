@@ -163,7 +163,7 @@ fn audit_seen<T: Tree + Drop, P: WalkProgress>(
 }
 
 /// The audit of the site of an environment without what can't be read: one, and another where what was seen before can't
-/// be read any more.
+/// be read any more, without all of that.
 fn audit_without<T: Tree + Drop, P: WalkProgress>(
     alloc: Global,
     directories: &[String],
@@ -188,7 +188,7 @@ fn audit_without<T: Tree + Drop, P: WalkProgress>(
                 unreadable: in_order(alloc, tree.hidden.as_slice())?,
             });
         }
-        if !tree.hide_failed()? {
+        if !tree.hide_all_failed()? {
             return Err(in_the_end(tree));
         }
     }

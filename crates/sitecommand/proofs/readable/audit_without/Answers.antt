@@ -24,14 +24,14 @@ returns-in_err-in_order-clause-refused g c =
     let p = err_from_is_err_and c.from_residual-in_err-in_order.result c.from_residual-in_err-in_order.ensures.1 in
     rw (p.1, p.2) (given_up OutOfMemory tt)
 
-pub returns-in_err-hide_failed-clause-refused : goal.returns-in_err-hide_failed-clause-refused
-returns-in_err-hide_failed-clause-refused g c =
-    let p = err_from_is_err_and c.from_residual-in_err-hide_failed.result c.from_residual-in_err-hide_failed.ensures.1 in
+pub returns-in_err-hide_all_failed-clause-refused : goal.returns-in_err-hide_all_failed-clause-refused
+returns-in_err-hide_all_failed-clause-refused g c =
+    let p = err_from_is_err_and c.from_residual-in_err-hide_all_failed.result c.from_residual-in_err-hide_all_failed.ensures.1 in
     rw (p.1, p.2) (given_up OutOfMemory tt)
 
 pub returns-then-not-branch-clause-refused : goal.returns-then-not-branch-clause-refused
 returns-then-not-branch-clause-refused g c =
-    let tree = c.hide_failed.new.self in
+    let tree = c.hide_all_failed.new.self in
     site_given_up (g.T.Tree.agrees tree.tree) (g.T.Tree.failed tree.tree) (1000 ≤ g.T.Tree.failures tree.tree) c.args.judged.now (texts c.args.directories.now)
     c.in_the_end.result c.in_the_end.ensures
 
