@@ -1727,11 +1727,12 @@ def take_away(paths):
 
 
 def test_a_site_that_goes_away_meanwhile(folder):
-    """Files are taken away at once, early or late in the audit: it ends soon, whatever of them it has seen by then. What was
-    seen and is gone has a line each; where that would be more than a thousand there is no audit."""
-    names = [f"name{number // 5}/{number % 5}" for number in range(3000)]
-    for delay, count in ((0.05, 900), (0.1, 900), (0.2, 900), (0.1, 3000)):
-        paths = [folder.module(name, "prepend-path PATH /opt/bin\n") for name in names]
+    """Files are taken away at once, early or late in the audit: it ends soon, whatever of them it has seen by then. What
+    was seen and is gone has a line each; where that would be more than a thousand there is no audit."""
+    names = [f"name{number // 5:03}/{number % 5}" for number in range(2000)]
+    text = "for {set i 0} {$i < 100} {incr i} {}\nprepend-path PATH /opt/bin\n"
+    for delay, count in ((0.05, 900), (0.1, 900), (0.2, 900), (0.1, 2000)):
+        paths = [folder.module(name, text) for name in names]
         going = threading.Timer(delay, take_away, (paths[-count:],))
         going.start()
         done = folder.run()

@@ -82,8 +82,8 @@ impl<T: Tree + Drop> HidingTree<T> {
         Ok(true)
     }
 
-    /// Hides what `hide_failed` hides, and besides that each path at which something was seen and the device fails by now:
-    /// all of them are read once more. Whether there is one, and all could be hidden, fewer than a thousand at first. What
+    /// Hides what `hide_failed` hides, and besides each path at which something was seen and the device fails by now:
+    /// all of these are read once more. Whether `hide_failed` hides one, and all could be hidden, to a thousand. What
     /// is to be seen then is asked for anew.
     ///
     /// It fails for want of memory; then too no path is shown again.
@@ -137,8 +137,8 @@ impl<T: Tree + Drop> HidingTree<T> {
         Ok(true)
     }
 
-    /// Reads a path once more, and hides it where the device fails and fewer than a thousand are hidden. Whether nothing is
-    /// left that can fail there.
+    /// Reads a path once more, and hides it where the device fails and fewer than a thousand are hidden. Whether it is
+    /// hidden then, or could be read.
     fn hide_if_failing(&mut self, path: &str) -> Result<bool, AllocError>
         requires { self.old.seen.items ≡ [] }
         ensures seen { self.new.seen.items ≡ [] }
