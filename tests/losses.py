@@ -231,8 +231,9 @@ ROWS = {
     ),
     "a value that is unset here, and kept absent there": Row(
         {"a/1": "conflict b\nunsetenv V x\n", "b/1": "unsetenv V\n"},
-        ["clashes", "certified"],
-        ["load a", "unload a"],
+        ["certified", "clashes"],
+        ["load b", "unload b"],
+        {"V": None},
         {"V": "x"},
     ),
     "two values that are unset": Row(
