@@ -28,7 +28,7 @@ use Rattle.failedcommands.specs.declared.location.FileExplanation.{FileExplanati
 use Rattle.explanations.proofs.AdviceLemmas.{Answers}
 use Rattle.explanations.proofs.LocationLemmas.{locates_later, none_located_later}
 use Rattle.explanations.specs.Advised.{ComesTo, IsAdvised}
-use Rattle.explanations.specs.Explained.{IsExplained, IsFile, IsOfOutcome, IsOfUsage, IsSound, IsUnexplained, IsWhy}
+use Rattle.explanations.specs.Explained.{IsExplained, IsFile, IsOfOutcome, IsSound, IsUnexplained, IsWhy}
 use Rattle.explanations.specs.Views.{IfBecause, IsFileOf, is_known}
 use Rattle.explanations.specs.declared.advice.Advice.{Advice}
 use Rattle.explanations.specs.declared.advice.Advice.TheVariants as advices

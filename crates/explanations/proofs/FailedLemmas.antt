@@ -10,15 +10,12 @@ use Rattle.std.specs.declared.alloc.Global.{Global}
 use Rattle.filetree.specs.Agreement.{FailsAt, FailsIf, Files, Listings}
 use Rattle.filetree.proofs.CachedAnswers.{map_end, one_more}
 use Rattle.filetree.specs.Causes.{Applies, Cause, memory, device, because}
-use Rattle.modules.specs.Answers.{StepAnswersOverTree, cause_of, is_failure, is_of_device}
+use Rattle.modules.specs.Answers.{cause_of, is_failure, is_of_device}
 use Rattle.modules.specs.declared.refusal.Refusal.{Refusal}
 use Rattle.requests.specs.Reasons.{RequestReason}
 use Rattle.envvars.specs.Environment.{Environment}
-use Rattle.filetree.specs.Agreement.{InEachPair}
 use Rattle.modules.specs.declared.reply.RequestChanges.{RequestChanges}
-use Rattle.requests.specs.Looked.{RequestLooksAt}
 use Rattle.requests.specs.Requests.{RequestedAction}
-use Rattle.requests.specs.Steps.{request_context_in}
 use Rattle.shelltext.specs.declared.shell.Shell.{Shell}
 use Rattle.tclrules.specs.declared.limits.Limits.{Limits}
 use Rattle.givenup.specs.Causes.{is_given_up}

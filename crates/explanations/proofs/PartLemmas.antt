@@ -1,13 +1,10 @@
 -- The file that a part of a request evaluates, and what the part makes of the environment.
 use Rattle.std.proofs.Common.{◌≡◌, Bool, true, false, List, map, reverse, string_bytes, String, Bor, Option, Some, None, Result, Ok, Err, IfOk, inl, inr, refl, sym, ap, subst, ◌∙◌}
-use Rattle.std.specs.Option.{option_map}
 use Rattle.std.specs.Prelude.{OnErr}
 use Rattle.std.specs.declared.alloc.AllocError.{AllocError}
 use Rattle.std.specs.declared.alloc.Global.{Global}
 use Rattle.std.specs.declared.vec.Vec.{Vec}
 use Rattle.envloaded.specs.Loaded.{Entry, names_of}
-use Rattle.envloaded.specs.LoadedEntries.{entry_view}
-use Rattle.envloaded.specs.declared.entry.Loaded.{Loaded}
 use Rattle.envvars.specs.Environment.{Environment}
 use Rattle.envvars.specs.Reasons as edits
 use Rattle.envvars.specs.Texts.{Text, slice_texts, texts_in}
@@ -18,9 +15,6 @@ use Rattle.shelltext.specs.declared.shell.Shell.{Shell}
 use Rattle.tclrules.specs.declared.limits.Limits.{Limits}
 use Rattle.modulefile.specs.Files.{FileReason}
 use Rattle.modulefile.specs.Judgments.{bad_edit}
-use Rattle.modulefile.specs.RecordViews.{mode_view}
-use Rattle.modulefile.specs.declared.records.Mode.{Mode}
-use Rattle.modulefile.specs.declared.records.Mode.TheVariants as modes
 use Rattle.modulerun.specs.Running.{file_reason_of}
 use Rattle.modules.specs.Answers.{StepAnswersOverTree, by_reason, by_search, cause_of}
 use Rattle.modules.specs.Views.{done_view}
@@ -30,7 +24,7 @@ use Rattle.modules.specs.declared.done.RequestResults.{RequestResults}
 use Rattle.requests.specs.Reasons.{RequestReason, bad_arguments, conflict_with, file_gone, file_refused, missed, not_a_modulefile, prereq_missing, refused_edit, still_needed_by}
 use Rattle.requests.specs.Reasons.{unknown_subcommand}
 use Rattle.requests.specs.Requests.{RequestedAction, switch}
-use Rattle.requests.specs.Steps.{RequestContext, RequestStep, last_meant, modulepath, request_context_in}
+use Rattle.requests.specs.Steps.{RequestContext, RequestStep, modulepath, request_context_in}
 use Rattle.lookup.specs.DefaultFileResults.{HasResult}
 use Rattle.search.specs.Answers.{cause_of as find_cause}
 use Rattle.search.specs.Found.{Found, FoundModule}

@@ -1,5 +1,5 @@
 -- What is said of what to do (own): one line.
-use Rattle.std.specs.Prelude.{ℕ, List, [], ◌∷◌, ◌++◌, map, codes, Option, Some, None, string_bytes, vec_items}
+use Rattle.std.specs.Prelude.{List, ◌++◌, map, codes, Option, Some, None, string_bytes, vec_items}
 use Rattle.std.specs.List.{flat_map}
 use Rattle.terminaltext.specs.Shown.{Text, shown}
 use Rattle.requests.specs.RequestViews.{action_view}

@@ -1,7 +1,7 @@
 -- What is advised where a request is refused (own): by the reason, another request that would be accepted, or what is
 -- known; or nothing.
 use Rattle.std.specs.Prelude.{◌≡◌, ◌⊎◌, Bool, true, false, List, [], ◌∷◌, ◌++◌, All, codes, Option, Some, None}
-use Rattle.std.specs.Prelude.{Contains, is_some, Result, Ok, Err, string_bytes}
+use Rattle.std.specs.Prelude.{Contains, is_some, Result, Err, string_bytes}
 use Rattle.std.specs.List.{flat_map}
 use Rattle.envloaded.specs.Loaded.{Entry, loaded_in, names_of}
 use Rattle.envvars.specs.Environment.{Environment}
@@ -9,7 +9,7 @@ use Rattle.envvars.specs.Texts.{Text, has, texts_in}
 use Rattle.filetree.specs.Agreement.{Files, Listings, InEachPair}
 use Rattle.givenup.specs.Causes.{is_given_up}
 use Rattle.filetree.specs.Modulefiles.{directories}
-use Rattle.modulefile.specs.Files.{FileReason, halted, failed, refused}
+use Rattle.modulefile.specs.Files.{FileReason, halted}
 use Rattle.modules.specs.Answers.{cause_of}
 use Rattle.modules.specs.Spaced.{spaced}
 use Rattle.requests.specs.Reasons.{RequestReason, conflict_with, prereq_missing, still_needed_by, missed, file_refused}

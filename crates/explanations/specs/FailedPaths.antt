@@ -7,6 +7,7 @@ use Rattle.std.specs.declared.alloc.Global.{Global}
 use Rattle.envvars.specs.Environment.{Environment}
 use Rattle.envvars.specs.Texts.{Text}
 use Rattle.filetree.specs.Agreement.{Files, Listings, InEachPair}
+use Rattle.filetree.specs.Causes.{Cause, Applies}
 use Rattle.requests.specs.Looked.{RequestLooksAt}
 use Rattle.requests.specs.Requests.{RequestedAction}
 use Rattle.requests.specs.Steps.{request_context_in}
@@ -14,6 +15,10 @@ use Rattle.shelltext.specs.declared.shell.Shell.{Shell}
 use Rattle.tclrules.specs.declared.limits.Limits.{Limits}
 use Rattle.explanations.specs.Advised.{IsRefused}
 use Rattle.explanations.specs.Explained.{IsAccepted}
+
+-- the cause is the device only where this holds, as that it has failed in the call
+abbrev pub IsDeviceOnlyIf : {R : Type 0} → Cause R → Type 0 → Type 0
+IsDeviceOnlyIf cause failed = Applies cause failed (λ reason. Unit {0})
 
 -- the path is among those that a watched tree has kept
 abbrev pub is_kept : Vec (String Global) Global → List ℕ → Bool

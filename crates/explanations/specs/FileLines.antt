@@ -1,5 +1,5 @@
 -- What is said of the place at which a modulefile failed (own): lines, each with its newline.
-use Rattle.std.specs.Prelude.{ℕ, ◌==◌, nat_le, Bool, if◌then◌else◌, List, [], ◌∷◌, ◌++◌, length, take}
+use Rattle.std.specs.Prelude.{ℕ, ◌==◌, nat_le, if◌then◌else◌, List, [], ◌∷◌, ◌++◌, length, take}
 use Rattle.std.specs.Prelude.{map, codes, decimal, chars, string_bytes, vec_items}
 use Rattle.std.specs.List.{before_first, flat_map}
 use Rattle.std.specs.Str.{trim_end}

@@ -1,8 +1,7 @@
 //! What to do about a refusal: a request that would be accepted, or what is known.
 ghost use Rattle.std.specs.Prelude.{◌≡◌, ◌∷◌, [], Some, None, true, IfNone, IfOk, IfSome, map, string_bytes};
-ghost use Rattle.std.specs.Prelude.{◌<◌, ◌≤◌, ⊤, IfErr};
-ghost use Rattle.filetree.specs.Causes.{Applies};
-ghost use Rattle.filetree.specs.Agreement.{Narrows};
+ghost use Rattle.std.specs.Prelude.{◌<◌, IfErr};
+ghost use Rattle.filetree.specs.Agreement.{ReadsOn};
 ghost use Rattle.search.specs.Answers.{cause_of as find_cause};
 ghost use Rattle.modulerun.specs.Running.{eval_reason, file_reason_of};
 ghost use Rattle.modules.specs.Answers.{cause_of};
@@ -12,6 +11,7 @@ ghost use Rattle.explanations.specs.Advised as spec;
 ghost use Rattle.explanations.specs.Advised.{IsRefused};
 ghost use Rattle.explanations.specs.Explained.{IsSound};
 ghost use Rattle.explanations.specs.Views.{IfBecause, IsSwitchOrNone, IsTried, is_known};
+ghost use Rattle.explanations.specs.FailedPaths.{IsDeviceOnlyIf};
 
 use crate::automatic::{for_need, for_needed};
 use crate::known::known;
@@ -48,10 +48,9 @@ fn if_accepted<T: Tree>(
     tree: &mut T,
     action: Action,
 ) -> Result<Option<Advice>, Refusal>
-    ensures narrows { Narrows (T.agrees tree.old) (T.agrees tree.new) }
-    ensures counts { T.failures tree.old ≤ T.failures tree.new }
-    ensures gave_up { IfErr result (λ refusal. Applies (cause_of refusal) (T.failures tree.old < T.failures tree.new)
-        (λ reason. ⊤)) }
+    ensures reads { ReadsOn T.agrees T.failures tree.old tree.new }
+    ensures gave_up { IfErr result (λ refusal.
+        IsDeviceOnlyIf (cause_of refusal) (T.failures tree.old < T.failures tree.new)) }
     ensures advised { IfOk result (λ o. IfSome o (IsSound (T.agrees tree.new) refused.entry.limits
         refused.entry.request.now.shell refused.entry.env.now)) }
     ensures tried { IfOk result (λ o. IfSome o (IsTried action)) }
@@ -91,10 +90,9 @@ fn switch_to_one<T: Tree>(
     other: &str,
     names: &[String],
 ) -> Result<Option<Advice>, Refusal>
-    ensures narrows { Narrows (T.agrees tree.old) (T.agrees tree.new) }
-    ensures counts { T.failures tree.old ≤ T.failures tree.new }
-    ensures gave_up { IfErr result (λ refusal. Applies (cause_of refusal) (T.failures tree.old < T.failures tree.new)
-        (λ reason. ⊤)) }
+    ensures reads { ReadsOn T.agrees T.failures tree.old tree.new }
+    ensures gave_up { IfErr result (λ refusal.
+        IsDeviceOnlyIf (cause_of refusal) (T.failures tree.old < T.failures tree.new)) }
     ensures advised { IfOk result (λ o. IfSome o (IsSound (T.agrees tree.new) refused.entry.limits
         refused.entry.request.now.shell refused.entry.env.now)) }
     ensures switches { IfOk result (IsSwitchOrNone (T.agrees tree.new) refused.entry.limits
@@ -126,10 +124,9 @@ fn instead<T: Tree>(
     other: &str,
     names: &[String],
 ) -> Result<Option<Advice>, Refusal>
-    ensures narrows { Narrows (T.agrees tree.old) (T.agrees tree.new) }
-    ensures counts { T.failures tree.old ≤ T.failures tree.new }
-    ensures gave_up { IfErr result (λ refusal. Applies (cause_of refusal) (T.failures tree.old < T.failures tree.new)
-        (λ reason. ⊤)) }
+    ensures reads { ReadsOn T.agrees T.failures tree.old tree.new }
+    ensures gave_up { IfErr result (λ refusal.
+        IsDeviceOnlyIf (cause_of refusal) (T.failures tree.old < T.failures tree.new)) }
     ensures advised { IfOk result (λ o. IfSome o (IsSound (T.agrees tree.new) refused.entry.limits
         refused.entry.request.now.shell refused.entry.env.now)) }
     ensures fits { IfOk result (spec.Instead (T.agrees tree.new) refused.entry.limits
@@ -148,10 +145,9 @@ fn for_conflict<T: Tree>(
     tree: &mut T,
     other: &str,
 ) -> Result<Option<Advice>, Refusal>
-    ensures narrows { Narrows (T.agrees tree.old) (T.agrees tree.new) }
-    ensures counts { T.failures tree.old ≤ T.failures tree.new }
-    ensures gave_up { IfErr result (λ refusal. Applies (cause_of refusal) (T.failures tree.old < T.failures tree.new)
-        (λ reason. ⊤)) }
+    ensures reads { ReadsOn T.agrees T.failures tree.old tree.new }
+    ensures gave_up { IfErr result (λ refusal.
+        IsDeviceOnlyIf (cause_of refusal) (T.failures tree.old < T.failures tree.new)) }
     ensures advised { IfOk result (λ o. IfSome o (IsSound (T.agrees tree.new) refused.entry.limits
         refused.entry.request.now.shell refused.entry.env.now)) }
     ensures fits { IfOk result (spec.ForConflict (T.agrees tree.new) refused.entry.limits
@@ -203,10 +199,9 @@ fn for_missed<T: Tree>(
     tree: &mut T,
     fault: &FindFault,
 ) -> Result<Option<Advice>, Refusal>
-    ensures narrows { Narrows (T.agrees tree.old) (T.agrees tree.new) }
-    ensures counts { T.failures tree.old ≤ T.failures tree.new }
-    ensures gave_up { IfErr result (λ refusal. Applies (cause_of refusal) (T.failures tree.old < T.failures tree.new)
-        (λ reason. ⊤)) }
+    ensures reads { ReadsOn T.agrees T.failures tree.old tree.new }
+    ensures gave_up { IfErr result (λ refusal.
+        IsDeviceOnlyIf (cause_of refusal) (T.failures tree.old < T.failures tree.new)) }
     ensures known { IfOk result (λ o. IfSome o (λ advice. is_known advice ≡ true)) }
     ensures fits { IfOk result (λ o. IfBecause (find_cause fault.now) (λ reason.
         spec.ForMissed (T.agrees tree.new) refused.entry.limits refused.entry.request.now.shell refused.entry.env.now
@@ -230,10 +225,9 @@ pub(crate) fn advice_for<T: Tree>(
     tree: &mut T,
     refusal: &Refusal,
 ) -> Result<Option<Advice>, Refusal>
-    ensures narrows { Narrows (T.agrees tree.old) (T.agrees tree.new) }
-    ensures counts { T.failures tree.old ≤ T.failures tree.new }
-    ensures gave_up { IfErr result (λ refusal. Applies (cause_of refusal) (T.failures tree.old < T.failures tree.new)
-        (λ reason. ⊤)) }
+    ensures reads { ReadsOn T.agrees T.failures tree.old tree.new }
+    ensures gave_up { IfErr result (λ refusal.
+        IsDeviceOnlyIf (cause_of refusal) (T.failures tree.old < T.failures tree.new)) }
     ensures advised { IfOk result (λ o. IfSome o (IsSound (T.agrees tree.new) refused.entry.limits
         refused.entry.request.now.shell refused.entry.env.now)) }
     ensures fits { IfOk result (λ o. IfBecause (cause_of refusal.now) (λ reason.

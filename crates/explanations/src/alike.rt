@@ -1,13 +1,13 @@
 //! Names of modules that are like one that isn't found.
 ghost use Rattle.std.specs.Prelude.{◌≡◌, map, take, IfOk, string_bytes};
-ghost use Rattle.std.specs.Prelude.{◌<◌, ◌≤◌, ⊤, IfErr};
+ghost use Rattle.std.specs.Prelude.{◌<◌, IfErr};
 ghost use Rattle.std.specs.Option.{option_map};
 ghost use Rattle.envvars.specs.Texts.{slice_texts, texts_in};
 ghost use Rattle.search.specs.Answers.{cause_of as find_cause};
-ghost use Rattle.filetree.specs.Causes.{Applies};
-ghost use Rattle.filetree.specs.Agreement.{InEachPair, Narrows};
+ghost use Rattle.filetree.specs.Agreement.{InEachPair, ReadsOn};
 ghost use Rattle.lookup.specs.LineViews.{line_view};
 ghost use Rattle.explanations.specs.Alike as spec;
+ghost use Rattle.explanations.specs.FailedPaths.{IsDeviceOnlyIf};
 
 use envvars::fields::{deduplicated, owned};
 use filetree::Tree;
@@ -116,10 +116,9 @@ pub(crate) fn names_like<T: Tree>(
     tree: &mut T,
     limits: Limits,
 ) -> Result<Vec<String>, FindFault>
-    ensures narrows { Narrows (T.agrees tree.old) (T.agrees tree.new) }
-    ensures counts { T.failures tree.old ≤ T.failures tree.new }
-    ensures gave_up { IfErr result (λ refusal. Applies (find_cause refusal) (T.failures tree.old < T.failures tree.new)
-        (λ reason. ⊤)) }
+    ensures reads { ReadsOn T.agrees T.failures tree.old tree.new }
+    ensures gave_up { IfErr result (λ refusal.
+        IsDeviceOnlyIf (find_cause refusal) (T.failures tree.old < T.failures tree.new)) }
     ensures like { IfOk result (λ names. InEachPair (T.agrees tree.new) (λ files listings.
         spec.AreLike limits files listings modulepath.now typed.now (texts_in names))) }
 {

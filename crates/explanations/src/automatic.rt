@@ -1,10 +1,10 @@
 //! What to do by automated module handling: a load with what is needed first, an unload with what needs it.
 ghost use Rattle.std.specs.Prelude.{◌≡◌, Ok, Err, Some, IfNone, IfOk, IfSome, map, string_bytes};
-ghost use Rattle.std.specs.Prelude.{◌<◌, ◌≤◌, ◌⊎◌, ⊤, IfErr};
+ghost use Rattle.std.specs.Prelude.{◌<◌, ◌⊎◌, IfErr};
 ghost use Rattle.envvars.specs.Texts.{texts_in};
 ghost use Rattle.modules.specs.Answers.{cause_of};
-ghost use Rattle.filetree.specs.Causes.{Applies, memory};
-ghost use Rattle.filetree.specs.Agreement.{Narrows};
+ghost use Rattle.filetree.specs.Causes.{memory};
+ghost use Rattle.filetree.specs.Agreement.{ReadsOn};
 ghost use Rattle.requests.specs.RequestViews.{action_view};
 ghost use Rattle.autohandling.specs.declared.answer.AutomaticAnswer.{AutomaticAnswer};
 ghost use Rattle.autohandling.specs.declared.fault.AutomaticFault.{AutomaticFault};
@@ -12,6 +12,7 @@ ghost use Rattle.explanations.specs.Advised as spec;
 ghost use Rattle.explanations.specs.Explained.{IsSound};
 ghost use Rattle.explanations.specs.Advised.{HasReason};
 ghost use Rattle.explanations.specs.Views.{IsAutomated};
+ghost use Rattle.explanations.specs.FailedPaths.{IsDeviceOnlyIf};
 
 use crate::advice::Advice;
 use crate::known::known;
@@ -79,10 +80,9 @@ fn load_with_needed<T: Tree>(
     asked: &[String],
     missing: &MissingNames,
 ) -> Result<Option<Advice>, Refusal>
-    ensures narrows { Narrows (T.agrees tree.old) (T.agrees tree.new) }
-    ensures counts { T.failures tree.old ≤ T.failures tree.new }
-    ensures gave_up { IfErr result (λ refusal. Applies (cause_of refusal) (T.failures tree.old < T.failures tree.new)
-        (λ reason. ⊤)) }
+    ensures reads { ReadsOn T.agrees T.failures tree.old tree.new }
+    ensures gave_up { IfErr result (λ refusal.
+        IsDeviceOnlyIf (cause_of refusal) (T.failures tree.old < T.failures tree.new)) }
     ensures advised { IfOk result (λ o. IfSome o (IsSound (T.agrees tree.new) refused.entry.limits
         refused.entry.request.now.shell refused.entry.env.now)) }
     ensures fits { IfOk result (spec.ForNeed (T.agrees tree.new) refused.entry.limits
@@ -111,10 +111,9 @@ pub(crate) fn for_need<T: Tree>(
     tree: &mut T,
     missing: &MissingNames,
 ) -> Result<Option<Advice>, Refusal>
-    ensures narrows { Narrows (T.agrees tree.old) (T.agrees tree.new) }
-    ensures counts { T.failures tree.old ≤ T.failures tree.new }
-    ensures gave_up { IfErr result (λ refusal. Applies (cause_of refusal) (T.failures tree.old < T.failures tree.new)
-        (λ reason. ⊤)) }
+    ensures reads { ReadsOn T.agrees T.failures tree.old tree.new }
+    ensures gave_up { IfErr result (λ refusal.
+        IsDeviceOnlyIf (cause_of refusal) (T.failures tree.old < T.failures tree.new)) }
     ensures advised { IfOk result (λ o. IfSome o (IsSound (T.agrees tree.new) refused.entry.limits
         refused.entry.request.now.shell refused.entry.env.now)) }
     ensures fits { IfOk result (spec.ForNames (spec.ForNeed (T.agrees tree.new) refused.entry.limits
@@ -139,10 +138,9 @@ fn unload_with_needing<T: Tree>(
     tree: &mut T,
     asked: &[String],
 ) -> Result<Option<Advice>, Refusal>
-    ensures narrows { Narrows (T.agrees tree.old) (T.agrees tree.new) }
-    ensures counts { T.failures tree.old ≤ T.failures tree.new }
-    ensures gave_up { IfErr result (λ refusal. Applies (cause_of refusal) (T.failures tree.old < T.failures tree.new)
-        (λ reason. ⊤)) }
+    ensures reads { ReadsOn T.agrees T.failures tree.old tree.new }
+    ensures gave_up { IfErr result (λ refusal.
+        IsDeviceOnlyIf (cause_of refusal) (T.failures tree.old < T.failures tree.new)) }
     ensures advised { IfOk result (λ o. IfSome o (IsSound (T.agrees tree.new) refused.entry.limits
         refused.entry.request.now.shell refused.entry.env.now)) }
     ensures fits { IfOk result (spec.ForNeeded (T.agrees tree.new) refused.entry.limits
@@ -164,10 +162,9 @@ pub(crate) fn for_needed<T: Tree>(
     refused: RefusedRequest<'_>,
     tree: &mut T,
 ) -> Result<Option<Advice>, Refusal>
-    ensures narrows { Narrows (T.agrees tree.old) (T.agrees tree.new) }
-    ensures counts { T.failures tree.old ≤ T.failures tree.new }
-    ensures gave_up { IfErr result (λ refusal. Applies (cause_of refusal) (T.failures tree.old < T.failures tree.new)
-        (λ reason. ⊤)) }
+    ensures reads { ReadsOn T.agrees T.failures tree.old tree.new }
+    ensures gave_up { IfErr result (λ refusal.
+        IsDeviceOnlyIf (cause_of refusal) (T.failures tree.old < T.failures tree.new)) }
     ensures advised { IfOk result (λ o. IfSome o (IsSound (T.agrees tree.new) refused.entry.limits
         refused.entry.request.now.shell refused.entry.env.now)) }
     ensures fits { IfOk result (spec.ForNames (spec.ForNeeded (T.agrees tree.new) refused.entry.limits

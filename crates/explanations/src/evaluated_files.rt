@@ -1,13 +1,13 @@
 //! The files of which one is refused in a request, each with what it is evaluated under.
 ghost use Rattle.std.specs.Prelude.{◌≡◌, ◌++◌, List, IfOk, OnOk, map, reverse, string_bytes};
-ghost use Rattle.std.specs.Prelude.{◌<◌, ◌≤◌, ⊤, IfErr};
+ghost use Rattle.std.specs.Prelude.{◌<◌, IfErr};
 ghost use Rattle.std.specs.Option.{option_map, option_to_list};
 ghost use Rattle.envloaded.specs.Loaded.{Entry, names_of};
 ghost use Rattle.envloaded.specs.LoadedEntries.{entry_view};
 ghost use Rattle.envvars.specs.Texts.{texts_in};
 ghost use Rattle.modules.specs.Answers.{cause_of};
-ghost use Rattle.filetree.specs.Causes.{Applies, memory};
-ghost use Rattle.filetree.specs.Agreement.{InEachPair, Narrows};
+ghost use Rattle.filetree.specs.Causes.{memory};
+ghost use Rattle.filetree.specs.Agreement.{InEachPair, ReadsOn};
 ghost use Rattle.modulefile.specs.RecordViews.{mode_view};
 ghost use Rattle.modulename.specs.ModuleName.{parts};
 ghost use Rattle.requests.specs.RequestViews.{action_view};
@@ -18,6 +18,7 @@ ghost use Rattle.explanations.specs.Evaluated as spec;
 ghost use Rattle.explanations.specs.Evaluated.{AreEvaluated, AreEvaluatedFor, FileOf, FoundOrMissed};
 ghost use Rattle.explanations.specs.EvaluatedViews as views;
 ghost use Rattle.explanations.specs.EvaluatedViews.{IsPassed, file_context, files_view, module_view, part_view};
+ghost use Rattle.explanations.specs.FailedPaths.{IsDeviceOnlyIf};
 
 use crate::refused::{RefusedRequest, searched_path};
 use envloaded::{Loaded, loaded, names_of};
@@ -110,10 +111,9 @@ fn found<T: Tree>(
     env: &Env,
     tree: &mut T,
 ) -> Result<Option<ModulePath>, Refusal>
-    ensures narrows { Narrows (T.agrees tree.old) (T.agrees tree.new) }
-    ensures counts { T.failures tree.old ≤ T.failures tree.new }
-    ensures gave_up { IfErr result (λ refusal. Applies (cause_of refusal) (T.failures tree.old < T.failures tree.new)
-        (λ reason. ⊤)) }
+    ensures reads { ReadsOn T.agrees T.failures tree.old tree.new }
+    ensures gave_up { IfErr result (λ refusal.
+        IsDeviceOnlyIf (cause_of refusal) (T.failures tree.old < T.failures tree.new)) }
     ensures found { IfOk result (λ o. InEachPair (T.agrees tree.new) (λ files listings.
         FoundOrMissed (request_context_in refused.entry.limits refused.entry.request.now.shell files listings) env.now
         name.now (option_map module_view o))) }
@@ -150,10 +150,9 @@ fn meant<T: Tree>(
     env: &Env,
     tree: &mut T,
 ) -> Result<Option<ModulePath>, Refusal>
-    ensures narrows { Narrows (T.agrees tree.old) (T.agrees tree.new) }
-    ensures counts { T.failures tree.old ≤ T.failures tree.new }
-    ensures gave_up { IfErr result (λ refusal. Applies (cause_of refusal) (T.failures tree.old < T.failures tree.new)
-        (λ reason. ⊤)) }
+    ensures reads { ReadsOn T.agrees T.failures tree.old tree.new }
+    ensures gave_up { IfErr result (λ refusal.
+        IsDeviceOnlyIf (cause_of refusal) (T.failures tree.old < T.failures tree.new)) }
     ensures meant { IfOk result (λ o. InEachPair (T.agrees tree.new) (λ files listings.
         spec.IsMeant (request_context_in refused.entry.limits refused.entry.request.now.shell files listings) env.now
         (map entry_view entries.now) (mode_view part.now.mode) part.now.name.now (option_map module_view o))) }
@@ -194,10 +193,9 @@ fn file_of<T: Tree>(
     env: &Env,
     tree: &mut T,
 ) -> Result<Option<EvaluatedFile>, Refusal>
-    ensures narrows { Narrows (T.agrees tree.old) (T.agrees tree.new) }
-    ensures counts { T.failures tree.old ≤ T.failures tree.new }
-    ensures gave_up { IfErr result (λ refusal. Applies (cause_of refusal) (T.failures tree.old < T.failures tree.new)
-        (λ reason. ⊤)) }
+    ensures reads { ReadsOn T.agrees T.failures tree.old tree.new }
+    ensures gave_up { IfErr result (λ refusal.
+        IsDeviceOnlyIf (cause_of refusal) (T.failures tree.old < T.failures tree.new)) }
     ensures file { IfOk result (λ o. InEachPair (T.agrees tree.new) (λ files listings.
         FileOf (request_context_in refused.entry.limits refused.entry.request.now.shell files listings) env.now
         (part_view part.now) (option_map (file_context refused.entry.request.now.shell) o))) }
@@ -238,10 +236,9 @@ fn pass<T: Tree>(
     env: &mut Env,
     tree: &mut T,
 ) -> Result<bool, Refusal>
-    ensures narrows { Narrows (T.agrees tree.old) (T.agrees tree.new) }
-    ensures counts { T.failures tree.old ≤ T.failures tree.new }
-    ensures gave_up { IfErr result (λ refusal. Applies (cause_of refusal) (T.failures tree.old < T.failures tree.new)
-        (λ reason. ⊤)) }
+    ensures reads { ReadsOn T.agrees T.failures tree.old tree.new }
+    ensures gave_up { IfErr result (λ refusal.
+        IsDeviceOnlyIf (cause_of refusal) (T.failures tree.old < T.failures tree.new)) }
     ensures passed { IfOk result (λ is. InEachPair (T.agrees tree.new) (λ maps listings.
         IsPassed (request_context_in refused.entry.limits refused.entry.request.now.shell maps listings) env.old env.new
         (part_view part.now) (files_view refused.entry.request.now.shell files.old)
@@ -268,10 +265,9 @@ fn files_of<T: Tree>(
     parts: &[NamePart<'_>],
     tree: &mut T,
 ) -> Result<Vec<EvaluatedFile>, Refusal>
-    ensures narrows { Narrows (T.agrees tree.old) (T.agrees tree.new) }
-    ensures counts { T.failures tree.old ≤ T.failures tree.new }
-    ensures gave_up { IfErr result (λ refusal. Applies (cause_of refusal) (T.failures tree.old < T.failures tree.new)
-        (λ reason. ⊤)) }
+    ensures reads { ReadsOn T.agrees T.failures tree.old tree.new }
+    ensures gave_up { IfErr result (λ refusal.
+        IsDeviceOnlyIf (cause_of refusal) (T.failures tree.old < T.failures tree.new)) }
     ensures evaluated { IfOk result (λ files. InEachPair (T.agrees tree.new) (λ maps listings.
         AreEvaluatedFor (request_context_in refused.entry.limits refused.entry.request.now.shell maps listings)
         refused.entry.env.now (map part_view parts.now) (files_view refused.entry.request.now.shell files))) }
@@ -371,10 +367,9 @@ pub(crate) fn evaluated_files<T: Tree>(
     refused: RefusedRequest<'_>,
     tree: &mut T,
 ) -> Result<Vec<EvaluatedFile>, Refusal>
-    ensures narrows { Narrows (T.agrees tree.old) (T.agrees tree.new) }
-    ensures counts { T.failures tree.old ≤ T.failures tree.new }
-    ensures gave_up { IfErr result (λ refusal. Applies (cause_of refusal) (T.failures tree.old < T.failures tree.new)
-        (λ reason. ⊤)) }
+    ensures reads { ReadsOn T.agrees T.failures tree.old tree.new }
+    ensures gave_up { IfErr result (λ refusal.
+        IsDeviceOnlyIf (cause_of refusal) (T.failures tree.old < T.failures tree.new)) }
     ensures evaluated { IfOk result (λ files. InEachPair (T.agrees tree.new) (λ maps listings.
         AreEvaluated (request_context_in refused.entry.limits refused.entry.request.now.shell maps listings)
         refused.entry.env.now (action_view refused.entry.request.now.action)

@@ -1,8 +1,8 @@
 //! What is said of a refused request: where a modulefile failed, and what to do.
 ghost use Rattle.std.specs.Prelude.{◌≡◌, true, Ok, IfErr, IfOk, IfSome, map, string_bytes};
-ghost use Rattle.std.specs.Prelude.{◌<◌, ◌≤◌, ◌⊎◌, ⊤, Err};
-ghost use Rattle.filetree.specs.Causes.{Applies, memory};
-ghost use Rattle.filetree.specs.Agreement.{Narrows};
+ghost use Rattle.std.specs.Prelude.{◌<◌, ◌⊎◌, Err};
+ghost use Rattle.filetree.specs.Causes.{memory};
+ghost use Rattle.filetree.specs.Agreement.{ReadsOn};
 ghost use Rattle.givenup.specs.Causes.{is_given_up};
 ghost use Rattle.modules.specs.Answers.{cause_of};
 ghost use Rattle.requests.specs.RequestViews.{action_view};
@@ -10,6 +10,7 @@ ghost use Rattle.requests.specs.Requests.{RequestedAction, request_of};
 ghost use Rattle.explanations.specs.Advised.{IsAdvised};
 ghost use Rattle.explanations.specs.Explained.{IsExplained, IsOfOutcome, IsOfUsage, IsSound, IsUnexplained, IsWhy};
 ghost use Rattle.explanations.specs.Views.{IfBecause, IsFileOf, is_known};
+ghost use Rattle.explanations.specs.FailedPaths.{IsDeviceOnlyIf};
 
 use crate::advice::{Advice, advice_for};
 use crate::known::known;
@@ -55,10 +56,9 @@ fn file_of<T: Tree>(
     tree: &mut T,
     refusal: &Refusal,
 ) -> Result<Option<FileExplanation>, Refusal>
-    ensures narrows { Narrows (T.agrees tree.old) (T.agrees tree.new) }
-    ensures counts { T.failures tree.old ≤ T.failures tree.new }
-    ensures gave_up { IfErr result (λ refusal. Applies (cause_of refusal) (T.failures tree.old < T.failures tree.new)
-        (λ reason. ⊤)) }
+    ensures reads { ReadsOn T.agrees T.failures tree.old tree.new }
+    ensures gave_up { IfErr result (λ refusal.
+        IsDeviceOnlyIf (cause_of refusal) (T.failures tree.old < T.failures tree.new)) }
     ensures file { IfOk result (IsFileOf (T.agrees tree.new) refused.entry.limits refused.entry.request.now.shell
         refused.entry.env.now (action_view refused.entry.request.now.action) refusal.now) }
 {
@@ -85,10 +85,9 @@ fn of_refusal<T: Tree>(
     tree: &mut T,
     refusal: &Refusal,
 ) -> Result<Explanation, Refusal>
-    ensures narrows { Narrows (T.agrees tree.old) (T.agrees tree.new) }
-    ensures counts { T.failures tree.old ≤ T.failures tree.new }
-    ensures gave_up { IfErr result (λ refusal. Applies (cause_of refusal) (T.failures tree.old < T.failures tree.new)
-        (λ reason. ⊤)) }
+    ensures reads { ReadsOn T.agrees T.failures tree.old tree.new }
+    ensures gave_up { IfErr result (λ refusal.
+        IsDeviceOnlyIf (cause_of refusal) (T.failures tree.old < T.failures tree.new)) }
     ensures file { IfOk result (λ x. IsFileOf (T.agrees tree.new) refused.entry.limits refused.entry.request.now.shell
         refused.entry.env.now (action_view refused.entry.request.now.action) refusal.now x.file) }
     ensures advised { IfOk result (λ x. IfSome x.advice (IsSound (T.agrees tree.new) refused.entry.limits
@@ -106,10 +105,9 @@ fn of_refusal<T: Tree>(
 ///
 /// It fails where memory ran out, or the device failed.
 fn of_request<T: Tree>(refused: RefusedRequest<'_>, tree: &mut T) -> Result<Explanation, Refusal>
-    ensures narrows { Narrows (T.agrees tree.old) (T.agrees tree.new) }
-    ensures counts { T.failures tree.old ≤ T.failures tree.new }
-    ensures gave_up { IfErr result (λ refusal. Applies (cause_of refusal) (T.failures tree.old < T.failures tree.new)
-        (λ reason. ⊤)) }
+    ensures reads { ReadsOn T.agrees T.failures tree.old tree.new }
+    ensures gave_up { IfErr result (λ refusal.
+        IsDeviceOnlyIf (cause_of refusal) (T.failures tree.old < T.failures tree.new)) }
     ensures why { IfOk result (λ x. IfSome x.file (IsWhy (T.agrees tree.new) refused.entry.limits
         refused.entry.request.now.shell refused.entry.env.now (action_view refused.entry.request.now.action))) }
     ensures advised { IfOk result (λ x. IfSome x.advice (IsSound (T.agrees tree.new) refused.entry.limits

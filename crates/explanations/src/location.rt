@@ -1,9 +1,8 @@
 //! Which of the files that are evaluated in a request is the one that failed, and where.
 ghost use Rattle.std.specs.Prelude.{◌≡◌, All, false, is_none, map, IfNone, IfOk, IfSome, string_bytes};
-ghost use Rattle.std.specs.Prelude.{◌<◌, ◌≤◌, ⊤, IfErr};
+ghost use Rattle.std.specs.Prelude.{◌<◌, IfErr};
 ghost use Rattle.modules.specs.Answers.{cause_of};
-ghost use Rattle.filetree.specs.Causes.{Applies};
-ghost use Rattle.filetree.specs.Agreement.{Narrows};
+ghost use Rattle.filetree.specs.Agreement.{ReadsOn};
 ghost use Rattle.modulerun.specs.Running.{file_reason_of};
 ghost use Rattle.requests.specs.RequestViews.{action_view};
 ghost use Rattle.failedcommands.specs.Failing.{words_of};
@@ -11,6 +10,7 @@ ghost use Rattle.failedcommands.specs.Views.{words_view};
 ghost use Rattle.explanations.specs.EvaluatedViews.{file_context};
 ghost use Rattle.explanations.specs.Locations.{IsFirstLocated, IsLocated, IsNoScript, IsNotLocated, IsThere};
 ghost use Rattle.explanations.specs.Locations.{Locates, NoneIsLocated};
+ghost use Rattle.explanations.specs.FailedPaths.{IsDeviceOnlyIf};
 
 use crate::evaluated_files::{EvaluatedFile, evaluated_files};
 use crate::refused::RefusedRequest;
@@ -27,10 +27,9 @@ fn script_if_there<T: Tree>(
     tree: &mut T,
     path: &str,
 ) -> Result<Option<String>, Refusal>
-    ensures narrows { Narrows (T.agrees tree.old) (T.agrees tree.new) }
-    ensures counts { T.failures tree.old ≤ T.failures tree.new }
-    ensures gave_up { IfErr result (λ refusal. Applies (cause_of refusal) (T.failures tree.old < T.failures tree.new)
-        (λ reason. ⊤)) }
+    ensures reads { ReadsOn T.agrees T.failures tree.old tree.new }
+    ensures gave_up { IfErr result (λ refusal.
+        IsDeviceOnlyIf (cause_of refusal) (T.failures tree.old < T.failures tree.new)) }
     ensures there { IfOk result (λ o. IfSome o (λ text. IsThere (T.agrees tree.new) path.now (string_bytes text))) }
     ensures none { IfOk result (λ o. IfNone o (IsNoScript (T.agrees tree.new) path.now)) }
 {
@@ -47,10 +46,9 @@ fn explain_in<T: Tree>(
     file: &EvaluatedFile,
     tree: &mut T,
 ) -> Result<Option<FileExplanation>, Refusal>
-    ensures narrows { Narrows (T.agrees tree.old) (T.agrees tree.new) }
-    ensures counts { T.failures tree.old ≤ T.failures tree.new }
-    ensures gave_up { IfErr result (λ refusal. Applies (cause_of refusal) (T.failures tree.old < T.failures tree.new)
-        (λ reason. ⊤)) }
+    ensures reads { ReadsOn T.agrees T.failures tree.old tree.new }
+    ensures gave_up { IfErr result (λ refusal.
+        IsDeviceOnlyIf (cause_of refusal) (T.failures tree.old < T.failures tree.new)) }
     ensures located { IfOk result (λ o. IfSome o (
         IsLocated (T.agrees tree.new) refused.entry.limits (words_view words.now)
         (file_context refused.entry.request.now.shell file.now))) }
@@ -87,10 +85,9 @@ fn explain_one<T: Tree>(
     files: &[EvaluatedFile],
     tree: &mut T,
 ) -> Result<Option<FileExplanation>, Refusal>
-    ensures narrows { Narrows (T.agrees tree.old) (T.agrees tree.new) }
-    ensures counts { T.failures tree.old ≤ T.failures tree.new }
-    ensures gave_up { IfErr result (λ refusal. Applies (cause_of refusal) (T.failures tree.old < T.failures tree.new)
-        (λ reason. ⊤)) }
+    ensures reads { ReadsOn T.agrees T.failures tree.old tree.new }
+    ensures gave_up { IfErr result (λ refusal.
+        IsDeviceOnlyIf (cause_of refusal) (T.failures tree.old < T.failures tree.new)) }
     ensures located { IfOk result (λ o. IfSome o (
         IsFirstLocated (T.agrees tree.new) refused.entry.limits (words_view words.now)
         (map (file_context refused.entry.request.now.shell) files.now))) }
@@ -116,10 +113,9 @@ pub(crate) fn explain_file<T: Tree>(
     fault: &RunFault,
     tree: &mut T,
 ) -> Result<Option<FileExplanation>, Refusal>
-    ensures narrows { Narrows (T.agrees tree.old) (T.agrees tree.new) }
-    ensures counts { T.failures tree.old ≤ T.failures tree.new }
-    ensures gave_up { IfErr result (λ refusal. Applies (cause_of refusal) (T.failures tree.old < T.failures tree.new)
-        (λ reason. ⊤)) }
+    ensures reads { ReadsOn T.agrees T.failures tree.old tree.new }
+    ensures gave_up { IfErr result (λ refusal.
+        IsDeviceOnlyIf (cause_of refusal) (T.failures tree.old < T.failures tree.new)) }
     ensures caused { IfOk result (λ o. is_none (file_reason_of fault.now) ≡ false) }
     ensures located { IfOk result (λ o. IfSome o (Locates (T.agrees tree.new) refused.entry.limits
         refused.entry.request.now.shell refused.entry.env.now (action_view refused.entry.request.now.action)

@@ -1,13 +1,13 @@
 //! What is known of a name that isn't found.
 ghost use Rattle.std.specs.Prelude.{◌≡◌, false, true, IfOk, IfSome};
-ghost use Rattle.std.specs.Prelude.{◌<◌, ◌≤◌, ⊤, IfErr};
+ghost use Rattle.std.specs.Prelude.{◌<◌, IfErr};
 ghost use Rattle.envvars.specs.Texts.{slice_texts};
 ghost use Rattle.modules.specs.Answers.{cause_of};
-ghost use Rattle.filetree.specs.Causes.{Applies};
-ghost use Rattle.filetree.specs.Agreement.{FailsOnlyByDevice, Narrows};
+ghost use Rattle.filetree.specs.Agreement.{FailsOnlyByDevice, Narrows, ReadsOn};
 ghost use Rattle.requests.specs.Steps.{modulepath};
 ghost use Rattle.explanations.specs.Advised as spec;
 ghost use Rattle.explanations.specs.Views.{is_known};
+ghost use Rattle.explanations.specs.FailedPaths.{IsDeviceOnlyIf};
 
 use crate::advice::Advice;
 use crate::alike::names_like;
@@ -40,10 +40,9 @@ pub(crate) fn for_unknown<T: Tree>(
     tree: &mut T,
     name: &str,
 ) -> Result<Option<Advice>, Refusal>
-    ensures narrows { Narrows (T.agrees tree.old) (T.agrees tree.new) }
-    ensures counts { T.failures tree.old ≤ T.failures tree.new }
-    ensures gave_up { IfErr result (λ refusal. Applies (cause_of refusal) (T.failures tree.old < T.failures tree.new)
-        (λ reason. ⊤)) }
+    ensures reads { ReadsOn T.agrees T.failures tree.old tree.new }
+    ensures gave_up { IfErr result (λ refusal.
+        IsDeviceOnlyIf (cause_of refusal) (T.failures tree.old < T.failures tree.new)) }
     ensures known { IfOk result (λ o. IfSome o (λ advice. is_known advice ≡ true)) }
     ensures fits { IfOk result (spec.ForUnknown (T.agrees tree.new) refused.entry.limits
         refused.entry.request.now.shell refused.entry.env.now (modulepath refused.entry.env.now) name.now) }

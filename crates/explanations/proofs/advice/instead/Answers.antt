@@ -14,6 +14,6 @@ returns-clause-fits g c =
     let e = c.args.refused.env.now in
     let names = map (λ (s : String Global). string_bytes s) c.args.names.now in
     unloads now limits shell e c.args.other.now names c.in_ok-unload.unload c.in_ok-unload.ensures
-    (no_switch_later before now limits shell e c.if_accepted.ensures.narrows c.args.other.now names
+    (no_switch_later before now limits shell e c.if_accepted.ensures.reads.narrows c.args.other.now names
     (subst (λ (o : Option Advice). IsSwitchOrNone before limits shell e c.args.other.now names o) c.in_default.is c.in_ok-advice.ensures.switches))
     c.if_accepted.result c.if_accepted.ensures.tried c.if_accepted.ensures.none

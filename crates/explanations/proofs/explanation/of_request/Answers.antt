@@ -26,7 +26,7 @@ returns-clause-said g c =
     let shell = c.args.refused.request.now.shell in
     let e = c.args.refused.env.now in
     let action = action_view c.args.refused.request.now.action in
-    outcomes_of before now limits shell e action c.of_refusal.ensures.narrows c.in-Err.refusal _ c.run_changes-outcome.result c.of_refusal.result
+    outcomes_of before now limits shell e action c.of_refusal.ensures.reads.narrows c.in-Err.refusal _ c.run_changes-outcome.result c.of_refusal.result
     (sym c.in_ok-unless_given_up.ensures.same ∙ c.in-Err.is)
     (subst (λ (r : Result RequestChanges Refusal). IfErr r (λ refusal. is_given_up (cause_of refusal) ≡ false)) c.in-Err.is c.in_ok-unless_given_up.ensures.kept)
     c.run_changes-outcome.ensures.over_tree c.of_refusal.ensures.file c.of_refusal.ensures.fits
@@ -40,7 +40,7 @@ returns-clause-why g c =
     let e = c.args.refused.env.now in
     let action = action_view c.args.refused.request.now.action in
     whys now limits shell e action c.of_refusal.result
-    (outcomes_of before now limits shell e action c.of_refusal.ensures.narrows c.in-Err.refusal _ c.run_changes-outcome.result c.of_refusal.result
+    (outcomes_of before now limits shell e action c.of_refusal.ensures.reads.narrows c.in-Err.refusal _ c.run_changes-outcome.result c.of_refusal.result
     (sym c.in_ok-unless_given_up.ensures.same ∙ c.in-Err.is)
     (subst (λ (r : Result RequestChanges Refusal). IfErr r (λ refusal. is_given_up (cause_of refusal) ≡ false)) c.in-Err.is c.in_ok-unless_given_up.ensures.kept)
     c.run_changes-outcome.ensures.over_tree c.of_refusal.ensures.file c.of_refusal.ensures.fits)

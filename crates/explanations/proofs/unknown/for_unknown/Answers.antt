@@ -18,6 +18,6 @@ returns-clause-fits g c =
     subst (λ (p : Text). ForUnknown now limits shell e p c.args.name.now c.in_ok-asked.field-0) same
     (likes_are_said before now limits shell e path c.args.name.now (slice_texts c.as_slice.result.now)
     (ap (λ (l : List (Bor Text)). slice_texts l) c.as_slice.ensures.value ∙ c.in_ok-directories.ensures)
-    c.names_like.ensures.narrows c.in_ok-asked.field-0 (texts_in c.in_ok-names.names) (sym c.is_empty.ensures ∙ c.if-is_empty.false) (c.in_ok-is_one_there.ensures.one c.if-not-branch.false)
+    c.names_like.ensures.reads.narrows c.in_ok-asked.field-0 (texts_in c.in_ok-names.names) (sym c.is_empty.ensures ∙ c.if-is_empty.false) (c.in_ok-is_one_there.ensures.one c.if-not-branch.false)
     c.in_ok-names.ensures.like
     (subst (λ (l : List (String Global)). IsKnown (question (map (λ (s : String Global). string_bytes s) l)) c.in_ok-asked.field-0) c.as_slice-2.ensures.value c.in_ok-asked.ensures.line))
