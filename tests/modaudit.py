@@ -1199,7 +1199,7 @@ def test_remarks_on_default_files_and_names(folder):
         "# conflict names no module: 'z' (in 1 file)",
         "# conflict names no module: 'c/2' (in 1 file)",
         "# conflict names no module: 'w' (in 1 file)",
-        "# b/1 (/m/b/1): prereq names no module: 'y' 'x'",
+        "# b/1 (/m/b/1): prereq names no module that isn't refused: 'y' 'x'",
     ]
     files["/m/c/1"] = files["/m/c/1"].replace(" {}", "")
     Site(folder, files).says(lines, status=1)
@@ -1470,7 +1470,22 @@ def test_names_in_conflicts_of_many_files(folder):
     lines += ["b/1\tcertified\t\t/m/b/1", "# 4 certified of 4"]
     names = {"pgi": "3 files", "cray": "4 files", "nvhpc": "1 file"}
     lines += [f"# conflict names no module: '{name}' (in {count})" for name, count in names.items()]
-    Site(folder, files).says([*lines, "# b/1 (/m/b/1): prereq names no module: 'pgi'"])
+    Site(folder, files).says([*lines, "# b/1 (/m/b/1): prereq names no module that isn't refused: 'pgi'"])
+
+
+def test_prereqs_that_name_refused_modules_alone(folder):
+    """A remark for a prereq of which each name means none but refused modules; not where one isn't, nor of a conflict."""
+    files = {
+        "/m/a/1": "conflict r\nprereq r\nprereq r/2 r/1\n",
+        "/m/b/1": "prereq r b a\nprereq r/3 r x\n",
+        "/m/r/1": "error gone\n",
+        "/m/r/2": "nope\n",
+    }
+    lines = ["a/1\tcertified\t\t/m/a/1", "b/1\tcertified\t\t/m/b/1", "r/1\trefused\tgone (line 2)\t/m/r/1"]
+    lines += ['r/2\trefused\tinvalid command name "nope" (line 2)\t/m/r/2', "# 2 certified of 4", "# 2 refused"]
+    groups = (("a/1", "'r'"), ("a/1", "'r/2' 'r/1'"), ("b/1", "'r/3' 'r' 'x'"))
+    lines += [f"# {name} (/m/{name}): prereq names no module that isn't refused: {names}" for name, names in groups]
+    Site(folder, files).says(lines, status=1)
 
 
 def test_sums_by_standing(folder):
@@ -1496,7 +1511,8 @@ def test_remarks_come_once(folder):
     files = {"/m/a/b/1": "conflict y x y\nconflict x\nprereq p q\nprereq q p\nprereq p q\n", "/m/a/b/.modulerc": "nope\n"}
     lines = [f"# conflict names no module: '{text}' (in 2 files)" for text in "yx"]
     for name in ("a/b/1", "b/1"):
-        lines += [f"# {name} (/m/a/b/1): prereq names no module: {names}" for names in ("'p' 'q'", "'q' 'p'")]
+        said = f"# {name} (/m/a/b/1): prereq names no module that isn't refused:"
+        lines += [f"{said} {names}" for names in ("'p' 'q'", "'q' 'p'")]
     found = ["a/b/1\tcertified\t\t/m/a/b/1", "b/1\tcertified\t\t/m/a/b/1", "# 2 certified of 2", "# bad default file: /m/a/b/.modulerc"]
     Site(folder, files, "/m:/m/a").says([*found, *lines])
 

@@ -1,5 +1,5 @@
 -- Default files that name no version in their folder.
-use Rattle.std.proofs.Common.{⊎_elim, inr, ◌≡◌, List, Option, Some, None, Result, Ok, Err, refl, sym, ap, ◌∙◌, subst}
+use Rattle.std.proofs.Common.{⊎_elim, inr, ◌≡◌, Option, Some, None, Result, Ok, Err, sym, ap, ◌∙◌}
 use Rattle.std.specs.Prelude.{IsSome}
 use Rattle.modulename.specs.ModuleName.{Text}
 use Rattle.tclrules.specs.declared.limits.Limits.{Limits}
@@ -11,7 +11,7 @@ use Rattle.search.specs.Found.{Found, FoundModule, NamedDefault}
 use Rattle.search.specs.Reasons.{FindReason, bad_default}
 use Rattle.search.proofs.OneFound.{one_named}
 use Rattle.siteaudit.specs.Folders.{FolderText, IsBadAnswer}
-use Rattle.siteaudit.specs.WithoutVersion.{IsAnswer, NamesNoVersion, first_default_file, or_else, where_nothing}
+use Rattle.siteaudit.specs.WithoutVersion.{IsAnswer, NamesNoVersion, or_else, where_nothing}
 
 pub first_there : (a b : Option Text) (path : Text) → a ≡ Some path → Some path ≡ or_else a b
 first_there a b path e = sym (ap (λ (x : Option Text). or_else x b) e)

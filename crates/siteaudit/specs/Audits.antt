@@ -1,6 +1,6 @@
 -- What an audit of a site finds (own).
 use Rattle.std.specs.Prelude.{◌≡◌, ◌↔◌, Bool, true, false, not, List, [], ◌∷◌, ◌++◌, map, filter, flat_map, find}
-use Rattle.std.specs.Prelude.{Option, option_to_list, Ok, Err, MatchOption, bytes_eq, string_bytes}
+use Rattle.std.specs.Prelude.{Option, option_to_list, Ok, Err, is_ok, ◌&&◌, MatchOption, bytes_eq, string_bytes}
 use Rattle.std.specs.List.{list_any}
 use Rattle.std.specs.Option.{option_map}
 use Rattle.indexmap.specs.IndexSet.{insert_all}
@@ -142,6 +142,10 @@ mention_of found =
 abbrev pub means_one : List Evaluated → Text → Bool
 means_one outcomes name = list_any (λ outcome. means name outcome.0.name) outcomes
 
+-- the name means one of these modules whose evaluation isn't refused
+abbrev pub means_accepted : List Evaluated → Text → Bool
+means_accepted outcomes name = list_any (λ outcome. is_ok outcome.1 && means name outcome.0.name) outcomes
+
 -- the names in the conflicts of records that aren't known, each once
 abbrev pub unknown_conflicts : (Text → Bool) → List Record → List Text
 unknown_conflicts known rs = without_repeats (filter (λ name. not (known name)) (conflict_names rs))
@@ -159,19 +163,21 @@ conflict_mention m name = record { by = m; is_prereq = false; names = name ∷ [
 abbrev pub prereq_mention : SiteModule → List Text → Mention
 prereq_mention m names = record { by = m; is_prereq = true; names = names }
 
--- what a module with these records mentions that isn't known: of its conflicts, and then of its prereqs
-abbrev pub unknown_in : (Text → Bool) → SiteModule → List Record → List Mention
-unknown_in known m rs =
-    map (conflict_mention m) (unknown_conflicts known rs) ++ map (prereq_mention m) (unknown_prereqs known rs)
+-- What a module with these records mentions in vain: of its conflicts the names that aren't known, and then the prereqs
+-- of which no name is accepted.
+abbrev pub unknown_in : (Text → Bool) → (Text → Bool) → SiteModule → List Record → List Mention
+unknown_in known accepted m rs =
+    map (conflict_mention m) (unknown_conflicts known rs) ++ map (prereq_mention m) (unknown_prereqs accepted rs)
 
 -- the same of an evaluated module
-abbrev pub unknown_of : (Text → Bool) → Evaluated → List Mention
-unknown_of known (m, Ok runs) = unknown_in known m runs.first.records
-unknown_of known (m, Err reason) = []
+abbrev pub unknown_of : (Text → Bool) → (Text → Bool) → Evaluated → List Mention
+unknown_of known accepted (m, Ok runs) = unknown_in known accepted m runs.first.records
+unknown_of known accepted (m, Err reason) = []
 
--- what these modules mention in turn that means none of them
+-- What these modules mention in turn in vain: names in conflicts that mean none of them, and prereqs of which each name
+-- means none, or only such whose evaluation is refused.
 abbrev pub unknown_names : List Evaluated → List Mention
-unknown_names outcomes = flat_map (unknown_of (means_one outcomes)) outcomes
+unknown_names outcomes = flat_map (unknown_of (means_one outcomes) (means_accepted outcomes)) outcomes
 
 -- ---- directories that hang on modules that aren't settled
 
@@ -262,8 +268,8 @@ HaveFurther ms eligible (outcome ∷ outcomes) (m ∷ audited) =
 -- by its first records; the certificate of the candidates that remain, each use once; those of its directories that aren't
 -- there, in their order; what the modules in turn add that hangs on modules that aren't settled; the default files above
 -- each folder, which aren't read; the files in the places of modules that are no modulefiles; the bad default files of the
--- modules in turn, each once; the names that mean no module; and the reasons for which the environment at hand doesn't
--- agree with the certificate, use after use.
+-- modules in turn, each once; the names in conflicts that mean no module, and the prereqs that name none that isn't
+-- refused; and the reasons for which the environment at hand doesn't agree with the certificate, use after use.
 pub record IsAudit (site : Site) (without : List Text) (found : SiteAudit) : Type 0 where
   pub dirs : List Text
   pub outcomes : List Evaluated

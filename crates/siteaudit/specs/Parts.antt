@@ -20,7 +20,7 @@ use Rattle.siteaudit.specs.Missing.{missing_among}
 use Rattle.siteaudit.specs.Unread.{unread_among}
 use Rattle.siteaudit.specs.NoModulefiles.{AreNoModulefiles}
 use Rattle.siteaudit.specs.FilesBelow.{LooksAtAny}
-use Rattle.siteaudit.specs.Mentions.{is_known, unknown_after}
+use Rattle.siteaudit.specs.Mentions.{is_known, is_accepted, unknown_after}
 use Rattle.siteaudit.specs.declared.auditing.SiteAudit.{SiteAudit}
 
 -- What was found are the parts of an audit without the modules that these names mean, by this walk.
@@ -38,7 +38,7 @@ pub record AreParts (site : Site) (without : List Text) (walk : SiteWalk) (found
   pub bad_default_files : AreBadDefaultFiles site.limits site.files site.listings
       (map evaluated_file walk.evaluations.items) (texts_in found.bad_default_files)
   pub unknown_names : map mention_of found.unknown_names.items
-      ≡ flat_map (unknown_after (is_known walk.evaluations.items)) walk.evaluations.items
+      ≡ flat_map (unknown_after (is_known walk.evaluations.items) (is_accepted walk.evaluations.items)) walk.evaluations.items
   pub agrees : (found.disagreements.items ≡ []) ↔ AgreesWith (map used_view found.certificate.items) site.env
   pub disagreements : AreDisagreements (map used_view found.certificate.items) site.env
       (map disagreement_view found.disagreements.items)

@@ -55,7 +55,8 @@ pub struct AddedDirectory {
     pub directory: String,
 }
 
-/// Names in a `conflict` or a `prereq` of a module, of which none means a module of the site.
+/// A name in a `conflict` of a module that means no module of the site; or the names in a `prereq`, of which none means one
+/// that isn't refused.
 #[derive(Debug, Drop)]
 pub struct UnknownNames {
     /// The full name of the module.
@@ -88,7 +89,7 @@ pub struct SiteAudit {
     /// The paths of the default files that have a fault, so that a search for their folder is refused; or name no version
     /// in it.
     pub bad_default_files: Vec<String>,
-    /// Conflicts and prereqs that name no module of the site.
+    /// Conflicts that name no module of the site, and prereqs that name none that isn't refused.
     pub unknown_names: Vec<UnknownNames>,
     /// Where the environment at hand doesn't agree with the certificate.
     pub disagreements: Vec<Disagreement>,

@@ -1,4 +1,4 @@
-//! Names in the conflicts and prereqs of modules that mean no module of the site.
+//! Names in the conflicts of modules that mean no module of the site, and prereqs that name none that isn't refused.
 ghost use Rattle.std.specs.Prelude.{◌≡◌, ◌||◌, ◌∷◌, [], ◌++◌, Bool, true, false, not, bytes_eq, flat_map, map, string_bytes};
 ghost use Rattle.std.specs.Prelude.{IfOk, OnOk};
 ghost use Rattle.std.specs.List.{list_any};
@@ -12,7 +12,7 @@ ghost use Rattle.settled.specs.Ways.{same_by};
 ghost use Rattle.siteaudit.specs.Audits as spec;
 ghost use Rattle.siteaudit.specs.Audits.{mention_of, conflict_mention, prereq_mention, unknown_in};
 ghost use Rattle.siteaudit.specs.SettledRuns.{evaluated_file};
-ghost use Rattle.siteaudit.specs.Mentions.{is_known, known_in, unknown_among, unknown_groups, unknown_after};
+ghost use Rattle.siteaudit.specs.Mentions.{is_known, is_accepted, known_in, unknown_among, unknown_groups, unknown_after};
 
 use crate::auditing::UnknownNames;
 use crate::folders::folder_of;
@@ -51,6 +51,29 @@ fn meaning_names(alloc: Global, evaluations: &[Evaluation]) -> Result<IndexSet<S
         add_meaning(alloc, &mut meaning, evaluation.name.as_str())?;
     }
     Ok(meaning)
+}
+
+/// The names that mean one of the modules whose evaluation isn't refused.
+fn accepted_names(alloc: Global, evaluations: &[Evaluation]) -> Result<IndexSet<String>, AllocError>
+    ensures { IfOk result (λ meaning. (name : Text) → known_in meaning.keys name
+        ≡ is_accepted evaluations.now name) }
+{
+    let mut meaning = IndexSet::new(alloc);
+    for evaluation in evaluations {
+        if evaluation.outcome.is_ok() {
+            add_meaning(alloc, &mut meaning, evaluation.name.as_str())?;
+        }
+    }
+    Ok(meaning)
+}
+
+/// Names by what they mean.
+#[derive(Drop)]
+struct MeaningNames {
+    /// Those that mean a module.
+    known: IndexSet<String>,
+    /// Those that mean a module whose evaluation isn't refused.
+    accepted: IndexSet<String>,
 }
 
 /// Whether the name is among those that mean a module.
@@ -220,32 +243,33 @@ fn push_prereqs(
     Ok(())
 }
 
-/// Adds what the records of a module mention that means no module.
+/// Adds what the records of a module mention in vain.
 fn judge_module(
     alloc: Global,
-    meaning: &IndexSet<String>,
+    meaning: &MeaningNames,
     module: &Evaluation,
     records: &[Record],
     found: &mut Vec<UnknownNames>,
 ) -> Result<(), AllocError>
     ensures { OnOk result (map mention_of found.new.items ≡ map mention_of found.old.items
-        ++ unknown_in (known_in meaning.now.keys) (evaluated_file module.now) (map record_view records.now)) }
+        ++ unknown_in (known_in meaning.now.known.keys) (known_in meaning.now.accepted.keys) (evaluated_file module.now)
+        (map record_view records.now)) }
 {
-    let conflicts = in_order(alloc, unknown_conflicts(alloc, meaning, records)?)?;
-    let prereqs = unknown_prereqs(alloc, meaning, records)?;
+    let conflicts = in_order(alloc, unknown_conflicts(alloc, &meaning.known, records)?)?;
+    let prereqs = unknown_prereqs(alloc, &meaning.accepted, records)?;
     push_conflicts(alloc, module, conflicts.as_slice(), found)?;
     push_prereqs(alloc, module, prereqs.as_slice(), found)
 }
 
-/// Adds what an evaluated module mentions that means no module.
+/// Adds what an evaluated module mentions in vain.
 fn judge_evaluation(
     alloc: Global,
-    meaning: &IndexSet<String>,
+    meaning: &MeaningNames,
     module: &Evaluation,
     found: &mut Vec<UnknownNames>,
 ) -> Result<(), AllocError>
     ensures { OnOk result (map mention_of found.new.items ≡ map mention_of found.old.items
-        ++ unknown_after (known_in meaning.now.keys) module.now) }
+        ++ unknown_after (known_in meaning.now.known.keys) (known_in meaning.now.accepted.keys) module.now) }
 {
     match &module.outcome {
         Ok(file) => judge_module(alloc, meaning, module, file.records.as_slice(), found),
@@ -253,14 +277,15 @@ fn judge_evaluation(
     }
 }
 
-/// What the evaluated modules mention that means no module.
+/// What the evaluated modules mention in vain.
 fn judge_evaluations(
     alloc: Global,
-    meaning: &IndexSet<String>,
+    meaning: &MeaningNames,
     evaluations: &[Evaluation],
 ) -> Result<Vec<UnknownNames>, AllocError>
     ensures { IfOk result (λ found. map mention_of found.items
-        ≡ flat_map (unknown_after (known_in meaning.now.keys)) evaluations.now) }
+        ≡ flat_map (unknown_after (known_in meaning.now.known.keys) (known_in meaning.now.accepted.keys))
+        evaluations.now) }
 {
     let mut found = Vec::new(alloc);
     for module in evaluations {
@@ -269,14 +294,17 @@ fn judge_evaluations(
     Ok(found)
 }
 
-/// The names in conflicts and prereqs of which none means one of the modules.
+/// The names in conflicts that mean none of the modules, and those of prereqs of which none means one that isn't refused.
 pub(crate) fn unknown_names(
     alloc: Global,
     evaluations: &[Evaluation],
 ) -> Result<Vec<UnknownNames>, AllocError>
     ensures { IfOk result (λ found. map mention_of found.items
-        ≡ flat_map (unknown_after (is_known evaluations.now)) evaluations.now) }
+        ≡ flat_map (unknown_after (is_known evaluations.now) (is_accepted evaluations.now)) evaluations.now) }
 {
-    let meaning = meaning_names(alloc, evaluations)?;
+    let meaning = MeaningNames {
+        known: meaning_names(alloc, evaluations)?,
+        accepted: accepted_names(alloc, evaluations)?,
+    };
     judge_evaluations(alloc, &meaning, evaluations)
 }

@@ -79,11 +79,11 @@ quoted_name name = quoted (string_bytes name)
 abbrev pub command_of : UnknownNames → Text
 command_of u = if u.is_prereq then codes "prereq" else codes "conflict"
 
--- the line of a module with a command whose names mean no module of the site
+-- the line of a module with a prereq whose names mean no module of the site whose evaluation isn't refused
 unfoldable pub unknown_line : UnknownNames → Text
 unknown_line u =
-    codes "# " ++ (spelled (string_bytes u.name) ++ (codes " (" ++ (spelled (string_bytes u.path) ++ (codes "): "
-    ++ (command_of u ++ (codes " names no module:" ++ (flat_map quoted_name u.names.items ++ codes "\n")))))))
+    codes "# " ++ (spelled (string_bytes u.name) ++ (codes " (" ++ (spelled (string_bytes u.path)
+    ++ (codes "): prereq names no module that isn't refused:" ++ (flat_map quoted_name u.names.items ++ codes "\n")))))
 
 -- the line of a module with such a prereq; else nothing
 abbrev pub prereq_line : UnknownNames → Text

@@ -213,7 +213,7 @@ pub(crate) fn command_of(unknown: &UnknownNames) -> &'static str
     }
 }
 
-/// Adds the line of a command whose names mean no module of the site.
+/// Adds the line of a prereq whose names mean no module of the site whose evaluation isn't refused.
 fn push_unknown(report: &mut Vec<u8>, unknown: &UnknownNames) -> Result<(), AllocError>
     ensures { OnOk result (report.new.items ≡ report.old.items ++ spec.unknown_line unknown.now) }
 {
@@ -221,9 +221,7 @@ fn push_unknown(report: &mut Vec<u8>, unknown: &UnknownNames) -> Result<(), Allo
     push_field(report, unknown.name.as_str())?;
     push_text(report, " (")?;
     push_field(report, unknown.path.as_str())?;
-    push_text(report, "): ")?;
-    push_text(report, command_of(unknown))?;
-    push_text(report, " names no module:")?;
+    push_text(report, "): prereq names no module that isn't refused:")?;
     push_names(report, unknown.names.as_slice())?;
     push_text(report, "\n")
 }
@@ -238,7 +236,7 @@ fn push_prereq(report: &mut Vec<u8>, unknown: &UnknownNames) -> Result<(), Alloc
     Ok(())
 }
 
-/// Adds a line for each prereq whose names mean no module of the site.
+/// Adds a line for each prereq whose names mean no module of the site whose evaluation isn't refused.
 pub(crate) fn push_prereqs(
     report: &mut Vec<u8>,
     unknowns: &[UnknownNames],

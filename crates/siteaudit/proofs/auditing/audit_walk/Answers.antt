@@ -13,7 +13,7 @@ use Rattle.siteaudit.specs.Hanging.{is_settled_directory, additions_after}
 use Rattle.siteaudit.specs.FilesBelow.{LooksAtAny}
 use Rattle.siteaudit.specs.SettledRuns.{evaluated_file}
 use Rattle.siteaudit.specs.Folders.{AreBadDefaultFiles, EvaluatedLookAt}
-use Rattle.siteaudit.specs.Mentions.{is_known, unknown_after}
+use Rattle.siteaudit.specs.Mentions.{is_known, is_accepted, unknown_after}
 use Rattle.siteaudit.specs.NoModulefiles.{AreNoModulefiles}
 use Rattle.siteaudit.specs.Unread.{unread_among}
 use Rattle.siteaudit.specs.Parts.{WalkedLookAt}
@@ -34,7 +34,7 @@ returns-clause-parts g c = λ files listings agrees.
       bad_default_files = subst (λ (es : List Evaluation). AreBadDefaultFiles c.args.limits files listings (map evaluated_file es) (texts_in c.in_ok-bad_default_files.bad_default_files)) c.as_slice-5.ensures.value
           (c.in_ok-bad_default_files.ensures.answer files listings agrees);
       unknown_names = subst (λ (es : List Evaluation). map mention_of c.in_ok-unknown_names.unknown_names.items ≡ flat_map
-          (unknown_after (is_known es)) es) c.as_slice.ensures.value c.in_ok-unknown_names.ensures;
+          (unknown_after (is_known es) (is_accepted es)) es) c.as_slice.ensures.value c.in_ok-unknown_names.ensures;
       agrees = rw (← c.as_slice-6.ensures.value) c.in_ok-disagreements.ensures.agrees;
       disagreements = rw (← c.as_slice-6.ensures.value) c.in_ok-disagreements.ensures.order;
     }

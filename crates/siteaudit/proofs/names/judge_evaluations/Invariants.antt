@@ -4,4 +4,4 @@ use Rattle.siteaudit.specs.Mentions.{known_in, unknown_after}
 use Rattle.siteaudit.proofs.names.judge_evaluations.Given as goal
 
 abbrev pub invariant-loop-module : goal.invariant-loop-module
-invariant-loop-module l = map mention_of l.found.items ≡ flat_map (unknown_after (known_in l.meaning.keys)) (take l.module-index l.evaluations)
+invariant-loop-module l = map mention_of l.found.items ≡ flat_map (unknown_after (known_in l.meaning.known.keys) (known_in l.meaning.accepted.keys)) (take l.module-index l.evaluations)
