@@ -2,11 +2,11 @@
 
 Random trees of modulefiles, of which each uses variables as it likes, and of which some read variables and leave what
 these say, some ask for the mode, the switch or the shell, and undo the same in each way or don't, some ask for
-something else, undo nothing or are refused, and some are withheld by hand; a random environment that agrees with some of what the certified modules of
-the site use (`standings.py` says which these are, and which starts agree), and mostly has the values of the audit; and
-random lists of loads, unloads, switches and purges, in which each accepted load is of a certified module with whose
-uses the start agrees and whose reads have in it the values of the audit, and each unload of one that the session
-loaded. The commands call the program by the names of several shells; in the model these are of all families. Between
+something else, undo nothing or are refused, and some are withheld by hand; a random environment that agrees with some
+of what the certified modules of the site use (`standings.py` says which these are, and which starts agree), and mostly
+has the values of the audit; and random lists of loads, unloads, switches and purges, in which each accepted load is of
+a certified module with whose uses the start agrees and whose reads have in it the values of the audit, and each unload
+of one that the session loaded. The commands call the program by the names of several shells; in the model these are of all families. Between
 them changes by hand, by the uses and reads of the modules that are live then (`hands.py`): so a variable that none of
 them uses or reads is changed freely, and the start by which the next load is judged is what the changes have made of
 it. After each command and each change the exported variables of the shell are those that a model makes (`sentence.py`,

@@ -3,10 +3,9 @@
 It is written from the rules in the crates' pages (sites, certificates), and shares nothing with the definitions that
 the prover reads nor with the programs. `runs.py` has the edits of environments.
 
-A module's file is a function of the way in which it is evaluated (`ways.py`), in the environment of the audit. It may be
-withheld by hand. A use of
-a variable is what `runs.py` calls a way: ("fixed", None) where a module sets it, ("fixed", value) where it unsets this
-value, ("absent",) where it unsets it without a value, ("path", delimiter), or ("stack",).
+A module's file is a function of the way in which it is evaluated (`ways.py`), in the environment of the audit. It may
+be withheld by hand. A use of a variable is what `runs.py` calls a way: ("fixed", None) where a module sets it, ("fixed",
+value) where it unsets this value, ("absent",) where it unsets it without a value, ("path", delimiter), or ("stack",).
 """
 
 from tests import runs as model
