@@ -14,10 +14,11 @@ use Rattle.requests.specs.Requests.{Request}
 use Rattle.requests.specs.Returning.{AreNew}
 use Rattle.requests.specs.Steps.{Done, RequestStep, request_context_in}
 use Rattle.sitecertificate.specs.RecordUses.{IsAmong, uses_by}
+use Rattle.sitecertificate.specs.Candidates.{Candidate, as_module}
 use Rattle.sitecertificate.specs.Certificates.{certified}
 use Rattle.sitecertificate.specs.Laws.{IsAsCertified, AreCertifiedTogether, AreLayered, NoneIsLayered}
-use Rattle.sitelaws.specs.Sites.{Site, SiteModule, Reads, ReadsAlike, file_of}
-use Rattle.sitelaws.specs.Laws.{CanBeCertified, LoadsAreOf, AreReadAlike, SiteCommandsReturn, ChangesLeaveReads}
+use Rattle.sitelaws.specs.Sites.{Site, SiteModule, Reads, ReadsAlike, file_of, candidate_file}
+use Rattle.sitelaws.specs.Laws.{AreSettled, LoadsAreOf, AreReadAlike, SiteCommandsReturn, ChangesLeaveReads}
 use Rattle.modulecmd.specs.Command.{CommandResult, CommandHasResult, standard, with_shell}
 use Rattle.handchanges.specs.HandChanges.{HandChange, changed, IsHandChange, start_after}
 use Rattle.handchanges.specs.Events.{Event, act, by_hand, moves_of, EventsReachWhile}
@@ -45,11 +46,11 @@ step_of arguments e files listings f (Ok r, is, (step, h, same)) = (r, step_at e
 
 -- ---- all of them, with changes by hand between them
 
-abbrev Stands : Site → List Module → List Module → Environment → Environment → Type 0
+abbrev Stands : Site → List Candidate → List Module → Environment → Environment → Type 0
 Stands site ms live start e = AreLayered ms start live e × AreReadAlike site start live × (live ≡ [] → e ≡ start)
 
-command_stands : SiteCommandsReturn → OneEffect → DifferenceMakes → (judged_in : Environment) (files : Files) (listings : Listings) (ms : List Module)
-    → CanBeCertified (judged_site judged_in files listings) ms → (live : List Module) (start e next : Environment) (c : PrintedCommand)
+command_stands : SiteCommandsReturn → OneEffect → DifferenceMakes → (judged_in : Environment) (files : Files) (listings : Listings) (ms : List Candidate)
+    → AreSettled (judged_site judged_in files listings) ms → (live : List Module) (start e next : Environment) (c : PrintedCommand)
     → Stands (judged_site judged_in files listings) ms live start e → AreNew start (command_moves c)
     → CommandLoads (judged_site judged_in files listings) (certified ms) start c → CommandMakes files listings c e next
     → Stands (judged_site judged_in files listings) ms (live_after live (command_moves c)) start next
@@ -59,26 +60,26 @@ command_stands returns one makes judged_in files listings ms all live start e ne
     let same : c.effect.1.env ≡ next = one c.effect.0 c.text e c.effect.1.env next (makes c.effect.0 c.text e c.effect.1.env says) made in
     subst (Stands (judged_site judged_in files listings) ms (live_after live (command_moves c)) start) same h
 
-live_certified : (ms live : List Module) (m : Module) → AreCertifiedTogether ms live → IsAmong m live → IsAsCertified ms m
+live_certified : (ms : List Candidate) (live : List Module) (m : Module) → AreCertifiedTogether ms live → IsAmong m live → IsAsCertified ms m
 live_certified ms [] m t a = absurd a
 live_certified ms (l ∷ live) m t (inl e) = subst (IsAsCertified ms) (sym e) t.0
 live_certified ms (l ∷ live) m t (inr a) = live_certified ms live m t.2 a
 
-same_file : (m c : Module) → c.name ≡ m.name → c.path ≡ m.path → file_of c ≡ file_of m
+same_file : (m : Module) (c : Candidate) → c.name ≡ m.name → c.path ≡ m.path → candidate_file c ≡ file_of m
 same_file m c name path = λ i. record { name = name i; path = path i }
 
 -- what a live module reads keeps its values
-reads_left : ChangesLeaveReads → (site : Site) (ms live : List Module) (start e : Environment) (c : HandChange) → CanBeCertified site ms → AreLayered ms start live e
+reads_left : ChangesLeaveReads → (site : Site) (ms : List Candidate) (live : List Module) (start e : Environment) (c : HandChange) → AreSettled site ms → AreLayered ms start live e
     → IsHandChange (uses_by live) live e c → IsUnread site live c.variable → AreReadAlike site start live → AreReadAlike site (start_after (uses_by live) live start e c) live
 reads_left leave site ms live start e c all layered may unread alike m a =
     let k = live_certified ms live m layered.together a in
     let same = same_file m k.certain k.name k.path in
     subst (ReadsAlike site (start_after (uses_by live) live start e c)) same
-    (leave site ms live start e k.certain c (all.settled k.certain k.certified.listed).records
+    (leave site ms live start e (as_module k.certain) c (all k.certain k.certified.listed).records
     (subst (ReadsAlike site start) (sym same) (alike m a)) layered may
     (λ r. unread m a (subst (λ (f : SiteModule). Reads site f c.variable) same r)))
 
-change_stands : OneChangeHolds → ChangesLeaveReads → (site : Site) (ms : List Module) → CanBeCertified site ms
+change_stands : OneChangeHolds → ChangesLeaveReads → (site : Site) (ms : List Candidate) → AreSettled site ms
     → (live : List Module) (start e : Environment) (c : HandChange) (more : List Move) → Stands site ms live start e → AreNew start more
     → IsHandChange (uses_by live) live e c → IsUnread site live c.variable
     → Stands site ms live (start_after (uses_by live) live start e c) (changed c e) × AreNew (start_after (uses_by live) live start e c) more
@@ -91,7 +92,7 @@ change_stands change leave site ms all live start e c more stands news may unrea
     )
 
 events_stand : SiteCommandsReturn → OneEffect → DifferenceMakes → OneChangeHolds → ChangesLeaveReads
-    → (judged_in : Environment) (files : Files) (listings : Listings) (ms : List Module) → CanBeCertified (judged_site judged_in files listings) ms
+    → (judged_in : Environment) (files : Files) (listings : Listings) (ms : List Candidate) → AreSettled (judged_site judged_in files listings) ms
     → (events : List (Event PrintedCommand)) (live : List Module) (start e last_start last : Environment)
     → Stands (judged_site judged_in files listings) ms live start e → AreNew start (moves_of command_moves events)
     → HandsLeaveReads (judged_site judged_in files listings) live events
@@ -119,13 +120,13 @@ site_shells_and_hands_return begins returns one makes change leave judged_in fil
 
 -- ---- commands alone
 
-loads_parts : (site : Site) (ms : List Module) (start : Environment) (moves more : List Move) → LoadsAreOf site ms start (moves ++ more)
+loads_parts : (site : Site) (ms : List Candidate) (start : Environment) (moves more : List Move) → LoadsAreOf site ms start (moves ++ more)
     → LoadsAreOf site ms start moves × LoadsAreOf site ms start more
 loads_parts site ms start [] more h = (tt, h)
 loads_parts site ms start (Loads m ∷ moves) more h = let p = loads_parts site ms start moves more h.1 in ((h.0, p.0), p.1)
 loads_parts site ms start (Unloads m ∷ moves) more h = loads_parts site ms start moves more h
 
-all_load : (site : Site) (ms : List Module) (start : Environment) (cs : List PrintedCommand) → LoadsAreOf site ms start (moves_in cs) → AllAllowed (CommandLoads site ms) start cs
+all_load : (site : Site) (ms : List Candidate) (start : Environment) (cs : List PrintedCommand) → LoadsAreOf site ms start (moves_in cs) → AllAllowed (CommandLoads site ms) start cs
 all_load site ms start [] h = tt
 all_load site ms start (c ∷ cs) h = let p = loads_parts site ms start (command_moves c) (moves_in cs) h in (p.0, all_load site ms start cs p.1)
 

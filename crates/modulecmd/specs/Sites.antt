@@ -9,10 +9,11 @@ use Rattle.reversal.specs.Runs.{live_after}
 use Rattle.reversal.specs.Laws.{Holds}
 use Rattle.requests.specs.Returning.{AreNew}
 use Rattle.sitecertificate.specs.RecordUses.{IsAmong, uses_by}
+use Rattle.sitecertificate.specs.Candidates.{Candidate}
 use Rattle.sitecertificate.specs.Certificates.{certified}
 use Rattle.sitecertificate.specs.Laws.{AreLayered}
 use Rattle.sitelaws.specs.Sites.{Site, site_of, Reads, file_of}
-use Rattle.sitelaws.specs.Laws.{CanBeCertified, LoadsAreOf}
+use Rattle.sitelaws.specs.Laws.{AreSettled, LoadsAreOf}
 use Rattle.modulecmd.specs.Command.{standard}
 use Rattle.handchanges.specs.Events.{Event, act, by_hand, moves_of, EventsReachWhile}
 use Rattle.modulecmd.specs.Runs.{PrintedCommand, ShellsHold, moves_in, command_moves, CommandMakes}
@@ -21,23 +22,22 @@ use Rattle.modulecmd.specs.Runs.{PrintedCommand, ShellsHold, moves_in, command_m
 abbrev pub judged_site : Environment → Files → Listings → Site
 judged_site judged_in files listings = site_of standard judged_in files listings
 
--- These modules can be certified: settled ones of the site, of which no certified one uses what a certified one reads.
--- From a start whose loaded list is in order, after any commands that load only certified modules with whose uses the
--- start agrees and whose reads have in it the values of the environment that was judged, and unload no module of the
--- start: what the shell holds is in order and is the start with the modules that are live then layered on it. With none
--- it is the start.
+-- These candidates are settled modules of the site. From a start whose loaded list is in order, after any commands that
+-- load only certified ones with whose uses the start agrees and whose reads have in it the values of the environment that
+-- was judged, and unload no module of the start: what the shell holds is in order and is the start with the modules that
+-- are live then layered on it. With none it is the start.
 abbrev pub SiteShellsReturn : Type 0
 SiteShellsReturn =
-    (judged_in : Environment) (files : Files) (listings : Listings) (ms : List Module) (start last : Environment)
+    (judged_in : Environment) (files : Files) (listings : Listings) (ms : List Candidate) (start last : Environment)
     (cs : List PrintedCommand)
-    → CanBeCertified (judged_site judged_in files listings) ms → AreLoadedInOrder start
+    → AreSettled (judged_site judged_in files listings) ms → AreLoadedInOrder start
     → ShellsHold files listings start cs last → AreNew start (moves_in cs)
     → LoadsAreOf (judged_site judged_in files listings) (certified ms) start (moves_in cs)
     → Holds (uses_by (live_after [] (moves_in cs))) start (live_after [] (moves_in cs)) last
 
 -- the loads of a command are of these modules, with whose uses the start agrees, and whose reads have in it the values
 -- of the environment that was judged
-abbrev pub CommandLoads : Site → List Module → Environment → PrintedCommand → Type 0
+abbrev pub CommandLoads : Site → List Candidate → Environment → PrintedCommand → Type 0
 CommandLoads site ms start c = LoadsAreOf site ms start (command_moves c)
 
 -- None of the modules reads the variable.
@@ -57,9 +57,9 @@ HandsLeaveReads site live (by_hand c ∷ events) = IsUnread site live c.variable
 -- start.
 abbrev pub SiteShellsAndHandsReturn : Type 0
 SiteShellsAndHandsReturn =
-    (judged_in : Environment) (files : Files) (listings : Listings) (ms : List Module)
+    (judged_in : Environment) (files : Files) (listings : Listings) (ms : List Candidate)
     (start last_start last : Environment) (events : List (Event PrintedCommand))
-    → CanBeCertified (judged_site judged_in files listings) ms → AreLoadedInOrder start
+    → AreSettled (judged_site judged_in files listings) ms → AreLoadedInOrder start
     → EventsReachWhile command_moves (CommandMakes files listings) uses_by
     (CommandLoads (judged_site judged_in files listings) (certified ms)) [] start start events last_start last
     → AreNew start (moves_of command_moves events)
@@ -70,7 +70,7 @@ SiteShellsAndHandsReturn =
 -- Commands alone are such events, which leave the start as it was, and what modules read.
 abbrev pub SiteCommandsAreEvents : Type 0
 SiteCommandsAreEvents =
-    (site : Site) (files : Files) (listings : Listings) (certain : List Module) (start last : Environment)
+    (site : Site) (files : Files) (listings : Listings) (certain : List Candidate) (start last : Environment)
     (cs : List PrintedCommand)
     → ShellsHold files listings start cs last → LoadsAreOf site certain start (moves_in cs)
     → EventsReachWhile command_moves (CommandMakes files listings) uses_by (CommandLoads site certain) [] start start

@@ -6,13 +6,13 @@ use Rattle.envvars.specs.Texts.{Text, has}
 use Rattle.envvars.specs.Fields.{without_repeats}
 use Rattle.filetree.specs.Modulefiles.{directories}
 use Rattle.modulefile.specs.Records.{Record}
-use Rattle.modulefile.specs.Moves.{Module}
+use Rattle.sitecertificate.specs.Candidates.{Candidate}
 use Rattle.modules.specs.declared.refusal.Refusal.{Refusal}
 use Rattle.requests.specs.Reasons.{RequestReason}
 use Rattle.requests.specs.Steps.{modulepath}
 use Rattle.settled.specs.Ways.{FileRuns, is_settled}
 use Rattle.sitecertificate.proofs.UsedLemmas.{by_test}
-use Rattle.sitelaws.specs.Sites.{Site, SiteModule, Evaluated, with_records, settled_of, settled_among, added_directories}
+use Rattle.sitelaws.specs.Sites.{Site, SiteModule, Evaluated, candidate_of, settled_of, settled_among, added_directories}
 use Rattle.siteaudit.specs.declared.walk.EvaluatedFile.{EvaluatedFile}
 use Rattle.siteaudit.specs.declared.walk.Evaluation.{Evaluation}
 use Rattle.siteaudit.specs.Walks.{IsOutcome, AreEvaluations, directories_of}
@@ -29,19 +29,19 @@ use Rattle.siteaudit.proofs.WalkLemmas.{found_of}
 abbrev Outcome : Type 0
 Outcome = Result (FileRuns RequestReason) RequestReason
 
-abbrev added_by : Module → List Text
+abbrev added_by : Candidate → List Text
 added_by m = added_directories m.records
 
-by_settled : (m : SiteModule) (rs : List Record) (b : Bool) (rest : List Module)
-    → added_directories (cond b rs []) ++ flat_map added_by rest ≡ flat_map added_by (cons_option (cond b (Some (with_records m rs)) None) rest)
-by_settled m rs true rest = refl
-by_settled m rs false rest = refl
+by_settled : (m : SiteModule) (runs : FileRuns RequestReason) (b : Bool) (rest : List Candidate)
+    → added_directories (cond b runs.first.records []) ++ flat_map added_by rest ≡ flat_map added_by (cons_option (cond b (Some (candidate_of m runs)) None) rest)
+by_settled m runs true rest = refl
+by_settled m runs false rest = refl
 
-one_settled : (m : SiteModule) (outcome : Result EvaluatedFile Refusal) (out : Outcome) (rest : List Module) → IsOutcome outcome out
+one_settled : (m : SiteModule) (outcome : Result EvaluatedFile Refusal) (out : Outcome) (rest : List Candidate) → IsOutcome outcome out
     → added_directories (settled_records outcome) ++ flat_map added_by rest ≡ flat_map added_by (cons_option (settled_of (m, out)) rest)
 one_settled m (Ok file) out rest (runs, same, of) =
     ap (λ (rs : List Record). added_directories rs ++ flat_map added_by rest) (records_same file runs of)
-    ∙ (by_settled m runs.first.records (is_settled runs) rest
+    ∙ (by_settled m runs (is_settled runs) rest
     ∙ sym (ap (λ (x : Outcome). flat_map added_by (cons_option (settled_of (m, x)) rest)) same))
 one_settled m (Err refusal) out rest o = sym (ap (λ (x : Outcome). flat_map added_by (cons_option (settled_of (m, x)) rest)) o.2)
 

@@ -1,14 +1,13 @@
 -- Modules that are judged one by one.
-use Rattle.std.proofs.Common.{◌≡◌, Option, List, [], ◌∷◌, ◌++◌, flat_map, append-nil, sym, ap, ◌∙◌}
+use Rattle.std.proofs.Common.{◌≡◌, List, [], ◌∷◌, ◌++◌, flat_map, append-nil, sym, ap, ◌∙◌}
 use Rattle.std.specs.List.{AllByRecursion}
 use Rattle.std.proofs.lemmas.List.{map-append}
 use Rattle.std.proofs.lemmas.Grind.{flat_map-append}
 use Rattle.envvars.specs.Texts.{Text}
-use Rattle.modulefile.specs.Moves.{Module}
+use Rattle.sitecertificate.specs.Candidates.{Candidate}
 use Rattle.siteaudit.specs.declared.standing.ModuleFinding.{ModuleFinding}
 use Rattle.siteaudit.specs.declared.walk.Evaluation.{Evaluation}
 use Rattle.siteaudit.specs.declared.judgement.JudgedModule.{JudgedModule}
-use Rattle.sitereads.specs.declared.readers.UsedRead.{UsedRead}
 use Rattle.siteaudit.specs.Findings.{Shown, IsFinding, IsShown, judged_of, steps_in, aside_in, AreJudged}
 
 all_more : {X : Type 0} (P : X → Type 0) (xs : List X) (x : X) → AllByRecursion P xs → P x → AllByRecursion P (xs ++ x ∷ [])
@@ -16,20 +15,19 @@ all_more P [] x h p = (p, tt)
 all_more P (y ∷ xs) x h p = (h.0, all_more P xs x h.1 p)
 
 -- one module more
-pub judged_more : (without : List Text) (es : List Evaluation) (us : List (Option UsedRead)) (js new : List JudgedModule) (ms more ks others : List Module) (e : Evaluation) (u : Option UsedRead) (finding : ModuleFinding)
-    → AreJudged without es us js ms ks → IsFinding e.outcome u finding
-    → new ≡ js ++ judged_of without (e, u, finding) ∷ [] → more ≡ ms ++ steps_in without (e, u, finding) → others ≡ ks ++ aside_in (e, u, finding)
-    → AreJudged without (es ++ e ∷ []) (us ++ u ∷ []) new more others
-judged_more without es us js new ms more ks others e u finding h right kept steps aside =
-    let one : Shown = (e, u, finding) in
+pub judged_more : (without : List Text) (es : List Evaluation) (js new : List JudgedModule) (ms more ks others : List Candidate) (e : Evaluation) (finding : ModuleFinding)
+    → AreJudged without es js ms ks → IsFinding e.outcome finding
+    → new ≡ js ++ judged_of without (e, finding) ∷ [] → more ≡ ms ++ steps_in without (e, finding) → others ≡ ks ++ aside_in (e, finding)
+    → AreJudged without (es ++ e ∷ []) new more others
+judged_more without es js new ms more ks others e finding h right kept steps aside =
+    let one : Shown = (e, finding) in
     record {
       shown = h.shown ++ one ∷ [];
       evaluated = map-append (λ (s : Shown). s.0) h.shown (one ∷ []) ∙ ap (λ (l : List Evaluation). l ++ e ∷ []) h.evaluated;
-      read = map-append (λ (s : Shown). s.1) h.shown (one ∷ []) ∙ ap (λ (l : List (Option UsedRead)). l ++ u ∷ []) h.read;
       right = all_more IsShown h.shown one h.right right;
       kept = kept ∙ (ap (λ (l : List JudgedModule). l ++ judged_of without one ∷ []) h.kept ∙ sym (map-append (judged_of without) h.shown (one ∷ [])));
-      steps = steps ∙ (ap (λ (l : List Module). l ++ steps_in without one) h.steps
-          ∙ (ap (λ (l : List Module). flat_map (steps_in without) h.shown ++ l) (sym (append-nil (steps_in without one))) ∙ sym (flat_map-append (steps_in without) h.shown (one ∷ []))));
-      others = aside ∙ (ap (λ (l : List Module). l ++ aside_in one) h.others
-          ∙ (ap (λ (l : List Module). flat_map aside_in h.shown ++ l) (sym (append-nil (aside_in one))) ∙ sym (flat_map-append aside_in h.shown (one ∷ []))));
+      steps = steps ∙ (ap (λ (l : List Candidate). l ++ steps_in without one) h.steps
+          ∙ (ap (λ (l : List Candidate). flat_map (steps_in without) h.shown ++ l) (sym (append-nil (steps_in without one))) ∙ sym (flat_map-append (steps_in without) h.shown (one ∷ []))));
+      others = aside ∙ (ap (λ (l : List Candidate). l ++ aside_in one) h.others
+          ∙ (ap (λ (l : List Candidate). flat_map aside_in h.shown ++ l) (sym (append-nil (aside_in one))) ∙ sym (flat_map-append aside_in h.shown (one ∷ []))));
     }

@@ -12,10 +12,7 @@ mod JudgedLemmas
 mod StandingLemmas
 mod ScriptLemmas
 mod Evaluations
-mod EligibleOnes
-mod UsedReads
 mod Judged
-mod FirstReads
 mod Further
 mod OnceEach
 mod Unknown

@@ -1,7 +1,7 @@
 -- What the evaluations of a script show, way after way.
 use Rattle.std.proofs.Common.{◌≡◌, ℕ, ◌+◌, ◌<◌, take, length, get_or, Bool, true, false, ◌&&◌, List, [], ◌∷◌, ◌++◌, map, append-nil, refl, ap, sym}
 use Rattle.std.proofs.Common.{◌∙◌, subst, Option, Some, None, Result, Ok, Err, Global}
-use Rattle.std.specs.Prelude.{flat_map, find, not, position, MatchOption}
+use Rattle.std.specs.Prelude.{flat_map, find, is_none, not, position, MatchOption}
 use Rattle.std.specs.List.{list_all}
 use Rattle.std.proofs.lemmas.Bool.{and_parts}
 use Rattle.requests.proofs.ListLemmas.{all_seen}
@@ -25,14 +25,17 @@ use Rattle.modules.specs.declared.refusal.Refusal.{Refusal}
 use Rattle.requests.specs.Reasons.{RequestReason}
 use Rattle.settled.specs.Resting.{variables_read}
 use Rattle.settled.specs.LoadedAnswers.{are_few}
-use Rattle.settled.specs.Ways.{Way, first_way, other_ways, is_ran_alike, is_alike, are_alike, keeps_answer, read_in}
+use Rattle.settled.specs.Ways.{Way, first_way, other_ways, is_ran_alike, is_alike, are_alike, keeps_answer, read_in, FileRuns, are_runs_alike, keep_answers, reads_in}
 use Rattle.settled.specs.WayViews.{way_view}
 use Rattle.settled.specs.declared.ways.Way as code
 use Rattle.filetree.specs.Causes.{Cause, Applies, memory, device, because}
 use Rattle.modules.specs.Answers.{cause_of}
 use Rattle.givenup.specs.Causes.{is_given_up}
-use Rattle.sitecertificate.specs.RecordUses.{used_by, are_in_step}
-use Rattle.siteaudit.specs.Walks.{AreUsedTwice}
+use Rattle.sitecertificate.proofs.UsedLemmas.{by_test}
+use Rattle.modulerun.specs.declared.question.Question.{Question}
+use Rattle.sitecertificate.specs.Steps.{are_in_step}
+use Rattle.reversal.specs.VariableUses.{UsedVariable}
+use Rattle.siteaudit.specs.Walks.{uses_told, uses_in, AreUsedTwice}
 use Rattle.siteaudit.specs.Findings.{AreUnlike}
 use Rattle.siteaudit.specs.declared.unlike.UnlikeUses.{UnlikeUses}
 use Rattle.siteaudit.specs.WalkParts.{ComesTo, ScriptRuns, ScriptRunsIn, ShowsOne, ShowsAll, ShowsScript}
@@ -117,30 +120,55 @@ shows_err limits context text first way before o refusal comes is kept =
 
 -- the whole script
 
-used_twice : (rs : List Record) (unlike : Option UnlikeUses) → MatchOption unlike (are_in_step (used_by rs) ≡ true) (AreUnlike (used_by rs))
-    → MatchOption unlike (are_in_step (used_by rs) ≡ true) (AreUsedTwice rs)
-used_twice rs None h = h
-used_twice rs (Some unlike) h = record { first = h.first; second = h.second; differ = h.differ }
+used_twice : (ps : List UsedVariable) (unlike : Option UnlikeUses) → MatchOption unlike (are_in_step ps ≡ true) (AreUnlike ps)
+    → MatchOption unlike (are_in_step ps ≡ true) (AreUsedTwice ps)
+used_twice ps None h = h
+used_twice ps (Some unlike) h = record { first = h.first; used = h.used; second = h.second; differ = h.differ }
+
+-- a question that doesn't keep its answer is found where not all do
+none_found : {X : Type 0} (q : X → Bool) (xs : List X) → is_none (find (λ x. not (q x)) xs) ≡ list_all q xs
+none_found q [] = refl
+none_found q (x ∷ xs) = by_test (q x) _ (λ t. rw t (none_found q xs)) (λ f. rw f refl)
+
+none_viewed : {X Y : Type 0} (f : X → Y) (o : Option X) → is_none o ≡ is_none (option_map f o)
+none_viewed f None = refl
+none_viewed f (Some x) = refl
+
+-- the uses that the code tells are those of the evaluations
+uses_same : (runs : FileRuns RequestReason) (unkept : Option Question) (rs : List Record) (reads : List Text)
+    → option_map question_view unkept ≡ find (λ q. not (keeps_answer (are_runs_alike runs) runs.first.records q)) runs.first.asked → rs ≡ runs.first.records
+    → reads ≡ without_repeats (reads_in runs) → uses_told rs (is_none unkept) reads ≡ uses_in runs
+uses_same runs unkept rs reads e f g =
+    let kept : is_none unkept ≡ keep_answers runs = none_viewed question_view unkept
+    ∙ (ap (λ (o : Option _). is_none o) e ∙ none_found (keeps_answer (are_runs_alike runs) runs.first.records) runs.first.asked) in
+    λ i. uses_told (f i) (kept i) (g i)
 
 pub shows_script : (limits : Limits) (context : Way → FileContext) (text : Text) (first : FileRun) (e : Environment) (ways : List Way) (all : List Text) (alike few : Bool) (shown : FileEvaluation)
     → ScriptRuns limits (context first_way) text (Ok (ran_view first e)) → ways ≡ other_ways (questions_in first.asked.items)
     → ShowsAll limits context text first ways (variables_read (questions_in first.asked.items)) all alike → few ≡ are_few (questions_in first.asked.items)
     → shown.file.records ≡ first.records
     → option_map question_view shown.file.unkept ≡ find (λ q. not (keeps_answer (few && alike) (map record_view first.records.items) q)) (questions_in first.asked.items)
-    → MatchOption shown.file.unlike (are_in_step (used_by (map record_view first.records.items)) ≡ true) (AreUnlike (used_by (map record_view first.records.items)))
+    → MatchOption shown.file.unlike (are_in_step (uses_told (map record_view first.records.items) (is_none shown.file.unkept) (texts_in shown.reads)) ≡ true)
+    (AreUnlike (uses_told (map record_view first.records.items) (is_none shown.file.unkept) (texts_in shown.reads)))
     → texts_in shown.reads ≡ without_repeats all → ShowsScript limits context text (Ok shown)
-shows_script limits context text first e ways all alike few shown ran same shows known records unkept unlike reads = (
-  record { first = ran_view first e; others = shows.outcomes },
-  record {
-    records = ap (λ (v : Vec _ Global). map record_view v.items) records;
-    unkept = unkept ∙ ap (λ (b : Bool). find (λ q. not (keeps_answer b (map record_view first.records.items) q)) (questions_in first.asked.items))
-        (both few alike _ _ known (shows.alike e ∙ ap (λ (ws : List Way). are_alike (ran_view first e) ws shows.outcomes) same));
-    unlike = used_twice (map record_view first.records.items) shown.file.unlike unlike;
-  },
-  reads ∙ ap without_repeats shows.reads,
-  ran,
-  subst (λ (ws : List Way). ScriptRunsIn limits context text ws shows.outcomes) same shows.runs,
-)
+shows_script limits context text first e ways all alike few shown ran same shows known records unkept unlike reads =
+    let runs : FileRuns RequestReason = record { first = ran_view first e; others = shows.outcomes } in
+    let kept : option_map question_view shown.file.unkept ≡ find (λ q. not (keeps_answer (are_runs_alike runs) runs.first.records q)) runs.first.asked =
+    unkept ∙ ap (λ (b : Bool). find (λ q. not (keeps_answer b (map record_view first.records.items) q)) (questions_in first.asked.items))
+    (both few alike _ _ known (shows.alike e ∙ ap (λ (ws : List Way). are_alike (ran_view first e) ws shows.outcomes) same)) in
+    let read : texts_in shown.reads ≡ without_repeats (reads_in runs) = reads ∙ ap without_repeats shows.reads in (
+      runs,
+      record {
+        records = ap (λ (v : Vec _ Global). map record_view v.items) records;
+        unkept = kept;
+        unlike = subst (λ (ps : List UsedVariable). MatchOption shown.file.unlike (are_in_step ps ≡ true) (AreUsedTwice ps))
+            (uses_same runs shown.file.unkept (map record_view first.records.items) (texts_in shown.reads) kept refl read)
+            (used_twice (uses_told (map record_view first.records.items) (is_none shown.file.unkept) (texts_in shown.reads)) shown.file.unlike unlike);
+      },
+      read,
+      ran,
+      subst (λ (ws : List Way). ScriptRunsIn limits context text ws shows.outcomes) same shows.runs,
+    )
 
 -- ---- the first question that doesn't keep its answer
 

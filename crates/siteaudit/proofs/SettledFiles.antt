@@ -1,26 +1,26 @@
--- What the code has of evaluated files is settled where their evaluations are, in step where their records are, and reads
--- the same.
-use Rattle.std.proofs.Common.{◌≡◌, Bool, true, false, cond, not, ◌&&◌, ◌||◌, List, [], ◌∷◌, find, Option, Some, None, Ok}
+-- What the code has of evaluated files is settled where their evaluations are, and in step where these are.
+use Rattle.std.proofs.Common.{◌≡◌, Bool, true, false, cond, not, ◌&&◌, List, [], ◌∷◌, find, Option, Some, None, Ok}
 use Rattle.std.proofs.Common.{refl, ap, sym, ◌∙◌, subst}
-use Rattle.std.specs.Prelude.{bytes_eq, is_none, MatchOption}
+use Rattle.std.specs.Prelude.{is_none, MatchOption}
 use Rattle.std.specs.List.{list_all}
 use Rattle.std.specs.Option.{option_map}
 use Rattle.std.proofs.lemmas.Bool.{false≢true, and_parts}
-use Rattle.envvars.specs.Texts.{Text, has}
-use Rattle.envvars.specs.Fields.{colon, without, without_repeats}
-use Rattle.envvars.proofs.TextLemmas.{same_text, bytes_eq-same}
-use Rattle.modulefile.specs.Records.{Record}
+use Rattle.envvars.specs.Texts.{Text}
+use Rattle.envvars.specs.Fields.{colon, without_repeats}
+use Rattle.envvars.proofs.TextLemmas.{bytes_eq-same}
 use Rattle.modulerun.specs.Questions.{question_view}
 use Rattle.reversal.specs.VariableUses.{VariableUse, Pathed, can_return, UsedVariable}
 use Rattle.requests.specs.Reasons.{RequestReason}
-use Rattle.settled.specs.Ways.{FileRuns, are_runs_alike, keeps_answer, keep_answers, is_settled}
-use Rattle.sitecertificate.specs.RecordUses.{used_by, modulepath, same_use, use_alike, are_in_step}
+use Rattle.settled.specs.Ways.{FileRuns, are_runs_alike, keeps_answer, keep_answers, is_settled, reads_in}
+use Rattle.sitecertificate.specs.RecordUses.{modulepath, is_read, same_use, use_alike}
+use Rattle.sitecertificate.specs.Candidates.{uses_of}
+use Rattle.sitecertificate.specs.Steps.{are_in_step}
 use Rattle.sitecertificate.proofs.UsedLemmas.{by_test, by_cases}
 use Rattle.sitecertificate.proofs.Exact.{all_each}
-use Rattle.sitelaws.specs.Sites.{SiteModule, with_records, is_withheld, is_eligible}
+use Rattle.sitelaws.specs.Sites.{SiteModule, candidate_of}
 use Rattle.sitelaws.specs.Standings.{IsUsedTwice}
-use Rattle.siteaudit.specs.Walks.{AreUsedTwice, IsOfRuns}
-use Rattle.siteaudit.specs.SettledRuns.{is_settled_file, settled_records, is_eligible_file, eligible_records}
+use Rattle.siteaudit.specs.Walks.{uses_told, uses_in, AreUsedTwice, IsOfRuns}
+use Rattle.siteaudit.specs.SettledRuns.{is_settled_file, settled_records}
 use Rattle.siteaudit.specs.declared.unlike.UnlikeUses.{UnlikeUses}
 use Rattle.siteaudit.specs.declared.walk.EvaluatedFile.{EvaluatedFile}
 
@@ -45,60 +45,26 @@ records_same file runs of = let same = settled_same file runs of in λ i. cond (
 
 -- ---- in step, or not
 
-unlike_at : (v : Text) (x y : VariableUse) → use_alike (v, x) (v, y) ≡ true → same_use x y ≡ false → ⊥
-unlike_at v x y h d = false≢true (rw (bytes_eq-same v, d) at h)
+unlike_at : (v : Text) (x y : VariableUse) → use_alike (v, x) (v, y) ≡ true → is_read x ≡ false → same_use x y ≡ false → ⊥
+unlike_at v x y h u d = false≢true (rw (u, bytes_eq-same v, d) at h)
 
-pub twice_not : (rs : List Record) (v : Text) (x y : VariableUse) → IsUsedTwice rs v x y → are_in_step (used_by rs) ≡ true → ⊥
-twice_not rs v x y twice h =
-    let ps : List UsedVariable = used_by rs in
+pub twice_not : (ps : List UsedVariable) (v : Text) (x y : VariableUse) → IsUsedTwice ps v x y → are_in_step ps ≡ true → ⊥
+twice_not ps v x y twice h =
     let each = and_parts (use_alike (v, x) (modulepath, Pathed colon)) (list_all (use_alike (v, x)) ps)
     (all_each (λ p. use_alike p (modulepath, Pathed colon) && list_all (use_alike p) ps) ps h (v, x) twice.first) in
     by_cases twice.second
-    (λ e. unlike_at v x y (ap (use_alike (v, x)) e ∙ each.0) twice.differ)
-    (λ a. unlike_at v x y (all_each (use_alike (v, x)) ps each.1 (v, y) a) twice.differ)
+    (λ e. unlike_at v x y (ap (use_alike (v, x)) e ∙ each.0) twice.used twice.differ)
+    (λ a. unlike_at v x y (all_each (use_alike (v, x)) ps each.1 (v, y) a) twice.used twice.differ)
 
-abbrev Steps : List Record → Option UnlikeUses → Type 0
-Steps rs unlike = MatchOption unlike (are_in_step (used_by rs) ≡ true) (AreUsedTwice rs)
+abbrev Steps : List UsedVariable → Option UnlikeUses → Type 0
+Steps ps unlike = MatchOption unlike (are_in_step ps ≡ true) (AreUsedTwice ps)
 
-steps_by : (rs : List Record) (unlike : Option UnlikeUses) → Steps rs unlike → is_none unlike ≡ are_in_step (used_by rs)
-steps_by rs None h = sym h
-steps_by rs (Some unlike) h = by_test (are_in_step (used_by rs)) _ (λ t. absurd (twice_not rs _ _ _ h t)) (λ f. sym f)
+pub used_twice : (file : EvaluatedFile) (runs : FileRuns RequestReason) (unlike : UnlikeUses) → IsOfRuns file runs → file.unlike ≡ Some unlike → AreUsedTwice (uses_in runs) unlike
+used_twice file runs unlike of e = subst (Steps (uses_in runs)) e of.unlike
 
-pub used_twice : (file : EvaluatedFile) (runs : FileRuns RequestReason) (unlike : UnlikeUses) → IsOfRuns file runs → file.unlike ≡ Some unlike → AreUsedTwice runs.first.records unlike
-used_twice file runs unlike of e = subst (Steps runs.first.records) e of.unlike
+pub stepping_by : (file : EvaluatedFile) (runs : FileRuns RequestReason) → IsOfRuns file runs → file.unlike ≡ None → are_in_step (uses_in runs) ≡ true
+stepping_by file runs of e = subst (Steps (uses_in runs)) e of.unlike
 
-pub stepping_by : (file : EvaluatedFile) (runs : FileRuns RequestReason) → IsOfRuns file runs → file.unlike ≡ None → are_in_step (used_by runs.first.records) ≡ true
-stepping_by file runs of e = subst (Steps runs.first.records) e of.unlike
-
--- ---- eligible, or not
-
-both_tested : (kept returns steps free : Bool) → ((kept && returns) && (steps && free)) ≡ ((kept && returns) && ((returns && steps) && free))
-both_tested true true steps free = refl
-both_tested true false steps free = refl
-both_tested false returns steps free = refl
-
-eligible_same : (without : List Text) (m : SiteModule) (file : EvaluatedFile) (runs : FileRuns RequestReason) → IsOfRuns file runs
-    → is_eligible_file without m.name file ≡ (is_settled runs && is_eligible without (with_records m runs.first.records))
-eligible_same without m file runs of =
-    let settled = settled_same file runs of in
-    let steps = steps_by runs.first.records file.unlike of.unlike in
-    (λ i. settled i && (steps i && not (is_withheld without m.name)))
-    ∙ both_tested (keep_answers runs) (list_all can_return runs.first.records) (are_in_step (used_by runs.first.records)) (not (is_withheld without m.name))
-
-pub eligible_records_same : (without : List Text) (m : SiteModule) (file : EvaluatedFile) (runs : FileRuns RequestReason) → IsOfRuns file runs
-    → eligible_records without m.name (Ok file) ≡ cond (is_settled runs && is_eligible without (with_records m runs.first.records)) runs.first.records []
-eligible_records_same without m file runs of = let same = eligible_same without m file runs of in λ i. cond (same i) (of.records i) []
-
--- ---- texts, each once
-
-other_left : (x y : Text) (xs : List Text) → bytes_eq x y ≡ false → has x (without y xs) ≡ has x xs
-other_left x y [] f = refl
-other_left x y (z ∷ xs) f = by_test (bytes_eq z y) _
-    (λ t. let no : bytes_eq x z ≡ false = ap (bytes_eq x) (same_text z y t) ∙ f in rw (t, no) (other_left x y xs f))
-    (λ g. rw g (ap (λ (b : Bool). bytes_eq x z || b) (other_left x y xs f)))
-
-pub has_once : (x : Text) (xs : List Text) → has x (without_repeats xs) ≡ has x xs
-has_once x [] = refl
-has_once x (y ∷ xs) = by_test (bytes_eq x y) _
-    (λ t. rw t refl)
-    (λ f. rw f (other_left x y (without_repeats xs) f ∙ has_once x xs))
+-- where each question keeps its answer, the reads are uses of the module
+pub uses_are : (m : SiteModule) (runs : FileRuns RequestReason) → keep_answers runs ≡ true → uses_in runs ≡ uses_of (candidate_of m runs)
+uses_are m runs k = ap (λ (b : Bool). uses_told runs.first.records b (without_repeats (reads_in runs))) k

@@ -11,7 +11,7 @@ use Rattle.envvars.specs.Fields.{colon}
 use Rattle.envvars.proofs.TextLemmas.{same_text}
 use Rattle.reversal.specs.VariableUses.{VariableUse, Pathed, UsedVariable}
 use Rattle.sitecertificate.specs.declared.uses.UsedVariable as code
-use Rattle.sitecertificate.specs.RecordUses.{IsAmong, modulepath, same_use, use_alike}
+use Rattle.sitecertificate.specs.RecordUses.{IsAmong, modulepath, is_read, same_use, use_alike}
 use Rattle.sitecertificate.specs.UseViews.{use_view, used_view}
 use Rattle.sitecertificate.proofs.UsedLemmas.{by_test}
 use Rattle.siteaudit.specs.declared.unlike.UnlikeUses.{UnlikeUses}
@@ -107,21 +107,23 @@ directories = (modulepath, Pathed colon)
 abbrev pub suits : List UsedVariable → UsedVariable → Bool
 suits ps p = use_alike p directories && list_all (use_alike p) ps
 
-unlike_parts : (b s : Bool) → (not b || s) ≡ false → (b ≡ true) × (s ≡ false)
-unlike_parts true s h = (refl, h)
-unlike_parts false s h = absurd (false≢true (sym h))
+unlike_parts : (r b s : Bool) → (r || (not b || s)) ≡ false → (r ≡ false) × (b ≡ true) × (s ≡ false)
+unlike_parts true b s h = absurd (false≢true (sym h))
+unlike_parts false true s h = (refl, refl, h)
+unlike_parts false false s h = absurd (false≢true (sym h))
 
 pub are_unlike : (ps : List UsedVariable) (p q : UsedVariable) (unlike : UnlikeUses) → IsAmong p ps → IsAmong q (directories ∷ ps) → use_alike p q ≡ false
     → string_bytes unlike.variable ≡ p.0 → use_view unlike.one ≡ p.1 → use_view unlike.other ≡ q.1 → AreUnlike ps unlike
 are_unlike ps p q unlike a b h v x y =
-    let u = unlike_parts (bytes_eq p.0 q.0) (same_use p.1 q.1) h in
-    let name : p.0 ≡ q.0 = same_text p.0 q.0 u.0 in
+    let u = unlike_parts (is_read p.1) (bytes_eq p.0 q.0) (same_use p.1 q.1) h in
+    let name : p.0 ≡ q.0 = same_text p.0 q.0 u.1 in
     let one : p ≡ (string_bytes unlike.variable, use_view unlike.one) = λ i. (sym v i, sym x i) in
     let other : q ≡ (string_bytes unlike.variable, use_view unlike.other) = λ i. (sym (v ∙ name) i, sym y i) in
     record {
       first = subst (λ (k : UsedVariable). IsAmong k ps) one a;
+      used = ap is_read x ∙ u.0;
       second = subst (λ (k : UsedVariable). IsAmong k (directories ∷ ps)) other b;
-      differ = ap (λ (k : VariableUse). same_use k (use_view unlike.other)) x ∙ (ap (same_use p.1) y ∙ u.1);
+      differ = ap (λ (k : VariableUse). same_use k (use_view unlike.other)) x ∙ (ap (same_use p.1) y ∙ u.2);
     }
 
 -- one use more is as all are
@@ -142,12 +144,9 @@ item_among (y ∷ xs) (suc i) x l e = inr (item_among xs i x (omega arith) e)
 
 -- ---- standings, one after another
 
-pub gathered : {X : Type 0} (a b c d : Option X) (none first second third all : List X) → none ≡ [] → first ≡ none ++ option_to_list a → second ≡ first ++ option_to_list b
-    → third ≡ second ++ option_to_list c → all ≡ third ++ option_to_list d → all ≡ option_to_list a ++ (option_to_list b ++ (option_to_list c ++ option_to_list d))
-gathered {X} a b c d none first second third all n f s t e =
+pub gathered : {X : Type 0} (a b c : Option X) (none first second all : List X) → none ≡ [] → first ≡ none ++ option_to_list a → second ≡ first ++ option_to_list b
+    → all ≡ second ++ option_to_list c → all ≡ option_to_list a ++ (option_to_list b ++ option_to_list c)
+gathered {X} a b c none first second all n f s e =
     let begun : first ≡ option_to_list a = f ∙ ap (λ (l : List X). l ++ option_to_list a) n in
     let two : second ≡ option_to_list a ++ option_to_list b = s ∙ ap (λ (l : List X). l ++ option_to_list b) begun in
-    let three : third ≡ (option_to_list a ++ option_to_list b) ++ option_to_list c = t ∙ ap (λ (l : List X). l ++ option_to_list c) two in
-    e ∙ (ap (λ (l : List X). l ++ option_to_list d) three
-    ∙ (append_assoc (option_to_list a ++ option_to_list b) (option_to_list c) (option_to_list d)
-    ∙ append_assoc (option_to_list a) (option_to_list b) (option_to_list c ++ option_to_list d)))
+    e ∙ (ap (λ (l : List X). l ++ option_to_list c) two ∙ append_assoc (option_to_list a) (option_to_list b) (option_to_list c))

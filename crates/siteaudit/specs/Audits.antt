@@ -12,10 +12,11 @@ use Rattle.filetree.specs.Causes.{because}
 use Rattle.modulefile.specs.RecordViews.{record_view}
 use Rattle.modulefile.specs.declared.records.Record as code
 use Rattle.modulefile.specs.Records.{Record, conflict_names, prereq_groups}
-use Rattle.modulefile.specs.Moves.{Module}
 use Rattle.requests.specs.Reasons.{RequestReason}
 use Rattle.modules.specs.Answers.{cause_of}
-use Rattle.sitecertificate.specs.RecordUses.{used_by, used_by_modules, IsAmong, IsInStep, are_in_step, is_in_step}
+use Rattle.sitecertificate.specs.RecordUses.{IsAmong}
+use Rattle.sitecertificate.specs.Candidates.{Candidate, uses_of_all}
+use Rattle.sitecertificate.specs.Steps.{IsInStep, are_in_step, is_in_step}
 use Rattle.sitecertificate.specs.Ranks.{users_alike}
 use Rattle.sitecertificate.specs.Certificates.{certificate, AgreesWith}
 use Rattle.sitecertificate.specs.UseViews.{use_view, used_view}
@@ -24,16 +25,14 @@ use Rattle.sitecertificate.specs.DisagreementViews.{disagreement_view}
 use Rattle.sitecertificate.specs.EachOnce.{each_once}
 use Rattle.sitecertificate.specs.ClashAnswers as clashes
 use Rattle.sitecertificate.specs.declared.answers.Clash.{Clash}
-use Rattle.settled.specs.Ways.{same_by, FileRuns, are_runs_alike, keeps_answer, reads_in}
-use Rattle.sitelaws.specs.Sites.{Site, SiteModule, Evaluated, file_of, with_records, HasSettledRecords, is_withheld}
-use Rattle.sitereads.specs.Answers.{IsUsedRead, IsAnswer}
-use Rattle.sitereads.specs.declared.readers.UsedRead.{UsedRead}
-use Rattle.sitelaws.specs.Sites.{AreCandidates, settled_among, eligible_among, candidates_among, reads_of}
+use Rattle.settled.specs.Ways.{same_by, FileRuns, are_runs_alike, keeps_answer}
+use Rattle.sitelaws.specs.Sites.{Site, SiteModule, Evaluated, candidate_file, candidate_of, is_withheld}
+use Rattle.sitelaws.specs.Sites.{AreSettledModules, settled_among, reads_of}
 use Rattle.sitelaws.specs.Sites.{first_directories, added_directories}
 use Rattle.sitelaws.specs.Standings as standings
-use Rattle.sitelaws.specs.Standings.{HasStanding, IsCandidateAnd}
-use Rattle.sitelaws.specs.Laws.{CertificateHolds}
-use Rattle.siteaudit.specs.Walks.{IsWalk, directories_of, AreUsedTwice}
+use Rattle.sitelaws.specs.Standings.{HasStanding, IsSettledAnd}
+use Rattle.sitelaws.specs.Laws.{AreSettled, CertificateHolds}
+use Rattle.siteaudit.specs.Walks.{IsWalk, directories_of, uses_in, AreUsedTwice}
 use Rattle.siteaudit.specs.Folders.{AreBadDefaultFiles}
 use Rattle.siteaudit.specs.Missing.{missing_among}
 use Rattle.siteaudit.specs.Unread.{unread_among}
@@ -42,7 +41,7 @@ use Rattle.modulerun.specs.declared.question.Question.{Question}
 use Rattle.modulerun.specs.Questions.{question_view}
 use Rattle.siteaudit.specs.declared.unlike.UnlikeUses.{UnlikeUses}
 use Rattle.siteaudit.specs.declared.standing.Standing.{Standing}
-use Rattle.siteaudit.specs.declared.standing.Standing.TheVariants.{Certified, Asks, OneWay, ReadsUsed, OutOfStep}
+use Rattle.siteaudit.specs.declared.standing.Standing.TheVariants.{Certified, Asks, OneWay, OutOfStep}
 use Rattle.siteaudit.specs.declared.standing.Standing.TheVariants.{Withheld, Clashes, Refused}
 use Rattle.siteaudit.specs.declared.auditing.AuditedModule.{AuditedModule}
 use Rattle.siteaudit.specs.declared.auditing.UnknownNames.{UnknownNames}
@@ -51,67 +50,44 @@ use Rattle.siteaudit.specs.declared.auditing.SiteAudit.{SiteAudit}
 
 -- ---- standings
 
--- those of the modules that aren't withheld
-abbrev pub remaining : List Text → List Module → List Module
+-- those of the candidates that aren't withheld
+abbrev pub remaining : List Text → List Candidate → List Candidate
 remaining without ms = filter (λ m. not (is_withheld without m.name)) ms
 
--- A module of a site, of whose candidates these remain, stands as the code says. The module that uses what it reads, and
--- the other module of a clash, have the name and the path that are given, and so many of those that remain and are in
--- step use the variable of the clash as the other does; one that clashes remains itself; one that is withheld is a
--- candidate in step; a refusal has its reason.
-abbrev pub StandsAs : Site → List Text → List Module → SiteModule → Standing → Type 0
-StandsAs site without ms m Certified = HasStanding site without ms m standings.Certified
-StandsAs site without ms m (Asks first) = HasStanding site without ms m (standings.Asks (question_view first))
-StandsAs site without ms m (OneWay first) = HasStanding site without ms m (standings.OneWay (record_view first))
-StandsAs site without ms m (ReadsUsed used) =
-    (other : Module) × (other.name ≡ string_bytes used.user_name) × (other.path ≡ string_bytes used.user_path)
-    × HasStanding site without ms m (standings.ReadsUsed (string_bytes used.variable) other)
+-- A module of a site, whose candidates these are, stands as the code says. The other module of a clash has the name and
+-- the path that are given, and so many of the candidates in step use the variable of the clash as the other does; one
+-- that clashes isn't withheld; one that is withheld is settled and in step; a refusal has its reason.
+abbrev pub StandsAs : Site → List Text → List Candidate → SiteModule → Standing → Type 0
+StandsAs site without ms m Certified = HasStanding site ms m standings.Certified
+StandsAs site without ms m (Asks first) = HasStanding site ms m (standings.Asks (question_view first))
+StandsAs site without ms m (OneWay first) = HasStanding site ms m (standings.OneWay (record_view first))
 StandsAs site without ms m (OutOfStep variable one other) =
-    HasStanding site without ms m (standings.OutOfStep (string_bytes variable) (use_view one) (use_view other))
-StandsAs site without ms m Withheld = (is_withheld without m.name ≡ true) × IsCandidateAnd site without m IsInStep
+    HasStanding site ms m (standings.OutOfStep (string_bytes variable) (use_view one) (use_view other))
+StandsAs site without ms m Withheld = (is_withheld without m.name ≡ true) × IsSettledAnd site m IsInStep
 StandsAs site without ms m (Clashes clash) =
     (is_withheld without m.name ≡ false)
-    × (other : Module) × (other.name ≡ string_bytes clash.other_name) × (other.path ≡ string_bytes clash.other_path)
+    × (other : Candidate) × (other.name ≡ string_bytes clash.other_name) × (other.path ≡ string_bytes clash.other_path)
     × (clash.alike ≡ users_alike (filter is_in_step ms) (string_bytes clash.variable) (use_view clash.theirs))
-    × HasStanding site without ms m
+    × HasStanding site ms m
     (standings.Clashes (string_bytes clash.variable) (use_view clash.own) (use_view clash.theirs) other)
 StandsAs site without ms m (Refused refusal) =
-    (reason : RequestReason) × (cause_of refusal ≡ because reason) × HasStanding site without ms m (standings.Refused reason)
+    (reason : RequestReason) × (cause_of refusal ≡ because reason) × HasStanding site ms m (standings.Refused reason)
 
 -- the module without its standing
 abbrev pub audited_file : AuditedModule → SiteModule
 audited_file m = record { name = string_bytes m.name; path = string_bytes m.path }
 
 -- each of them stands so
-abbrev pub AllStand : Site → List Text → List Module → List AuditedModule → Type 0
+abbrev pub AllStand : Site → List Text → List Candidate → List AuditedModule → Type 0
 AllStand site without ms [] = Unit {0}
 AllStand site without ms (m ∷ audited) =
     StandsAs site without ms (audited_file m) m.standing × AllStand site without ms audited
-
--- A module of these reads that stands as one of whose reads an eligible module uses one names the first such read, and the
--- first of the eligible modules that uses it.
-abbrev pub IsFirstRead : List Module → List Text → Standing → Type 0
-IsFirstRead eligible reads (ReadsUsed used) = IsUsedRead eligible reads used
-IsFirstRead eligible reads Certified = Unit {0}
-IsFirstRead eligible reads (Asks first) = Unit {0}
-IsFirstRead eligible reads (OneWay first) = Unit {0}
-IsFirstRead eligible reads (OutOfStep variable one other) = Unit {0}
-IsFirstRead eligible reads Withheld = Unit {0}
-IsFirstRead eligible reads (Clashes clash) = Unit {0}
-IsFirstRead eligible reads (Refused refusal) = Unit {0}
-
--- so does each of them
-abbrev pub AreFirstReads : List Module → List AuditedModule → Type 0
-AreFirstReads eligible [] = Unit {0}
-AreFirstReads eligible (m ∷ audited) =
-    IsFirstRead eligible (texts_in m.reads) m.standing × AreFirstReads eligible audited
 
 -- it stands as certified
 abbrev pub is_certified : Standing → Bool
 is_certified Certified = true
 is_certified (Asks first) = false
 is_certified (OneWay first) = false
-is_certified (ReadsUsed used) = false
 is_certified (OutOfStep variable one other) = false
 is_certified Withheld = false
 is_certified (Clashes clash) = false
@@ -219,72 +195,65 @@ out_of_step unlike = OutOfStep unlike.variable unlike.one unlike.other
 abbrev pub listed : {X : Type 0} → (X → Standing) → Option X → List Standing
 listed stands o = option_to_list (option_map stands o)
 
--- Whatever others do, a module of these runs stands in these ways, in their order, where these modules are the eligible
--- ones: its first question that doesn't keep its answer, its first record after which the start can't be back, the first
--- of its reads that an eligible module uses, and two of its uses of one variable that differ; each of them, if there is
--- one.
-pub record AreOwnStandings (eligible : List Module) (runs : FileRuns RequestReason) (standings : List Standing) : Type 0
-  where
-    pub question : Option Question
-    pub one_way : Option code.Record
-    pub used : Option UsedRead
-    pub unlike : Option UnlikeUses
-    pub asks : option_map question_view question
-        ≡ find (λ q. not (keeps_answer (are_runs_alike runs) runs.first.records q)) runs.first.asked
-    pub returns : option_map record_view one_way ≡ find (λ r. not (can_return r)) runs.first.records
-    pub reads : IsAnswer eligible (without_repeats (reads_in runs)) used
-    pub steps : MatchOption unlike (are_in_step (used_by runs.first.records) ≡ true) (AreUsedTwice runs.first.records)
-    pub all : standings ≡ listed Asks question ++ (listed OneWay one_way ++ (listed ReadsUsed used
-        ++ listed out_of_step unlike))
+-- Whatever others do, a module of these runs stands in these ways, in their order: its first question that doesn't keep
+-- its answer, its first record after which the start can't be back, and two of its uses of one variable that differ; each
+-- of them, if there is one.
+pub record AreOwnStandings (runs : FileRuns RequestReason) (standings : List Standing) : Type 0 where
+  pub question : Option Question
+  pub one_way : Option code.Record
+  pub unlike : Option UnlikeUses
+  pub asks : option_map question_view question
+      ≡ find (λ q. not (keeps_answer (are_runs_alike runs) runs.first.records q)) runs.first.asked
+  pub returns : option_map record_view one_way ≡ find (λ r. not (can_return r)) runs.first.records
+  pub steps : MatchOption unlike (are_in_step (uses_in runs) ≡ true) (AreUsedTwice (uses_in runs))
+  pub all : standings ≡ listed Asks question ++ (listed OneWay one_way ++ listed out_of_step unlike)
 
 -- A module that stands in these ways, whatever others do, stands in the first, and further in the others of them, and
 -- then by a clash with one that stays of the candidates. One that stands in none is a candidate in step, and stands in
 -- no further way.
-abbrev pub StandsFurther : List Module → Module → List Standing → List Standing → Type 0
+abbrev pub StandsFurther : List Candidate → Candidate → List Standing → List Standing → Type 0
 StandsFurther ms m [] further = further ≡ []
 StandsFurther ms m (first ∷ others) further =
     (clash : Option Clash) × clashes.IsAnswer ms m clash × (further ≡ others ++ listed Clashes clash)
 
--- the further standings of an evaluated module, by its first records; one whose evaluation is refused has none
-abbrev pub HasFurther : List Module → List Module → Evaluated → List Standing → Type 0
-HasFurther ms eligible (m, Ok runs) further =
-    (own : List Standing) × AreOwnStandings eligible runs own
-    × StandsFurther ms (with_records m runs.first.records) own further
-HasFurther ms eligible (m, Err reason) further = further ≡ []
+-- the further standings of an evaluated module, by its first records and its reads; one whose evaluation is refused has
+-- none
+abbrev pub HasFurther : List Candidate → Evaluated → List Standing → Type 0
+HasFurther ms (m, Ok runs) further =
+    (own : List Standing) × AreOwnStandings runs own × StandsFurther ms (candidate_of m runs) own further
+HasFurther ms (m, Err reason) further = further ≡ []
 
 -- each of them has these
-abbrev pub HaveFurther : List Module → List Module → List Evaluated → List AuditedModule → Type 0
-HaveFurther ms eligible [] [] = Unit {0}
-HaveFurther ms eligible [] (m ∷ audited) = ⊥
-HaveFurther ms eligible (outcome ∷ outcomes) [] = ⊥
-HaveFurther ms eligible (outcome ∷ outcomes) (m ∷ audited) =
-    HasFurther ms eligible outcome m.further.items × HaveFurther ms eligible outcomes audited
+abbrev pub HaveFurther : List Candidate → List Evaluated → List AuditedModule → Type 0
+HaveFurther ms [] [] = Unit {0}
+HaveFurther ms [] (m ∷ audited) = ⊥
+HaveFurther ms (outcome ∷ outcomes) [] = ⊥
+HaveFurther ms (outcome ∷ outcomes) (m ∷ audited) =
+    HasFurther ms outcome m.further.items × HaveFurther ms outcomes audited
 
 -- ---- the whole
 
 -- What was found is an audit of the site, where the modules that these names mean are withheld: a walk over it has these
 -- directories and these outcomes. It has each module of the walk, in its order, with the variables that its evaluations
--- read, each once, and how it stands, with the first of its reads that an eligible module uses, and how it stands further,
--- by its first records; the certificate of the candidates that remain, each use once; those of its directories that aren't
--- there, in their order; what the modules in turn add that hangs on modules that aren't settled; the default files above
--- each folder, which aren't read; the files in the places of modules that are no modulefiles; the bad default files of the
--- modules in turn, each once; the names in conflicts that mean no module, and the prereqs that name none that isn't
--- refused; and the reasons for which the environment at hand doesn't agree with the certificate, use after use.
+-- read, each once, and how it stands beside the candidates, which are the settled modules that remain, and how it stands
+-- further, by its first records and its reads; the certificate of the candidates, each use once; those of its directories
+-- that aren't there, in their order; what the modules in turn add that hangs on modules that aren't settled; the default
+-- files above each folder, which aren't read; the files in the places of modules that are no modulefiles; the bad default
+-- files of the modules in turn, each once; the names in conflicts that mean no module, and the prereqs that name none that
+-- isn't refused; and the reasons for which the environment at hand doesn't agree with the certificate, use after use.
 pub record IsAudit (site : Site) (without : List Text) (found : SiteAudit) : Type 0 where
   pub dirs : List Text
   pub outcomes : List Evaluated
   pub walk : IsWalk site dirs outcomes
-  pub candidates : AreCandidates site without (candidates_among without outcomes)
+  pub settled : AreSettledModules site (settled_among outcomes)
   pub modules : map audited_file found.modules.items ≡ map (λ outcome. outcome.0) outcomes
   pub reads : map (λ m. texts_in m.reads) found.modules.items ≡ map (λ o. without_repeats (reads_of o)) outcomes
-  pub standing : AllStand site without (remaining without (candidates_among without outcomes)) found.modules.items
-  pub used : AreFirstReads (eligible_among without outcomes) found.modules.items
+  pub standing : AllStand site without (remaining without (settled_among outcomes)) found.modules.items
   pub certificate : map used_view found.certificate.items
-      ≡ each_once (certificate (remaining without (candidates_among without outcomes)))
+      ≡ each_once (certificate (remaining without (settled_among outcomes)))
   pub missing_directories : texts_in found.missing_directories ≡ missing_among site.listings dirs
   pub hanging : map addition_of found.hanging_directories.items ≡ hanging_directories site outcomes
-  pub further : HaveFurther (filter is_in_step (remaining without (candidates_among without outcomes)))
-      (eligible_among without outcomes) outcomes found.modules.items
+  pub further : HaveFurther (filter is_in_step (remaining without (settled_among outcomes))) outcomes found.modules.items
   pub no_modulefiles : AreNoModulefiles site.files site.listings dirs (texts_in found.no_modulefiles)
   pub unread_default_files : texts_in found.unread_default_files ≡ unread_among site.listings dirs
   pub bad_default_files : AreBadDefaultFiles site.limits site.files site.listings (map (λ outcome. outcome.0) outcomes)
@@ -294,14 +263,13 @@ pub record IsAudit (site : Site) (without : List Text) (found : SiteAudit) : Typ
   pub disagreements : AreDisagreements (map used_view found.certificate.items) site.env
       (map disagreement_view found.disagreements.items)
 
--- What the certificate that was found promises of the site. These modules, with the records of their evaluations, are
--- those that stand as certified, and the certificate is what they use. Sessions that load only those of them with whose
--- uses the start agrees, and whose reads have in it the values of the audit, return to it: of the others nothing is
--- asked.
+-- What the certificate that was found promises of the site. These modules, with the records of their evaluations and what
+-- they read, are those that stand as certified, and the certificate is what they use and read. Sessions that load only
+-- those of them with whose uses the start agrees, and whose reads have in it the values of the audit, return to it: of the
+-- others nothing is asked.
 pub record CertificateStands (site : Site) (found : SiteAudit) : Type 0 where
-  pub certain : List Module
-  pub exact : map file_of certain ≡ certified_files found.modules.items
-  pub records : (m : Module) → IsAmong m certain → HasSettledRecords site (file_of m) m.records
-  pub uses : (p : UsedVariable) → IsAmong p (used_by_modules certain)
-      ↔ IsAmong p (map used_view found.certificate.items)
+  pub certain : List Candidate
+  pub exact : map candidate_file certain ≡ certified_files found.modules.items
+  pub settled : AreSettled site certain
+  pub uses : (p : UsedVariable) → IsAmong p (uses_of_all certain) ↔ IsAmong p (map used_view found.certificate.items)
   pub holds : CertificateHolds site certain

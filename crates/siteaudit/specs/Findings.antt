@@ -10,25 +10,24 @@ use Rattle.modulefile.specs.RecordViews.{record_view}
 use Rattle.modulerun.specs.declared.question.Question.{Question}
 use Rattle.modulefile.specs.Records.{Record}
 use Rattle.modulefile.specs.declared.records.Record as code
-use Rattle.modulefile.specs.Moves.{Module}
 use Rattle.reversal.specs.VariableUses.{Pathed, can_return, UsedVariable}
-use Rattle.modules.specs.MoveViews.{module_view}
 use Rattle.modules.specs.declared.refusal.Refusal.{Refusal}
-use Rattle.sitecertificate.specs.RecordUses.{used_by_modules, IsAmong, modulepath, same_use}
+use Rattle.sitecertificate.specs.RecordUses.{IsAmong, modulepath, is_read, same_use}
+use Rattle.sitecertificate.specs.Candidates.{Candidate, uses_of_all}
+use Rattle.sitecertificate.specs.CandidateViews.{candidate_view}
 use Rattle.sitecertificate.specs.UseViews.{use_view}
-use Rattle.sitereads.specs.declared.readers.UsedRead.{UsedRead}
-use Rattle.sitelaws.specs.Sites.{SiteModule, with_records, is_withheld}
+use Rattle.sitelaws.specs.Sites.{SiteModule, is_withheld}
 use Rattle.sitecertificate.specs.declared.answers.Clash.{Clash}
 use Rattle.sitecertificate.specs.ClashAnswers.{AreAnswers, without_clashes}
 use Rattle.sitecertificate.specs.EachOnce.{each_once}
 use Rattle.siteaudit.specs.declared.walk.EvaluatedFile.{EvaluatedFile}
 use Rattle.siteaudit.specs.declared.walk.Evaluation.{Evaluation}
 use Rattle.siteaudit.specs.Audits.{listed, out_of_step}
-use Rattle.siteaudit.specs.SettledRuns.{AreUsedReads, evaluated_file, eligible_module}
+use Rattle.siteaudit.specs.SettledRuns.{evaluated_file, read_by}
 use Rattle.siteaudit.specs.declared.unlike.UnlikeUses.{UnlikeUses}
 use Rattle.siteaudit.specs.declared.standing.Standing.{Standing}
 use Rattle.siteaudit.specs.declared.standing.Standing.TheVariants as ways
-use Rattle.siteaudit.specs.declared.standing.Standing.TheVariants.{Certified, Asks, OneWay, ReadsUsed, Withheld, Clashes}
+use Rattle.siteaudit.specs.declared.standing.Standing.TheVariants.{Certified, Asks, OneWay, Withheld, Clashes}
 use Rattle.siteaudit.specs.declared.standing.ModuleFinding.{ModuleFinding}
 use Rattle.siteaudit.specs.declared.standing.ModuleFinding.TheVariants.{Refused, Stands, InStep}
 use Rattle.siteaudit.specs.declared.judgement.OwnStanding.{OwnStanding}
@@ -39,20 +38,21 @@ use Rattle.siteaudit.specs.declared.auditing.AuditedModule.{AuditedModule}
 
 -- ---- one module
 
--- two of these uses are of one variable and differ, where the second may be that of MODULEPATH as a path with colons
+-- two of these uses are of one variable and differ, of which the second may be a read, or that of MODULEPATH as a path
+-- with colons
 pub record AreUnlike (ps : List UsedVariable) (unlike : UnlikeUses) : Type 0 where
   pub first : IsAmong (string_bytes unlike.variable, use_view unlike.one) ps
+  pub used : is_read (use_view unlike.one) ≡ false
   pub second : IsAmong (string_bytes unlike.variable, use_view unlike.other) ((modulepath, Pathed colon) ∷ ps)
   pub differ : same_use (use_view unlike.one) (use_view unlike.other) ≡ false
 
 -- Whatever others do, a module stands in these ways, in their order: by the first of its questions that doesn't keep its
--- answer, by its records, by the first of its reads that an eligible module uses, and by two of its uses that differ.
-pub record AreStandingsOf (unkept : Option Question) (rs : List Record) (used : Option UsedRead)
-    (unlike : Option UnlikeUses) (standings : List Standing) : Type 0 where
+-- answer, by its records, and by two of its uses that differ.
+pub record AreStandingsOf (unkept : Option Question) (rs : List Record) (unlike : Option UnlikeUses)
+    (standings : List Standing) : Type 0 where
   pub one_way : Option code.Record
   pub returns : option_map record_view one_way ≡ find (λ r. not (can_return r)) rs
-  pub all : standings ≡ listed Asks unkept ++ (listed OneWay one_way ++ (listed ReadsUsed used
-      ++ listed out_of_step unlike))
+  pub all : standings ≡ listed Asks unkept ++ (listed OneWay one_way ++ listed out_of_step unlike)
 
 -- A module with these records that stands in these ways shows the first of them, and the others; or that it is in step.
 abbrev pub IsFindingBy : List Standing → List Record → ModuleFinding → Type 0
@@ -62,15 +62,14 @@ IsFindingBy standings rs (Stands first further records) =
 IsFindingBy standings rs (InStep records) = (standings ≡ []) × (map record_view records.items ≡ rs)
 
 -- what a module with these records shows by itself, where its evaluation is accepted
-abbrev pub IsFindingOf : Option Question → List Record → Option UsedRead → Option UnlikeUses → ModuleFinding → Type 0
-IsFindingOf unkept rs used unlike finding =
-    (standings : List Standing) × AreStandingsOf unkept rs used unlike standings × IsFindingBy standings rs finding
+abbrev pub IsFindingOf : Option Question → List Record → Option UnlikeUses → ModuleFinding → Type 0
+IsFindingOf unkept rs unlike finding =
+    (standings : List Standing) × AreStandingsOf unkept rs unlike standings × IsFindingBy standings rs finding
 
--- what the outcome of its evaluations shows, and what it reads that an eligible module uses
-abbrev pub IsFinding : Result EvaluatedFile Refusal → Option UsedRead → ModuleFinding → Type 0
-IsFinding (Ok file) used finding =
-    IsFindingOf file.unkept (map record_view file.records.items) used file.unlike finding
-IsFinding (Err refusal) used finding = finding ≡ Refused refusal
+-- what the outcome of its evaluations shows
+abbrev pub IsFinding : Result EvaluatedFile Refusal → ModuleFinding → Type 0
+IsFinding (Ok file) finding = IsFindingOf file.unkept (map record_view file.records.items) file.unlike finding
+IsFinding (Err refusal) finding = finding ≡ Refused refusal
 
 -- how it stands by it, by whether it is withheld
 abbrev pub own_standing : Bool → ModuleFinding → OwnStanding
@@ -78,28 +77,32 @@ own_standing withheld (Refused refusal) = Decided (ways.Refused refusal)
 own_standing withheld (Stands first further records) = Besides first further
 own_standing withheld (InStep records) = if withheld then Decided Withheld else Open
 
--- the module with its records, where others decide
-abbrev pub steps_of : List Text → SiteModule → ModuleFinding → List Module
-steps_of without m (Refused refusal) = []
-steps_of without m (Stands first further records) = []
-steps_of without m (InStep records) =
-    if is_withheld without m.name then [] else with_records m (map record_view records.items) ∷ []
+-- the module with these records and these reads
+abbrev pub candidate_with : SiteModule → List Record → List Text → Candidate
+candidate_with m rs reads = record { name = m.name; path = m.path; records = rs; reads = reads }
 
--- the module with its first records, where it stands by itself
-abbrev pub aside_of : SiteModule → ModuleFinding → List Module
-aside_of m (Refused refusal) = []
-aside_of m (Stands first further records) = with_records m (map record_view records.items) ∷ []
-aside_of m (InStep records) = []
+-- the module with its records and its reads, where others decide
+abbrev pub steps_of : List Text → SiteModule → List Text → ModuleFinding → List Candidate
+steps_of without m reads (Refused refusal) = []
+steps_of without m reads (Stands first further records) = []
+steps_of without m reads (InStep records) =
+    if is_withheld without m.name then [] else candidate_with m (map record_view records.items) reads ∷ []
+
+-- the module with its first records and its reads, where it stands by itself
+abbrev pub aside_of : SiteModule → List Text → ModuleFinding → List Candidate
+aside_of m reads (Refused refusal) = []
+aside_of m reads (Stands first further records) = candidate_with m (map record_view records.items) reads ∷ []
+aside_of m reads (InStep records) = []
 
 -- ---- all modules
 
--- an evaluation, what of its reads an eligible module uses, and what it shows
+-- an evaluation, and what it shows
 abbrev pub Shown : Type 0
-Shown = Evaluation × Option UsedRead × ModuleFinding
+Shown = Evaluation × ModuleFinding
 
 -- what is kept of it, where the modules that these names mean are withheld
 abbrev pub judged_of : List Text → Shown → JudgedModule
-judged_of without (e, used, finding) =
+judged_of without (e, finding) =
     record {
       name = e.name;
       path = e.path;
@@ -108,56 +111,47 @@ judged_of without (e, used, finding) =
     }
 
 -- the module, where other modules decide how it stands
-abbrev pub steps_in : List Text → Shown → List Module
-steps_in without (e, used, finding) = steps_of without (evaluated_file e) finding
+abbrev pub steps_in : List Text → Shown → List Candidate
+steps_in without (e, finding) = steps_of without (evaluated_file e) (read_by e) finding
 
 -- the module, where it stands by itself
-abbrev pub aside_in : Shown → List Module
-aside_in (e, used, finding) = aside_of (evaluated_file e) finding
+abbrev pub aside_in : Shown → List Candidate
+aside_in (e, finding) = aside_of (evaluated_file e) (read_by e) finding
 
 -- what the evaluation shows is right
 abbrev pub IsShown : Shown → Type 0
-IsShown (e, used, finding) = IsFinding e.outcome used finding
+IsShown (e, finding) = IsFinding e.outcome finding
 
--- the first of some answers, if there is one, and those after it
-abbrev pub first_answer : {X : Type 0} → List (Option X) → Option X
-first_answer [] = None
-first_answer (answer ∷ answers) = answer
-
-abbrev pub later_answers : {X : Type 0} → List (Option X) → List (Option X)
-later_answers [] = []
-later_answers (answer ∷ answers) = answers
-
--- the answers for each of some evaluations, in their order
-abbrev pub reads_along : List Evaluation → List (Option UsedRead) → List (Option UsedRead)
-reads_along [] answers = []
-reads_along (e ∷ es) answers = first_answer answers ∷ reads_along es (later_answers answers)
-
--- Each module of some evaluations is judged by itself, in their order, by these answers of what it reads, where the
--- modules that these names mean are withheld; and these are the settled ones in step that aren't, and whose reads none
--- uses, and those that stand by themselves.
-pub record AreJudged (without : List Text) (evaluations : List Evaluation) (used : List (Option UsedRead))
-    (judged : List JudgedModule) (in_step aside : List Module) : Type 0 where
+-- Each module of some evaluations is judged by itself, in their order, where the modules that these names mean are
+-- withheld; and these are the settled ones in step that aren't, and those that stand by themselves.
+pub record AreJudged (without : List Text) (evaluations : List Evaluation) (judged : List JudgedModule)
+    (in_step aside : List Candidate) : Type 0 where
   pub shown : List Shown
   pub evaluated : map (λ s. s.0) shown ≡ evaluations
-  pub read : map (λ s. s.1) shown ≡ used
   pub right : AllByRecursion IsShown shown
   pub kept : judged ≡ map (judged_of without) shown
   pub steps : in_step ≡ flat_map (steps_in without) shown
   pub others : aside ≡ flat_map aside_in shown
 
 -- one module more is judged by itself
-pub record AddsJudged (without : List Text) (evaluation : Evaluation) (used : Option UsedRead) (old new : JudgedSite)
-    : Type 0 where
+pub record AddsJudged (without : List Text) (evaluation : Evaluation) (old new : JudgedSite) : Type 0 where
   pub finding : ModuleFinding
-  pub right : IsFinding evaluation.outcome used finding
-  pub kept : new.judged.items ≡ old.judged.items ++ judged_of without (evaluation, used, finding) ∷ []
-  pub steps : map module_view new.in_step.items
-      ≡ map module_view old.in_step.items ++ steps_in without (evaluation, used, finding)
-  pub others : map module_view new.aside.items
-      ≡ map module_view old.aside.items ++ aside_in (evaluation, used, finding)
+  pub right : IsFinding evaluation.outcome finding
+  pub kept : new.judged.items ≡ old.judged.items ++ judged_of without (evaluation, finding) ∷ []
+  pub steps : map candidate_view new.in_step.items
+      ≡ map candidate_view old.in_step.items ++ steps_in without (evaluation, finding)
+  pub others : map candidate_view new.aside.items ≡ map candidate_view old.aside.items ++ aside_in (evaluation, finding)
 
 -- ---- answers about clashes
+
+-- the first of some answers, if there is one, and those after it
+abbrev pub first_answer : List (Option Clash) → Option Clash
+first_answer [] = None
+first_answer (answer ∷ answers) = answer
+
+abbrev pub later_answers : List (Option Clash) → List (Option Clash)
+later_answers [] = []
+later_answers (answer ∷ answers) = answers
 
 -- by the answer of a module in step, how it stands
 abbrev pub standing_by : Option Clash → Standing
@@ -206,20 +200,18 @@ AreModulesWith (judged ∷ rest) answers beside (m ∷ modules) =
     IsModuleWith judged answers beside m
     × AreModulesWith rest (answers_left judged.standing answers) (beside_left judged.standing beside) modules
 
--- The modules of some evaluations stand so, and these are the uses of those that are certified, each once: by what each
--- shows by itself and reads, by the names of those that are withheld, and by what is answered of the clashes of those
--- that are settled and in step, and of those that stand by themselves with these.
+-- The modules of some evaluations stand so, and these are the uses and the reads of those that are certified, each once: by
+-- what each shows by itself, by the names of those that are withheld, and by what is answered of the clashes of those that
+-- are settled and in step, and of those that stand by themselves with these.
 pub record AreStandings (without : List Text) (evaluations : List Evaluation) (modules : List AuditedModule)
     (uses : List UsedVariable) : Type 0 where
-  pub used : List (Option UsedRead)
   pub judged : List JudgedModule
-  pub in_step : List Module
-  pub aside : List Module
+  pub in_step : List Candidate
+  pub aside : List Candidate
   pub answers : List (Option Clash)
   pub beside : List (Option Clash)
-  pub read : AreUsedReads (map (eligible_module without) evaluations) evaluations used
-  pub by_themselves : AreJudged without evaluations (reads_along evaluations used) judged in_step aside
+  pub by_themselves : AreJudged without evaluations judged in_step aside
   pub answered : AreAnswers in_step in_step answers
   pub answered_beside : AreAnswers in_step aside beside
   pub standings : AreModulesWith judged answers beside modules
-  pub certified : uses ≡ each_once (used_by_modules (without_clashes in_step answers))
+  pub certified : uses ≡ each_once (uses_of_all (without_clashes in_step answers))

@@ -1,18 +1,14 @@
--- The evaluations of settled modules, and of eligible ones among them, by what the code has of them: for this crate's own
--- contracts alone.
-use Rattle.std.specs.Prelude.{◌≡◌, Bool, true, false, not, ◌&&◌, List, [], ◌∷◌, map, if◌then◌else◌, is_none, Option, Some}
+-- The evaluations of settled modules, by what the code has of them: for this crate's own contracts alone.
+use Rattle.std.specs.Prelude.{◌≡◌, Bool, true, false, ◌&&◌, List, [], map, if◌then◌else◌, is_none, Option, Some}
 use Rattle.std.specs.Prelude.{None, Result, Ok, Err, string_bytes}
 use Rattle.std.specs.List.{list_all}
 use Rattle.std.specs.Borrow.{Bor}
 use Rattle.envvars.specs.Texts.{Text, texts_in}
 use Rattle.modulefile.specs.Records.{Record}
 use Rattle.modulefile.specs.RecordViews.{record_view}
-use Rattle.modulefile.specs.Moves.{Module}
 use Rattle.modules.specs.declared.refusal.Refusal.{Refusal}
 use Rattle.reversal.specs.VariableUses.{can_return}
-use Rattle.sitereads.specs.Answers.{IsAnswer}
-use Rattle.sitereads.specs.declared.readers.UsedRead.{UsedRead}
-use Rattle.sitelaws.specs.Sites.{SiteModule, with_records, added_directories, is_withheld}
+use Rattle.sitelaws.specs.Sites.{SiteModule, added_directories}
 use Rattle.siteaudit.specs.declared.walk.EvaluatedFile.{EvaluatedFile}
 use Rattle.siteaudit.specs.declared.walk.Evaluation.{Evaluation}
 
@@ -31,16 +27,6 @@ abbrev pub settled_records : Result EvaluatedFile Refusal → List Record
 settled_records (Ok file) = if is_settled_file file then map record_view file.records.items else []
 settled_records (Err refusal) = []
 
--- the file of a module of this name is that of an eligible one, by the names of those that are withheld
-abbrev pub is_eligible_file : List Text → Text → EvaluatedFile → Bool
-is_eligible_file without name file = is_settled_file file && (is_none file.unlike && not (is_withheld without name))
-
--- the records of a module whose evaluations show this, where it is eligible
-abbrev pub eligible_records : List Text → Text → Result EvaluatedFile Refusal → List Record
-eligible_records without name (Ok file) =
-    if is_eligible_file without name file then map record_view file.records.items else []
-eligible_records without name (Err refusal) = []
-
 -- the directories that it adds, by its first records
 abbrev pub directories_after : Result EvaluatedFile Refusal → List Text
 directories_after (Ok file) = added_directories (map record_view file.records.items)
@@ -53,14 +39,3 @@ evaluated_file e = record { name = string_bytes e.name; path = string_bytes e.pa
 -- the variables that its evaluations read
 abbrev pub read_by : Evaluation → List Text
 read_by e = texts_in e.reads
-
--- the module with its records, where it is eligible, and else with none
-abbrev pub eligible_module : List Text → Evaluation → Module
-eligible_module without e = with_records (evaluated_file e) (eligible_records without (string_bytes e.name) e.outcome)
-
--- an answer for each evaluation, in their order: which of the variables that its module reads one of these modules uses
-abbrev pub AreUsedReads : List Module → List Evaluation → List (Option UsedRead) → Type 0
-AreUsedReads ms [] [] = Unit {0}
-AreUsedReads ms [] (answer ∷ answers) = ⊥
-AreUsedReads ms (e ∷ es) [] = ⊥
-AreUsedReads ms (e ∷ es) (answer ∷ answers) = IsAnswer ms (read_by e) answer × AreUsedReads ms es answers

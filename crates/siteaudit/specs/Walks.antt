@@ -1,6 +1,6 @@
 -- What a walk over a site answers (own).
-use Rattle.std.specs.Prelude.{◌≡◌, ℕ, ◌<◌, ◌≤◌, true, not, List, [], ◌∷◌, ◌++◌, length, map, flat_map, find}
-use Rattle.std.specs.Prelude.{None, Result, Ok, Err, MatchOption, string_bytes}
+use Rattle.std.specs.Prelude.{◌≡◌, ℕ, ◌<◌, ◌≤◌, Bool, true, not, if◌then◌else◌, List, [], ◌∷◌, ◌++◌, length, map}
+use Rattle.std.specs.Prelude.{flat_map, find, None, Result, Ok, Err, MatchOption, string_bytes}
 use Rattle.std.specs.Option.{option_map}
 use Rattle.envvars.specs.Texts.{Text, texts_in}
 use Rattle.envvars.specs.Fields.{without_repeats, are_distinct}
@@ -13,12 +13,15 @@ use Rattle.filetree.specs.Causes.{Applies, because}
 use Rattle.modulefile.specs.Records.{Record}
 use Rattle.modulefile.specs.RecordViews.{record_view}
 use Rattle.modulerun.specs.Questions.{question_view}
-use Rattle.settled.specs.Ways.{FileRuns, are_runs_alike, keeps_answer}
+use Rattle.settled.specs.Ways.{FileRuns, are_runs_alike, keeps_answer, keep_answers, reads_in}
 use Rattle.modulefile.specs.Judgments.{bad_edit}
 use Rattle.requests.specs.Reasons.{RequestReason, refused_edit}
 use Rattle.modules.specs.Answers.{cause_of}
 use Rattle.modules.specs.declared.refusal.Refusal.{Refusal}
-use Rattle.sitecertificate.specs.RecordUses.{IsAmong, used_by, are_in_step}
+use Rattle.reversal.specs.VariableUses.{UsedVariable}
+use Rattle.sitecertificate.specs.RecordUses.{IsAmong, used_by}
+use Rattle.sitecertificate.specs.Candidates.{read_of}
+use Rattle.sitecertificate.specs.Steps.{are_in_step}
 use Rattle.sitecertificate.specs.UseViews.{use_view}
 use Rattle.sitelaws.specs.Sites.{Site, Evaluated, EvaluatesTo, first_directories, added_directories}
 use Rattle.sitelaws.specs.Sites.{reads_of}
@@ -53,18 +56,29 @@ pub record IsWalk (site : Site) (dirs : List Text) (outcomes : List Evaluated) :
 
 -- ---- what the code has for them
 
--- the records use the variable in these two ways
-abbrev pub AreUsedTwice : List Record → UnlikeUses → Type 0
-AreUsedTwice rs unlike = IsUsedTwice rs (string_bytes unlike.variable) (use_view unlike.one) (use_view unlike.other)
+-- what a module with these records and these reads uses
+abbrev pub uses_by : List Record → List Text → List UsedVariable
+uses_by rs reads = used_by rs ++ map read_of reads
+
+-- The same, without the reads where a question doesn't keep its answer: what a file reads and uses is such a question.
+abbrev pub uses_told : List Record → Bool → List Text → List UsedVariable
+uses_told rs kept reads = uses_by rs (if kept then reads else [])
+
+-- so for these evaluations
+abbrev pub uses_in : FileRuns RequestReason → List UsedVariable
+uses_in runs = uses_told runs.first.records (keep_answers runs) (without_repeats (reads_in runs))
+
+-- these uses are of the variable in these two ways
+abbrev pub AreUsedTwice : List UsedVariable → UnlikeUses → Type 0
+AreUsedTwice ps unlike = IsUsedTwice ps (string_bytes unlike.variable) (use_view unlike.one) (use_view unlike.other)
 
 -- What the code has of the evaluations of a file is of these: the records of the first, the first of its questions that
--- doesn't keep its answer, and two ways in which the records use one variable, unless they are in step.
+-- doesn't keep its answer, and two ways in which the file uses one variable, unless it is in step.
 pub record IsOfRuns (file : EvaluatedFile) (runs : FileRuns RequestReason) : Type 0 where
   pub records : map record_view file.records.items ≡ runs.first.records
   pub unkept : option_map question_view file.unkept
       ≡ find (λ q. not (keeps_answer (are_runs_alike runs) runs.first.records q)) runs.first.asked
-  pub unlike : MatchOption file.unlike (are_in_step (used_by runs.first.records) ≡ true)
-      (AreUsedTwice runs.first.records)
+  pub unlike : MatchOption file.unlike (are_in_step (uses_in runs) ≡ true) (AreUsedTwice (uses_in runs))
 
 -- It stands for their outcome: for what they leave, or the reason of the refusal.
 abbrev pub IsOutcome : Result EvaluatedFile Refusal → Result (FileRuns RequestReason) RequestReason → Type 0

@@ -74,7 +74,7 @@ pub struct UnknownNames {
 pub struct SiteAudit {
     /// Each module, in the order of the directories and of `avail`.
     pub modules: Vec<AuditedModule>,
-    /// What the certified modules use.
+    /// What the certified modules use and read, each use once.
     pub certificate: Vec<UsedVariable>,
     /// The directories of the site that aren't there, in the order of the walk.
     pub missing_directories: Vec<String>,

@@ -2,24 +2,21 @@
 ghost use Rattle.std.specs.Prelude.{◌≡◌, ◌++◌, map, string_bytes, IfOk, OnOk};
 ghost use Rattle.std.specs.Vec.Iter.{into_iter_items};
 ghost use Rattle.modulefile.specs.RecordViews.{record_view};
-ghost use Rattle.modules.specs.MoveViews.{module_view};
 ghost use Rattle.sitelaws.specs.Sites as sites;
-ghost use Rattle.sitelaws.specs.Sites.{with_records};
+ghost use Rattle.sitecertificate.specs.CandidateViews.{candidate_view};
 ghost use Rattle.sitecertificate.specs.UseViews.{used_view};
 ghost use Rattle.siteaudit.specs.Findings as findings;
 ghost use Rattle.siteaudit.specs.Findings.{own_standing, steps_of, aside_of, AddsJudged, AreJudged, AreStandings};
 ghost use Rattle.siteaudit.specs.Findings.{answers_left, beside_left, further_with, IsModuleWith, AreModulesWith};
-ghost use Rattle.siteaudit.specs.Findings.{first_answer, later_answers, reads_along};
+ghost use Rattle.siteaudit.specs.Findings.{candidate_with, first_answer, later_answers};
 
 use crate::auditing::AuditedModule;
-use crate::eligible::is_withheld;
-use crate::reads::used_in;
 use crate::standing::{ModuleFinding, Standing, judge, push_standing};
 use crate::walk::Evaluation;
+use crate::withheld::is_withheld;
+use message::texts::copies;
 use modulefile::Record;
-use modules::Module;
-use sitecertificate::{Clash, FoundClashes, UsedVariable, clashes};
-use sitereads::UsedRead;
+use sitecertificate::{Candidate, Clash, FoundClashes, UsedVariable, clashes};
 use std::alloc::{AllocError, Global};
 use std::vec::IntoIter;
 
@@ -50,26 +47,29 @@ pub(crate) struct JudgedModule {
 pub(crate) struct JudgedSite {
     /// All of them, in their order.
     pub(crate) judged: Vec<JudgedModule>,
-    /// The eligible ones whose reads none of them uses, in the same order.
-    pub(crate) in_step: Vec<Module>,
-    /// Those that stand by themselves and may clash besides, with their first records, in the same order.
-    pub(crate) aside: Vec<Module>,
+    /// The settled ones that are in step and aren't withheld, with what they read, in the same order.
+    pub(crate) in_step: Vec<Candidate>,
+    /// Those that stand by themselves and may clash besides, with their first records and what they read, in the same
+    /// order.
+    pub(crate) aside: Vec<Candidate>,
 }
 
-/// The module with these records.
-fn module_of(
+/// The module with these records, and with what it reads.
+fn candidate_of(
     alloc: Global,
     name: &str,
     path: &str,
     records: Vec<Record>,
-) -> Result<Module, AllocError>
-    ensures { IfOk result (λ found. module_view found
-        ≡ with_records (record { name = name.now; path = path.now }) (map record_view records.items)) }
+    reads: &[String],
+) -> Result<Candidate, AllocError>
+    ensures { IfOk result (λ found. candidate_view found ≡ candidate_with (record { name = name.now; path = path.now })
+        (map record_view records.items) (map string_bytes reads.now)) }
 {
-    Ok(Module {
+    Ok(Candidate {
         name: String::from_str(alloc, name)?,
         path: String::from_str(alloc, path)?,
         records,
+        reads: copies(alloc, reads)?,
     })
 }
 
@@ -79,36 +79,38 @@ fn sort_out(
     alloc: Global,
     name: &str,
     path: &str,
+    reads: &[String],
     finding: ModuleFinding,
     without: &[String],
-    in_step: &mut Vec<Module>,
-    aside: &mut Vec<Module>,
+    in_step: &mut Vec<Candidate>,
+    aside: &mut Vec<Candidate>,
 ) -> Result<OwnStanding, AllocError>
     ensures standing { IfOk result (λ standing.
         standing ≡ own_standing (sites.is_withheld (map string_bytes without.now) name.now) finding) }
-    ensures steps { OnOk result (map module_view in_step.new.items ≡ map module_view in_step.old.items
-        ++ steps_of (map string_bytes without.now) (record { name = name.now; path = path.now }) finding) }
-    ensures others { OnOk result (map module_view aside.new.items ≡ map module_view aside.old.items
-        ++ aside_of (record { name = name.now; path = path.now }) finding) }
+    ensures steps { OnOk result (map candidate_view in_step.new.items ≡ map candidate_view in_step.old.items
+        ++ steps_of (map string_bytes without.now) (record { name = name.now; path = path.now })
+        (map string_bytes reads.now) finding) }
+    ensures others { OnOk result (map candidate_view aside.new.items ≡ map candidate_view aside.old.items
+        ++ aside_of (record { name = name.now; path = path.now }) (map string_bytes reads.now) finding) }
 {
     match finding {
         ModuleFinding::Refused(refusal) => Ok(OwnStanding::Decided(Standing::Refused(refusal))),
         ModuleFinding::Stands(first, further, records) => {
-            aside.push(module_of(alloc, name, path, records)?)?;
+            aside.push(candidate_of(alloc, name, path, records, reads)?)?;
             Ok(OwnStanding::Besides(first, further))
         }
         ModuleFinding::InStep(records) => {
             if is_withheld(without, name) {
                 return Ok(OwnStanding::Decided(Standing::Withheld));
             }
-            in_step.push(module_of(alloc, name, path, records)?)?;
+            in_step.push(candidate_of(alloc, name, path, records, reads)?)?;
             Ok(OwnStanding::Open)
         }
     }
 }
 
 /// The next of some answers; `None` where it is that or none is left.
-fn next_answer<T: Drop>(answers: &mut IntoIter<Option<T>>) -> Option<T>
+fn next_answer(answers: &mut IntoIter<Option<Clash>>) -> Option<Clash>
     ensures answer { result ≡ first_answer (into_iter_items answers.old) }
     ensures left { into_iter_items answers.new ≡ later_answers (into_iter_items answers.old) }
 {
@@ -118,16 +120,14 @@ fn next_answer<T: Drop>(answers: &mut IntoIter<Option<T>>) -> Option<T>
     }
 }
 
-/// Judges one module more by itself, of whose reads an eligible module uses this, where the modules that these names mean
-/// are withheld.
+/// Judges one module more by itself, where the modules that these names mean are withheld.
 fn judge_next(
     alloc: Global,
     evaluation: Evaluation,
-    used: Option<UsedRead>,
     without: &[String],
     judgement: &mut JudgedSite,
 ) -> Result<(), AllocError>
-    ensures { OnOk result (AddsJudged (map string_bytes without.now) evaluation used judgement.old judgement.new) }
+    ensures { OnOk result (AddsJudged (map string_bytes without.now) evaluation judgement.old judgement.new) }
 {
     let Evaluation {
         name,
@@ -135,11 +135,12 @@ fn judge_next(
         outcome,
         reads,
     } = evaluation;
-    let finding = judge(alloc, outcome, used)?;
+    let finding = judge(alloc, outcome)?;
     let standing = sort_out(
         alloc,
         name.as_str(),
         path.as_str(),
+        reads.as_slice(),
         finding,
         without,
         &mut judgement.in_step,
@@ -154,27 +155,23 @@ fn judge_next(
     Ok(())
 }
 
-/// Judges each module by itself, of whose reads eligible modules use these, where the modules that these names mean are
-/// withheld.
+/// Judges each module by itself, where the modules that these names mean are withheld.
 pub(crate) fn judge_all(
     alloc: Global,
     evaluations: Vec<Evaluation>,
-    used: Vec<Option<UsedRead>>,
     without: &[String],
 ) -> Result<JudgedSite, AllocError>
     ensures { IfOk result (λ judgement. AreJudged (map string_bytes without.now) evaluations.items
-        (reads_along evaluations.items used.items) judgement.judged.items (map module_view judgement.in_step.items)
-        (map module_view judgement.aside.items)) }
+        judgement.judged.items (map candidate_view judgement.in_step.items)
+        (map candidate_view judgement.aside.items)) }
 {
-    let mut used = used.into_iter();
     let mut judgement = JudgedSite {
         judged: Vec::new(alloc),
         in_step: Vec::new(alloc),
         aside: Vec::new(alloc),
     };
     for evaluation in evaluations {
-        let read = next_answer(&mut used);
-        judge_next(alloc, evaluation, read, without, &mut judgement)?;
+        judge_next(alloc, evaluation, without, &mut judgement)?;
     }
     Ok(judgement)
 }
@@ -275,15 +272,15 @@ pub(crate) fn modules_with(
     Ok(modules)
 }
 
-/// How the modules of a site stand, and what the certified ones use.
+/// How the modules of a site stand, and what the certified ones use and read.
 #[derive(Drop)]
 pub(crate) struct SiteStandings {
     pub(crate) modules: Vec<AuditedModule>,
     pub(crate) certificate: Vec<UsedVariable>,
 }
 
-/// Judges the modules of a site: each by itself and by what it reads, and those that are settled and in step, but for
-/// those that these names mean, by their clashes; those that stand by themselves by clashes with these as well.
+/// Judges the modules of a site: each by itself, and those that are settled and in step, but for those that these names
+/// mean, by their clashes; those that stand by themselves by clashes with these as well.
 pub(crate) fn judge_modules(
     alloc: Global,
     evaluations: Vec<Evaluation>,
@@ -292,12 +289,11 @@ pub(crate) fn judge_modules(
     ensures { IfOk result (λ found. AreStandings (map string_bytes without.now) evaluations.items found.modules.items
         (map used_view found.certificate.items)) }
 {
-    let used = used_in(alloc, evaluations.as_slice(), without)?;
     let JudgedSite {
         judged,
         in_step,
         aside,
-    } = judge_all(alloc, evaluations, used, without)?;
+    } = judge_all(alloc, evaluations, without)?;
     let FoundClashes {
         answers,
         unclashed_uses,

@@ -1,6 +1,6 @@
 //! The evaluations of a script: the first, for loading in sh with nothing loaded, and those in the other ways that it asks
 //! for.
-ghost use Rattle.std.specs.Prelude.{◌≡◌, true, ◌++◌, find, not, map, string_bytes, IfOk, IfErr, OnOk, MatchOption};
+ghost use Rattle.std.specs.Prelude.{◌≡◌, true, ◌++◌, find, not, map, is_none, string_bytes, IfOk, IfErr, OnOk, MatchOption};
 ghost use Rattle.std.specs.Option.{option_map};
 ghost use Rattle.envvars.specs.Texts.{texts_in};
 ghost use Rattle.envvars.specs.Fields.{without_repeats};
@@ -10,7 +10,8 @@ ghost use Rattle.settled.specs.Resting as resting;
 ghost use Rattle.settled.specs.Ways as spec;
 ghost use Rattle.settled.specs.Ways.{keeps_answer};
 ghost use Rattle.settled.specs.WayViews.{way_view};
-ghost use Rattle.sitecertificate.specs.RecordUses.{used_by, are_in_step};
+ghost use Rattle.sitecertificate.specs.Steps.{are_in_step};
+ghost use Rattle.siteaudit.specs.Walks.{uses_told};
 ghost use Rattle.siteaudit.specs.Findings.{AreUnlike};
 ghost use Rattle.siteaudit.specs.WalkParts.{site_context, ComesTo, GivesUp, ScriptRuns, ShowsOne, ShowsAll, ShowsScript};
 
@@ -139,20 +140,27 @@ fn run_others(
     Ok(alike)
 }
 
-/// What is kept of the first evaluation of a file, where the others are like it or not.
-fn file_of(alloc: Global, alike: bool, ran: FileRun) -> Result<EvaluatedFile, AllocError>
+/// What is kept of the first evaluation of a file that reads these variables, where the others are like it or not.
+fn file_of(
+    alloc: Global,
+    alike: bool,
+    ran: FileRun,
+    reads: &[String],
+) -> Result<EvaluatedFile, AllocError>
     ensures records { IfOk result (λ file. file.records ≡ ran.records) }
     ensures unkept { IfOk result (λ file. option_map question_view file.unkept ≡ find (λ q. not (keeps_answer alike
         (map record_view ran.records.items) q)) (questions_in ran.asked.items)) }
     ensures unlike { IfOk result (λ file. MatchOption file.unlike
-        (are_in_step (used_by (map record_view ran.records.items)) ≡ true)
-        (AreUnlike (used_by (map record_view ran.records.items)))) }
+        (are_in_step (uses_told (map record_view ran.records.items) (is_none file.unkept)
+        (map string_bytes reads.now)) ≡ true)
+        (AreUnlike (uses_told (map record_view ran.records.items) (is_none file.unkept)
+        (map string_bytes reads.now)))) }
 {
     let place = first_unkept(alloc, alike, &ran)?;
     let FileRun { records, asked, .. } = ran;
-    let unlike = unlike_in(alloc, records.as_slice())?;
     match place {
         Some(place) => {
+            let unlike = unlike_in(alloc, records.as_slice(), &[])?;
             let mut asked = asked;
             let unkept = Some(asked.swap_remove(place));
             Ok(EvaluatedFile {
@@ -161,11 +169,14 @@ fn file_of(alloc: Global, alike: bool, ran: FileRun) -> Result<EvaluatedFile, Al
                 unlike,
             })
         }
-        None => Ok(EvaluatedFile {
-            records,
-            unkept: None,
-            unlike,
-        }),
+        None => {
+            let unlike = unlike_in(alloc, records.as_slice(), reads)?;
+            Ok(EvaluatedFile {
+                records,
+                unkept: None,
+                unlike,
+            })
+        }
     }
 }
 
@@ -194,8 +205,9 @@ pub(crate) fn evaluate_script(
     let ways = other_ways(alloc, first.asked.as_slice())?;
     let alike = run_others(settings, script, &first, ways.as_slice(), &mut reads)?;
     let few = are_few(alloc, first.asked.as_slice())?;
+    let reads = once_each(alloc, reads.as_slice())?;
     Ok(FileEvaluation {
-        file: file_of(alloc, few & alike, first)?,
-        reads: once_each(alloc, reads.as_slice())?,
+        file: file_of(alloc, few & alike, first, reads.as_slice())?,
+        reads,
     })
 }

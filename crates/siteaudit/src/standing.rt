@@ -14,7 +14,6 @@ use modulerun::Question;
 use modules::Refusal;
 use settled::can_return;
 use sitecertificate::{Clash, VariableUse};
-use sitereads::UsedRead;
 use std::alloc::{AllocError, Global};
 
 /// How a module of a site stands.
@@ -27,11 +26,8 @@ pub enum Standing {
     Asks(Question),
     /// Each question keeps its answer, and this is the first of its records after which the start can't be back.
     OneWay(Record),
-    /// It is settled, and reads a variable that an eligible module uses: one that is settled and in step and isn't
-    /// withheld.
-    ReadsUsed(UsedRead),
-    /// It is settled, and uses the variable in these two ways; or the variable is MODULEPATH, and the second way is
-    /// that of a path with colons.
+    /// It is settled, and uses the variable in these two ways, of which the second may be a read; or the variable is
+    /// MODULEPATH, and the second way is that of a path with colons.
     OutOfStep {
         variable: String,
         one: VariableUse,
@@ -125,23 +121,21 @@ pub(crate) fn push_standing(
     Ok(())
 }
 
-/// How a module with these records stands by itself, in each way in which it does, where it asks this, an eligible module
-/// uses this of its reads, and it uses a variable in these two ways.
+/// How a module with these records stands by itself, in each way in which it does, where it asks this, and uses a variable
+/// in these two ways.
 fn standings_of(
     alloc: Global,
     records: &[Record],
     unkept: Option<Question>,
-    used: Option<UsedRead>,
     unlike: Option<UnlikeUses>,
 ) -> Result<Vec<Standing>, AllocError>
     ensures { IfOk result (λ standings.
-        AreStandingsOf unkept (map record_view records.now) used unlike standings.items) }
+        AreStandingsOf unkept (map record_view records.now) unlike standings.items) }
 {
     let one_way = one_way_in(alloc, records)?;
     let mut standings = Vec::new(alloc);
     push_standing(&mut standings, unkept.map(Standing::Asks))?;
     push_standing(&mut standings, one_way.map(Standing::OneWay))?;
-    push_standing(&mut standings, used.map(Standing::ReadsUsed))?;
     push_standing(&mut standings, unlike.map(out_of_step))?;
     Ok(standings)
 }
@@ -159,32 +153,27 @@ fn finding_by(standings: Vec<Standing>, records: Vec<Record>) -> ModuleFinding
 }
 
 /// What a module shows by itself, whose evaluation is accepted.
-fn judge_file(
-    alloc: Global,
-    file: EvaluatedFile,
-    used: Option<UsedRead>,
-) -> Result<ModuleFinding, AllocError>
-    ensures { IfOk result (IsFindingOf file.unkept (map record_view file.records.items) used file.unlike) }
+fn judge_file(alloc: Global, file: EvaluatedFile) -> Result<ModuleFinding, AllocError>
+    ensures { IfOk result (IsFindingOf file.unkept (map record_view file.records.items) file.unlike) }
 {
     let EvaluatedFile {
         records,
         unkept,
         unlike,
     } = file;
-    let standings = standings_of(alloc, records.as_slice(), unkept, used, unlike)?;
+    let standings = standings_of(alloc, records.as_slice(), unkept, unlike)?;
     Ok(finding_by(standings, records))
 }
 
-/// What a module shows by itself, by the outcome of its evaluations, and by what it reads that an eligible module uses.
+/// What a module shows by itself, by the outcome of its evaluations.
 pub(crate) fn judge(
     alloc: Global,
     outcome: Result<EvaluatedFile, Refusal>,
-    used: Option<UsedRead>,
 ) -> Result<ModuleFinding, AllocError>
-    ensures { IfOk result (IsFinding outcome used) }
+    ensures { IfOk result (IsFinding outcome) }
 {
     match outcome {
-        Ok(file) => judge_file(alloc, file, used),
+        Ok(file) => judge_file(alloc, file),
         Err(refusal) => Ok(ModuleFinding::Refused(refusal)),
     }
 }

@@ -4,13 +4,14 @@ ghost use Rattle.std.specs.Option.{option_map};
 ghost use Rattle.envvars.specs.Fields.{colon};
 ghost use Rattle.modulefile.specs.RecordViews.{record_view};
 ghost use Rattle.reversal.specs.VariableUses as variable_uses;
-ghost use Rattle.sitecertificate.specs.RecordUses as uses;
-ghost use Rattle.sitecertificate.specs.RecordUses.{use_alike, are_in_step, modulepath};
+ghost use Rattle.sitecertificate.specs.RecordUses.{use_alike, modulepath};
+ghost use Rattle.sitecertificate.specs.Steps.{are_in_step};
 ghost use Rattle.sitecertificate.specs.UseViews.{use_view, used_view};
+ghost use Rattle.siteaudit.specs.Walks.{uses_by};
 ghost use Rattle.siteaudit.specs.Findings.{AreUnlike};
 
 use modulefile::{Delimiter, Record};
-use sitecertificate::{UsedVariable, VariableUse, first_unlike, used_by};
+use sitecertificate::{UsedVariable, VariableUse, first_unlike, uses_of};
 use std::alloc::{AllocError, Global};
 
 /// Two uses of one variable that differ.
@@ -81,12 +82,16 @@ fn unlike_uses(alloc: Global, used: &[UsedVariable]) -> Result<Option<UnlikeUses
     Ok(None)
 }
 
-/// The same of what the records of a module use.
-pub(crate) fn unlike_in(alloc: Global, records: &[Record]) -> Result<Option<UnlikeUses>, AllocError>
+/// The same of what a module with these records and these reads uses.
+pub(crate) fn unlike_in(
+    alloc: Global,
+    records: &[Record],
+    reads: &[String],
+) -> Result<Option<UnlikeUses>, AllocError>
     ensures { IfOk result (λ found. MatchOption found
-        (are_in_step (uses.used_by (map record_view records.now)) ≡ true)
-        (AreUnlike (uses.used_by (map record_view records.now)))) }
+        (are_in_step (uses_by (map record_view records.now) (map string_bytes reads.now)) ≡ true)
+        (AreUnlike (uses_by (map record_view records.now) (map string_bytes reads.now)))) }
 {
-    let used = used_by(alloc, records)?;
+    let used = uses_of(alloc, records, reads)?;
     unlike_uses(alloc, used.as_slice())
 }

@@ -38,8 +38,8 @@ pub struct EvaluatedFile {
     pub records: Vec<Record>,
     /// The first question of the first that doesn't keep its answer.
     pub unkept: Option<Question>,
-    /// Two ways in which the records use one variable, or MODULEPATH otherwise than as a path with colons; `None` where
-    /// they are in step.
+    /// Two ways in which the file uses one variable, of which the second may be a read where each question keeps its
+    /// answer; or MODULEPATH otherwise than as a path with colons; `None` where it is in step.
     pub unlike: Option<UnlikeUses>,
 }
 

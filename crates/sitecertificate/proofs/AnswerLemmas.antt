@@ -9,10 +9,10 @@ use Rattle.std.proofs.lemmas.Grind.{flat_map-append}
 use Rattle.envvars.specs.Texts.{Text}
 use Rattle.envvars.proofs.TextLemmas.{same_text}
 use Rattle.envvars.proofs.EditLemmas.{both_true, and_both}
-use Rattle.modulefile.specs.Moves.{Module}
+use Rattle.sitecertificate.specs.Candidates.{Candidate, uses_of}
 use Rattle.reversal.specs.VariableUses.{VariableUse, UsedVariable}
-use Rattle.sitecertificate.specs.RecordUses.{used_by, IsAmong}
-use Rattle.sitecertificate.specs.Clashes.{is_other, exclude, uses_clash, do_clash}
+use Rattle.sitecertificate.specs.RecordUses.{IsAmong}
+use Rattle.sitecertificate.specs.Clashes.{is_other, are_kept_apart, uses_clash, do_clash}
 use Rattle.sitecertificate.specs.UseViews.{use_view, used_view}
 use Rattle.sitecertificate.specs.declared.uses.UsedVariable as code
 use Rattle.sitecertificate.proofs.UsedLemmas.{by_test, by_cases, among_left, among_right, among_either}
@@ -61,17 +61,17 @@ map_through {X} {Y} {Z} f g (x ∷ xs) = ap (λ (l : List Z). f (g x) ∷ l) (ma
 
 -- what a module uses, as the code has computed it
 
-abbrev pub IsExact : Module → List code.UsedVariable → Type 0
-IsExact m ps = map used_view ps ≡ each_once (used_by m.records)
+abbrev pub IsExact : Candidate → List code.UsedVariable → Type 0
+IsExact m ps = map used_view ps ≡ each_once (uses_of m)
 
-uses_exact : (m : Module) (ps : List code.UsedVariable) → IsExact m ps → map (use_of m) ps ≡ uses_of_module m
+uses_exact : (m : Candidate) (ps : List code.UsedVariable) → IsExact m ps → map (use_of m) ps ≡ uses_of_module m
 uses_exact m ps e = map_through (λ (p : UsedVariable). record { owner = m; used = p }) used_view ps ∙ ap (map (λ (p : UsedVariable). record { owner = m; used = p })) e
 
 -- the same of a loop that has gone through the list
-pub uses_through : (m : Module) (ps all : List code.UsedVariable) (i : ℕ) → ps ≡ all → length ps ≤ i → IsExact m all → map (use_of m) (take i ps) ≡ uses_of_module m
+pub uses_through : (m : Candidate) (ps all : List code.UsedVariable) (i : ℕ) → ps ≡ all → length ps ≤ i → IsExact m all → map (use_of m) (take i ps) ≡ uses_of_module m
 uses_through m ps all i e l exact = ap (map (use_of m)) (take_all i ps l ∙ e) ∙ uses_exact m all exact
 
-pub use_among : (m : Module) (ps all : List code.UsedVariable) (i : ℕ) (p : code.UsedVariable) → ps ≡ all → i < length ps → p ≡ get_or ps i p → IsExact m all → IsAmong (use_of m p) (uses_of_module m)
+pub use_among : (m : Candidate) (ps all : List code.UsedVariable) (i : ℕ) (p : code.UsedVariable) → ps ≡ all → i < length ps → p ≡ get_or ps i p → IsExact m all → IsAmong (use_of m p) (uses_of_module m)
 use_among m ps all i p e l is exact =
     subst (IsAmong (use_of m p)) (ap (map (use_of m)) e ∙ uses_exact m all exact) (among_map (use_of m) ps p (at_place ps i p l is))
 
@@ -107,7 +107,7 @@ enters_one old new x enters all before = record { complete = entered_complete ol
 enters_both : (old mid new : Text → List ModuleUse) (xs ys : List ModuleUse) → EntersAll old mid xs → EntersAll mid new ys → EntersAll old new (xs ++ ys)
 enters_both old mid new xs ys h k all before = subst (AreUsersOf new) (append_assoc all xs ys) (k (all ++ xs) (h all before))
 
-pub enters_turn : (old mid new : Text → List ModuleUse) (m : Module) (ps : List code.UsedVariable) (i : ℕ) (p : code.UsedVariable) → i < length ps → p ≡ get_or ps i p
+pub enters_turn : (old mid new : Text → List ModuleUse) (m : Candidate) (ps : List code.UsedVariable) (i : ℕ) (p : code.UsedVariable) → i < length ps → p ≡ get_or ps i p
     → EntersAll old mid (map (use_of m) (take i ps)) → Enters mid new (use_of m p) → EntersAll old new (map (use_of m) (take (i + 1) ps))
 enters_turn old mid new m ps i p l is h k =
     subst (EntersAll old new) (sym (map_more (use_of m) ps i p l is)) (enters_both old mid new (map (use_of m) (take i ps)) (use_of m p ∷ []) h (enters_one mid new (use_of m p) k))
@@ -115,41 +115,41 @@ enters_turn old mid new m ps i p l is h k =
 pub no_users : (users : Text → List ModuleUse) → ((v : Text) → users v ≡ []) → AreUsersOf users []
 no_users users none = record { complete = λ x h. absurd h; sound = λ v x h. absurd (subst (IsAmong x) (none v) h) }
 
-pub uses_more : {X : Type 0} (view : X → Module) (xs : List X) (i : ℕ) (x : X) → i < length xs → x ≡ get_or xs i x
+pub uses_more : {X : Type 0} (view : X → Candidate) (xs : List X) (i : ℕ) (x : X) → i < length xs → x ≡ get_or xs i x
     → uses_of_modules (map view (take (i + 1) xs)) ≡ uses_of_modules (map view (take i xs)) ++ uses_of_module (view x)
 uses_more view xs i x l is =
     ap uses_of_modules (map_more view xs i x l is) ∙ (flat_map-append uses_of_module (map view (take i xs)) (view x ∷ [])
     ∙ ap (λ (l : List ModuleUse). uses_of_modules (map view (take i xs)) ++ l) (append-nil (uses_of_module (view x))))
 
-pub table_turn : {X : Type 0} (view : X → Module) (old new : Text → List ModuleUse) (xs : List X) (i : ℕ) (x : X) → i < length xs → x ≡ get_or xs i x
+pub table_turn : {X : Type 0} (view : X → Candidate) (old new : Text → List ModuleUse) (xs : List X) (i : ℕ) (x : X) → i < length xs → x ≡ get_or xs i x
     → AreUsersOf old (uses_of_modules (map view (take i xs))) → EntersAll old new (uses_of_module (view x)) → AreUsersOf new (uses_of_modules (map view (take (i + 1) xs)))
 table_turn view old new xs i x l is h k = subst (AreUsersOf new) (sym (uses_more view xs i x l is)) (k (uses_of_modules (map view (take i xs))) h)
 
 -- what is found, and what is answered
 
-owner_is : (m : Module) (x : ModuleUse) → IsAmong x (uses_of_module m) → IsAmong x.used (used_by m.records) × (x.owner ≡ m)
+owner_is : (m : Candidate) (x : ModuleUse) → IsAmong x (uses_of_module m) → IsAmong x.used (uses_of m) × (x.owner ≡ m)
 owner_is m x h =
-    let r = among_mapped (λ (p : UsedVariable). record { owner = m; used = p }) (each_once (used_by m.records)) x h in (
-      subst (λ (p : UsedVariable). IsAmong p (used_by m.records)) (sym (ap (λ (z : ModuleUse). z.used) r.2)) (of_once r.0 (used_by m.records) r.1),
+    let r = among_mapped (λ (p : UsedVariable). record { owner = m; used = p }) (each_once (uses_of m)) x h in (
+      subst (λ (p : UsedVariable). IsAmong p (uses_of m)) (sym (ap (λ (z : ModuleUse). z.used) r.2)) (of_once r.0 (uses_of m) r.1),
       ap (λ (z : ModuleUse). z.owner) r.2,
     )
 
-owner_listed : (ms : List Module) (y : ModuleUse) → IsAmong y (uses_of_modules ms) → IsAmong y.owner ms × IsAmong y.used (used_by y.owner.records)
+owner_listed : (ms : List Candidate) (y : ModuleUse) → IsAmong y (uses_of_modules ms) → IsAmong y.owner ms × IsAmong y.used (uses_of y.owner)
 owner_listed ms y h =
     let r = among_some uses_of_module ms y h in
     let o = owner_is r.0 y r.2 in
-    (subst (λ (n : Module). IsAmong n ms) (sym o.1) r.1, subst (λ (n : Module). IsAmong y.used (used_by n.records)) (sym o.1) o.0)
+    (subst (λ (n : Candidate). IsAmong n ms) (sym o.1) r.1, subst (λ (n : Candidate). IsAmong y.used (uses_of n)) (sym o.1) o.0)
 
-pub is_clash : (users : Text → List ModuleUse) (m : Module) (x y : ModuleUse) (c : Clash) → IsClashBetween x y c
+pub is_clash : (users : Text → List ModuleUse) (m : Candidate) (x y : ModuleUse) (c : Clash) → IsClashBetween x y c
     → IsAmong x (uses_of_module m) × IsAmong y (users x.used.0) × (do_users_clash x y ≡ true)
-    → (ms : List Module) → AreUsersOf users (uses_of_modules ms) → IsClashOf ms m c
+    → (ms : List Candidate) → AreUsersOf users (uses_of_modules ms) → IsClashOf ms m c
 is_clash users m x y c b found ms all =
     let own = owner_is m x found.0 in
     let s = all.sound x.used.0 y found.1 in
     let theirs = owner_listed ms y s.0 in
-    let test : (is_other m y.owner && uses_clash (exclude m y.owner) x.used.1 y.used.1) ≡ true
-    = subst (λ (n : Module). (is_other n y.owner && uses_clash (exclude n y.owner) x.used.1 y.used.1) ≡ true) own.1 found.2 in
-    let both = both_true (is_other m y.owner) (uses_clash (exclude m y.owner) x.used.1 y.used.1) test in
+    let test : (is_other m y.owner && uses_clash (are_kept_apart m y.owner x.used.1 y.used.1) x.used.1 y.used.1) ≡ true
+    = subst (λ (n : Candidate). (is_other n y.owner && uses_clash (are_kept_apart n y.owner x.used.1 y.used.1) x.used.1 y.used.1) ≡ true) own.1 found.2 in
+    let both = both_true (is_other m y.owner) (uses_clash (are_kept_apart m y.owner x.used.1 y.used.1) x.used.1 y.used.1) test in
     let first : x.used ≡ (string_bytes c.variable, use_view c.own) = λ i. (sym b.variable i, sym b.own i) in
     let variable : y.used.0 ≡ string_bytes c.variable = s.1 ∙ sym b.variable in
     let second : y.used ≡ (string_bytes c.variable, use_view c.theirs) = λ i. (variable i, sym b.theirs i) in
@@ -158,55 +158,56 @@ is_clash users m x y c b found ms all =
       listed = theirs.0;
       another = both.0;
       clash = record {
-        first = subst (λ (p : UsedVariable). IsAmong p (used_by m.records)) first own.0;
-        second = subst (λ (p : UsedVariable). IsAmong p (used_by y.owner.records)) second theirs.1;
-        clash = ap (λ (z : VariableUse). uses_clash (exclude m y.owner) z (use_view c.theirs)) b.own ∙ (ap (uses_clash (exclude m y.owner) x.used.1) b.theirs ∙ both.1);
+        first = subst (λ (p : UsedVariable). IsAmong p (uses_of m)) first own.0;
+        second = subst (λ (p : UsedVariable). IsAmong p (uses_of y.owner)) second theirs.1;
+        clash = ap (λ (z : VariableUse). uses_clash (are_kept_apart m y.owner z (use_view c.theirs)) z (use_view c.theirs)) b.own
+            ∙ (ap (λ (z : VariableUse). uses_clash (are_kept_apart m y.owner x.used.1 z) x.used.1 z) b.theirs ∙ both.1);
       };
       name = sym b.name;
       path = sym b.path;
     }
 
 -- two users that are found are of two modules that clash
-pub two_clash : (users : Text → List ModuleUse) (m : Module) (x y : ModuleUse) → IsAmong x (uses_of_module m) × IsAmong y (users x.used.0) × (do_users_clash x y ≡ true)
-    → (ms : List Module) → AreUsersOf users (uses_of_modules ms) → (n : Module) × IsAmong n ms × (is_other m n ≡ true) × (do_clash m n ≡ true)
+pub two_clash : (users : Text → List ModuleUse) (m : Candidate) (x y : ModuleUse) → IsAmong x (uses_of_module m) × IsAmong y (users x.used.0) × (do_users_clash x y ≡ true)
+    → (ms : List Candidate) → AreUsersOf users (uses_of_modules ms) → (n : Candidate) × IsAmong n ms × (is_other m n ≡ true) × (do_clash m n ≡ true)
 two_clash users m x y found ms all =
     let own = owner_is m x found.0 in
     let s = all.sound x.used.0 y found.1 in
     let theirs = owner_listed ms y s.0 in
-    let test : (is_other m y.owner && uses_clash (exclude m y.owner) x.used.1 y.used.1) ≡ true
-    = subst (λ (n : Module). (is_other n y.owner && uses_clash (exclude n y.owner) x.used.1 y.used.1) ≡ true) own.1 found.2 in
-    let both = both_true (is_other m y.owner) (uses_clash (exclude m y.owner) x.used.1 y.used.1) test in (
+    let test : (is_other m y.owner && uses_clash (are_kept_apart m y.owner x.used.1 y.used.1) x.used.1 y.used.1) ≡ true
+    = subst (λ (n : Candidate). (is_other n y.owner && uses_clash (are_kept_apart n y.owner x.used.1 y.used.1) x.used.1 y.used.1) ≡ true) own.1 found.2 in
+    let both = both_true (is_other m y.owner) (uses_clash (are_kept_apart m y.owner x.used.1 y.used.1) x.used.1 y.used.1) test in (
       y.owner,
       theirs.0,
       both.0,
       to_clashes m y.owner x.used.0 x.used.1 y.used.1 (record {
         first = own.0;
-        second = subst (λ (v : Text). IsAmong (v, y.used.1) (used_by y.owner.records)) s.1 theirs.1;
+        second = subst (λ (v : Text). IsAmong (v, y.used.1) (uses_of y.owner)) s.1 theirs.1;
         clash = both.1;
       }),
     )
 
-pub clashes_with_none : (users : Text → List ModuleUse) (m : Module) → some_clash users (uses_of_module m) ≡ false
-    → (ms : List Module) → AreUsersOf users (uses_of_modules ms) → ClashesWithNone ms m
+pub clashes_with_none : (users : Text → List ModuleUse) (m : Candidate) → some_clash users (uses_of_module m) ≡ false
+    → (ms : List Candidate) → AreUsersOf users (uses_of_modules ms) → ClashesWithNone ms m
 clashes_with_none users m h ms all n v x y listed other clash =
     let own : ModuleUse = record { owner = m; used = (v, x) } in
     let theirs : ModuleUse = record { owner = n; used = (v, y) } in
-    let of_own : IsAmong own (uses_of_module m) = among_map (λ (p : UsedVariable). record { owner = m; used = p }) (each_once (used_by m.records)) (v, x) (in_once (v, x) (used_by m.records) clash.first) in
-    let of_theirs : IsAmong theirs (uses_of_module n) = among_map (λ (p : UsedVariable). record { owner = n; used = p }) (each_once (used_by n.records)) (v, y) (in_once (v, y) (used_by n.records) clash.second) in
+    let of_own : IsAmong own (uses_of_module m) = among_map (λ (p : UsedVariable). record { owner = m; used = p }) (each_once (uses_of m)) (v, x) (in_once (v, x) (uses_of m) clash.first) in
+    let of_theirs : IsAmong theirs (uses_of_module n) = among_map (λ (p : UsedVariable). record { owner = n; used = p }) (each_once (uses_of n)) (v, y) (in_once (v, y) (uses_of n) clash.second) in
     let none : list_any (do_users_clash own) (users v) ≡ false = fails_each (λ (z : ModuleUse). list_any (do_users_clash z) (users z.used.0)) (uses_of_module m) own h of_own in
     let apart : do_users_clash own theirs ≡ false = fails_each (do_users_clash own) (users v) theirs none (all.complete theirs (among_of uses_of_module ms n theirs listed of_theirs)) in
-    false≢true (sym apart ∙ and_both (is_other m n) (uses_clash (exclude m n) x y) other clash.clash)
+    false≢true (sym apart ∙ and_both (is_other m n) (uses_clash (are_kept_apart m n x y) x y) other clash.clash)
 
 -- one more answer
 
-answers_push : (ms xs : List Module) (answers : List (Option Clash)) (x : Module) (a : Option Clash) → AreAnswers ms xs answers → IsAnswer ms x a → AreAnswers ms (xs ++ x ∷ []) (answers ++ a ∷ [])
+answers_push : (ms xs : List Candidate) (answers : List (Option Clash)) (x : Candidate) (a : Option Clash) → AreAnswers ms xs answers → IsAnswer ms x a → AreAnswers ms (xs ++ x ∷ []) (answers ++ a ∷ [])
 answers_push ms [] [] x a h k = (k, tt)
 answers_push ms [] (b ∷ answers) x a h k = absurd h
 answers_push ms (y ∷ xs) [] x a h k = absurd h
 answers_push ms (y ∷ xs) (b ∷ answers) x a h k = (h.0, answers_push ms xs answers x a h.1 k)
 
-pub answers_turn : {X : Type 0} (view : X → Module) (ms : List Module) (xs : List X) (i : ℕ) (x : X) (old new : List (Option Clash)) (a : Option Clash) → i < length xs → x ≡ get_or xs i x
+pub answers_turn : {X : Type 0} (view : X → Candidate) (ms : List Candidate) (xs : List X) (i : ℕ) (x : X) (old new : List (Option Clash)) (a : Option Clash) → i < length xs → x ≡ get_or xs i x
     → new ≡ old ++ a ∷ [] → AreAnswers ms (map view (take i xs)) old → IsAnswer ms (view x) a → AreAnswers ms (map view (take (i + 1) xs)) new
 answers_turn view ms xs i x old new a l is e h k =
-    subst (λ (l : List Module). AreAnswers ms l new) (sym (map_more view xs i x l is))
+    subst (λ (l : List Candidate). AreAnswers ms l new) (sym (map_more view xs i x l is))
     (subst (AreAnswers ms (map view (take i xs) ++ view x ∷ [])) (sym e) (answers_push ms (map view (take i xs)) old (view x) a h k))

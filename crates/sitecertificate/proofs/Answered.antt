@@ -1,8 +1,9 @@
 -- By what is answered of modules: those that clash with none of those that stay are those that stay.
 use Rattle.std.proofs.Common.{◌≡◌, inl, inr, Bool, true, false, cond, List, [], ◌∷◌, filter, length, refl, sym, ap, ◌∙◌, Some}
 use Rattle.std.proofs.Common.{None, Option}
-use Rattle.modulefile.specs.Moves.{Module}
-use Rattle.sitecertificate.specs.RecordUses.{IsAmong, IsInStep}
+use Rattle.sitecertificate.specs.Candidates.{Candidate}
+use Rattle.sitecertificate.specs.RecordUses.{IsAmong}
+use Rattle.sitecertificate.specs.Steps.{IsInStep}
 use Rattle.sitecertificate.specs.Certificates.{stays, staying, certified, IsCertified}
 use Rattle.sitecertificate.specs.ClashAnswers.{ClashesWithNone, AreAnswers, without_clashes}
 use Rattle.sitecertificate.specs.declared.answers.Clash.{Clash}
@@ -12,11 +13,11 @@ use Rattle.sitecertificate.proofs.Staying.{staying_apart, staying_most}
 use Rattle.sitecertificate.proofs.CertifiedOnes.{to_certified, certified_most}
 
 -- a module in step that clashes with no certified one is certified
-pub answered_none : (ms : List Module) (m : Module) → IsAmong m ms → IsInStep m → ClashesWithNone (certified ms) m → IsCertified ms m
+pub answered_none : (ms : List Candidate) (m : Candidate) → IsAmong m ms → IsInStep m → ClashesWithNone (certified ms) m → IsCertified ms m
 answered_none ms m a s none = certified_most ms m a s (λ n v x y c o k. none n v x y (to_certified ms n c) o k)
 
 -- those whose answers are that they clash with none
-pub answers_are : (all ms : List Module) (answers : List (Option Clash)) → ((m : Module) → IsAmong m ms → IsAmong m all) → AreAnswers all ms answers
+pub answers_are : (all ms : List Candidate) (answers : List (Option Clash)) → ((m : Candidate) → IsAmong m ms → IsAmong m all) → AreAnswers all ms answers
     → without_clashes ms answers ≡ filter (stays (length all) all) ms
 answers_are all [] [] within h = refl
 answers_are all [] (a ∷ answers) within h = absurd h
@@ -24,7 +25,7 @@ answers_are all (m ∷ ms) [] within h = absurd h
 answers_are all (m ∷ ms) (None ∷ answers) within h =
     let there : IsAmong m (staying all) = staying_most all m (within m (inl refl)) (λ n a o c. let k = clashes m n c in h.0 n k.variable k.one k.other a o k.clash) in
     let t : stays (length all) all m ≡ true = (filtered (stays (length all) all) all m there).1 in
-    ap (λ (l : List Module). m ∷ l) (answers_are all ms answers (λ n a. within n (inr a)) h.1)
+    ap (λ (l : List Candidate). m ∷ l) (answers_are all ms answers (λ n a. within n (inr a)) h.1)
     ∙ sym (ap (λ (b : Bool). cond b (m ∷ filter (stays (length all) all) ms) (filter (stays (length all) all) ms)) t)
 answers_are all (m ∷ ms) (Some clash ∷ answers) within h =
     let c = h.0.0 in

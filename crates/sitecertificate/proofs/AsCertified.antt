@@ -12,10 +12,11 @@ use Rattle.reversal.specs.VariableUses.{VariableUse, UsedVariable, use_by, absen
 use Rattle.reversal.specs.Undone.{undone_as, undo_of, UndoAlike}
 use Rattle.reversal.proofs.RecordKinds.{kept_absent, LeavesOf, leaves}
 use Rattle.sitecertificate.specs.RecordUses.{used_by, IsAmong, Uses}
+use Rattle.sitecertificate.specs.Candidates.{Candidate, as_module, read_of, HasUse}
 use Rattle.sitecertificate.specs.Clashes.{is_other, names_in_conflict, exclude}
 use Rattle.sitecertificate.specs.Certificates.{IsCertified}
 use Rattle.sitecertificate.specs.Laws.{IsAsCertified}
-use Rattle.sitecertificate.proofs.UsedLemmas.{by_cases, cons_either, used_first, used_later}
+use Rattle.sitecertificate.proofs.UsedLemmas.{by_cases, among_left, cons_either, used_first, used_later}
 
 -- what records use is what is left of them for an unload, and what they keep absent
 
@@ -84,27 +85,27 @@ used_alike rs qs h k p u = left_uses p qs (by_cases (uses_left p rs u)
     (λ a. inr (subst (λ (vs : List Text). IsAmong p (map kept_absent vs)) k a)))
 
 -- the uses of the module are those of the certified one
-pub certain_use : (ms : List Module) (m : Module) (c : IsAsCertified ms m) (v : Text) (x : VariableUse) → Uses m.records v x → Uses c.certain.records v x
-certain_use ms m c v x u = used_alike m.records c.certain.records c.alike c.absent (v, x) u
+pub certain_use : (ms : List Candidate) (m : Module) (c : IsAsCertified ms m) (v : Text) (x : VariableUse) → Uses m.records v x → HasUse c.certain v x
+certain_use ms m c v x u = among_left (v, x) (used_by c.certain.records) (map read_of c.certain.reads) (used_alike m.records c.certain.records c.alike c.absent (v, x) u)
 
-pub one_use_of : (ms : List Module) (m : Module) → IsAsCertified ms m → (v : Text) (x y : VariableUse) → Uses m.records v x → Uses m.records v y → x ≡ y
+pub one_use_of : (ms : List Candidate) (m : Module) → IsAsCertified ms m → (v : Text) (x y : VariableUse) → Uses m.records v x → Uses m.records v y → x ≡ y
 one_use_of ms m c v x y a b = c.certified.in_step.in_step.one_use v x y (certain_use ms m c v x a) (certain_use ms m c v y b)
 
 -- two of them are other modules, and exclude each other, where the certified ones do
 
-named_alike : (m n k l : Module) → conflict_names m.records ≡ conflict_names k.records → l.name ≡ n.name → names_in_conflict m n ≡ names_in_conflict k l
+named_alike : (m n : Module) (k l : Candidate) → conflict_names m.records ≡ conflict_names k.records → l.name ≡ n.name → names_in_conflict m n ≡ names_in_conflict (as_module k) (as_module l)
 named_alike m n k l names name = λ i. list_any (λ (x : Text). means x (sym name i)) (names i)
 
-pub exclude_alike : (ms : List Module) (m n : Module) (c : IsAsCertified ms m) (d : IsAsCertified ms n) → exclude m n ≡ exclude c.certain d.certain
+pub exclude_alike : (ms : List Candidate) (m n : Module) (c : IsAsCertified ms m) (d : IsAsCertified ms n) → exclude m n ≡ exclude (as_module c.certain) (as_module d.certain)
 exclude_alike ms m n c d = λ i.
     bytes_eq (sym c.name i) (sym d.name i)
     || (named_alike m n c.certain d.certain c.conflicts d.name i || named_alike n m d.certain c.certain d.conflicts c.name i)
 
-pub other_alike : (ms : List Module) (m n : Module) (c : IsAsCertified ms m) (d : IsAsCertified ms n) → is_other m n ≡ is_other c.certain d.certain
+pub other_alike : (ms : List Candidate) (m n : Module) (c : IsAsCertified ms m) (d : IsAsCertified ms n) → not (bytes_eq m.name n.name && bytes_eq m.path n.path) ≡ is_other c.certain d.certain
 other_alike ms m n c d = λ i. not (bytes_eq (sym c.name i) (sym d.name i) && bytes_eq (sym c.path i) (sym d.path i))
 
 -- a certified module is one by its own records
-pub as_itself : (ms : List Module) (m : Module) → IsCertified ms m → IsAsCertified ms m
+pub as_itself : (ms : List Candidate) (m : Candidate) → IsCertified ms m → IsAsCertified ms (as_module m)
 as_itself ms m c = record {
   certain = m;
   certified = c;

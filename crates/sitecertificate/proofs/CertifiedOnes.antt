@@ -9,8 +9,9 @@ use Rattle.std.specs.Cmp.Lexicographic.{slice_cmp}
 use Rattle.std.proofs.lemmas.Bool.{false≢true, and_parts}
 use Rattle.std.proofs.lemmas.List.Sums.{sum_by-cons, sum_by-append}
 use Rattle.std.proofs.lemmas.List.Sorted.{Contains-permutation, sum_by-IsPermutation, IsPermutation-sym}
-use Rattle.modulefile.specs.Moves.{Module}
-use Rattle.sitecertificate.specs.RecordUses.{IsAmong, is_in_step}
+use Rattle.sitecertificate.specs.Candidates.{Candidate}
+use Rattle.sitecertificate.specs.RecordUses.{IsAmong}
+use Rattle.sitecertificate.specs.Steps.{is_in_step}
 use Rattle.sitecertificate.specs.Users.{ModuleUse, uses_of_module, uses_of_modules}
 use Rattle.sitecertificate.specs.Ranks.{is_rival, rivals, rank_order, comes_before}
 use Rattle.sitecertificate.specs.Clashes.{is_other, do_clash}
@@ -22,12 +23,12 @@ use Rattle.sitecertificate.proofs.Exact.{any_some, filtered, in_filter, in_step,
 use Rattle.sitecertificate.proofs.Staying.{IsChoice, is_free, free_of, clash_before, of_staying, to_staying, staying_apart}
 use Rattle.sitecertificate.proofs.Staying.{staying_most, staying_chosen, one_choice}
 
-abbrev steps : List Module → List Module
+abbrev steps : List Candidate → List Candidate
 steps ms = filter is_in_step ms
 
 -- places beside others, by relation and by test
 
-place_free : (ms cs : List Module) (m : Module) → HasPlace ms cs m → IsAmong m (steps ms) × (is_free (steps ms) cs m ≡ true)
+place_free : (ms cs : List Candidate) (m : Candidate) → HasPlace ms cs m → IsAmong m (steps ms) × (is_free (steps ms) cs m ≡ true)
 place_free ms cs m h = (
   in_filter is_in_step ms m h.listed (to_in_step m h.in_step),
   by_test (list_any (λ k. clashes_before (steps ms) k m) cs) _
@@ -39,7 +40,7 @@ place_free ms cs m h = (
       (λ f. ap not f),
 )
 
-free_place : (ms cs : List Module) (m : Module) → IsAmong m (steps ms) → is_free (steps ms) cs m ≡ true → HasPlace ms cs m
+free_place : (ms cs : List Candidate) (m : Candidate) → IsAmong m (steps ms) → is_free (steps ms) cs m ≡ true → HasPlace ms cs m
 free_place ms cs m a h =
     let f = filtered is_in_step ms m a in
     record {
@@ -50,10 +51,10 @@ free_place ms cs m a h =
 
 -- certified modules
 
-pub is_certified : (ms : List Module) (m : Module) → IsAmong m (certified ms) → IsCertified ms m
+pub is_certified : (ms : List Candidate) (m : Candidate) → IsAmong m (certified ms) → IsCertified ms m
 is_certified ms m h = let p = of_staying (steps ms) m h in free_place ms (certified ms) m p.0 p.1
 
-pub to_certified : (ms : List Module) (m : Module) → IsCertified ms m → IsAmong m (certified ms)
+pub to_certified : (ms : List Candidate) (m : Candidate) → IsCertified ms m → IsAmong m (certified ms)
 to_certified ms m c = let p = place_free ms (certified ms) m c in to_staying (steps ms) m p.0 p.1
 
 pub certified_are_exact : CertifiedAreExact
@@ -68,7 +69,7 @@ certified_most ms m a s h = is_certified ms m (staying_most (steps ms) m (in_fil
 
 -- no others
 
-as_choice : (ms cs : List Module) → ((m : Module) → IsAmong m cs ↔ HasPlace ms cs m) → IsChoice (steps ms) cs
+as_choice : (ms cs : List Candidate) → ((m : Candidate) → IsAmong m cs ↔ HasPlace ms cs m) → IsChoice (steps ms) cs
 as_choice ms cs h m = (λ a. place_free ms cs m ((h m).0 a), λ p. (h m).1 (free_place ms cs m p.0 p.1))
 
 pub certified_are_unique : CertifiedAreUnique
@@ -97,7 +98,7 @@ sum_alike : {X : Type 0} (f g : X → ℕ) (xs : List X) → ((x : X) → f x �
 sum_alike f g [] h = refl
 sum_alike f g (x ∷ xs) h = sum_by-cons f x xs ∙ ((λ i. h x i + sum_alike f g xs h i) ∙ sym (sum_by-cons g x xs))
 
-module _ (ms ns : List Module) (same : IsPermutation ms ns) where
+module _ (ms ns : List Candidate) (same : IsPermutation ms ns) where
   same_count : (x : ModuleUse) → count_by (is_rival x) (uses_of_modules (steps ms)) ≡ count_by (is_rival x) (uses_of_modules (steps ns))
   same_count x =
       count_flat (is_rival x) uses_of_module (steps ms)
@@ -106,10 +107,10 @@ module _ (ms ns : List Module) (same : IsPermutation ms ns) where
       ∙ (sym (sum_kept (λ m. count_by (is_rival x) (uses_of_module m)) is_in_step ns)
       ∙ sym (count_flat (is_rival x) uses_of_module (steps ns)))))
 
-  same_rivals : (m : Module) → rivals (steps ms) m ≡ rivals (steps ns) m
+  same_rivals : (m : Candidate) → rivals (steps ms) m ≡ rivals (steps ns) m
   same_rivals m = sum_alike (λ x. count_by (is_rival x) (uses_of_modules (steps ms))) (λ x. count_by (is_rival x) (uses_of_modules (steps ns))) (uses_of_module m) same_count
 
-  same_order : (k m : Module) → rank_order (steps ms) k m ≡ rank_order (steps ns) k m
+  same_order : (k m : Candidate) → rank_order (steps ms) k m ≡ rank_order (steps ns) k m
   same_order k m = λ i. ordering_then (nat_cmp (same_rivals k i) (same_rivals m i)) (ordering_then (slice_cmp nat_cmp k.name m.name) (slice_cmp nat_cmp k.path m.path))
 
 pub among_contains : {X : Type 0} (xs : List X) (x : X) → IsAmong x xs → Contains xs x
@@ -125,7 +126,7 @@ contains_among (y ∷ ys) x (suc k, l, e) = inr (contains_among ys x (k, omega (
 pub among_moved : {X : Type 0} (ms ns : List X) → IsPermutation ms ns → (m : X) → IsAmong m ms → IsAmong m ns
 among_moved ms ns h m a = contains_among ns m (Contains-permutation ms ns m h (among_contains ms m a))
 
-place_moved : (ms ns cs : List Module) → IsPermutation ms ns → (m : Module) → HasPlace ms cs m → HasPlace ns cs m
+place_moved : (ms ns cs : List Candidate) → IsPermutation ms ns → (m : Candidate) → HasPlace ms cs m → HasPlace ns cs m
 place_moved ms ns cs h m p = record {
   listed = among_moved ms ns h m p.listed;
   in_step = p.in_step;

@@ -12,12 +12,14 @@ use Rattle.modulename.specs.ModuleName.{means, slash}
 use Rattle.envvars.specs.Texts.{Text, has}
 use Rattle.envvars.proofs.TextLemmas.{same_text}
 use Rattle.modulefile.specs.Records.{conflict_names}
-use Rattle.modulefile.specs.Moves.{Module}
 use Rattle.reversal.specs.VariableUses.{VariableUse, Untouched, Fixed, Absent, Pathed, Stacked}
-use Rattle.sitecertificate.specs.RecordUses.{IsAmong}
-use Rattle.sitecertificate.specs.Clashes.{is_other, names_in_conflict, exclude, go_together, uses_clash}
+use Rattle.sitecertificate.specs.RecordUses.{IsAmong, is_read}
+use Rattle.sitecertificate.specs.Candidates.{Candidate, as_module}
+use Rattle.sitecertificate.specs.Clashes.{is_other, names_in_conflict, excludes_by, are_kept_apart, go_together, agree_at_start, uses_clash}
 use Rattle.sitecertificate.specs.Users.{ModuleUse, first_part, do_users_clash, IsClashAmong}
 use Rattle.sitecertificate.proofs.Members.{among_all, none_passes, any_flat}
+use Rattle.sitecertificate.proofs.Exact.{use_itself}
+use Rattle.sitecertificate.proofs.Staying.{go_equal}
 
 -- what is found first
 later_clash : (x y : ModuleUse) (ys : List ModuleUse) (r : Option ModuleUse) → do_users_clash x y ≡ false → IsClashAmong x ys r → IsClashAmong x (y ∷ ys) r
@@ -84,7 +86,7 @@ any_passes p q (x ∷ xs) h k = by (p x) refl k (any_passes p q xs h)
     by true e l next = ap (λ (b : Bool). b || list_any q xs) (h x e)
     by false e l next = or_true (q x) (list_any q xs) (next l)
 
-in_conflict : (m n : Module) (root : Text) → has root (conflict_names m.records) ≡ true → first_part n.name ≡ root → names_in_conflict m n ≡ true
+in_conflict : (m n : Candidate) (root : Text) → has root (conflict_names m.records) ≡ true → first_part n.name ≡ root → names_in_conflict (as_module m) (as_module n) ≡ true
 in_conflict m n root h e =
     any_passes (bytes_eq root) (λ name. means name n.name) (conflict_names m.records)
     (λ t k. subst (λ (r : Text). means r n.name ≡ true) (e ∙ same_text root t k) (meant n.name)) h
@@ -94,59 +96,52 @@ either_true true b c h = refl
 either_true false true c h = refl
 either_true false false c h = cc
 
-pub excluded : (m n : Module) (root : Text) → has root (conflict_names m.records) ≡ true → first_part n.name ≡ root → exclude m n ≡ true
-excluded m n root h e = either_true (bytes_eq m.name n.name) (names_in_conflict m n) (names_in_conflict n m) (in_conflict m n root h e)
+both_hold : (r c : Bool) → r ≡ false → c ≡ true → (not r && c) ≡ true
+both_hold r c h k = rw (h, k) refl
+
+-- so it does by a use that isn't a read
+pub excluded : (m n : Candidate) (root : Text) (x y : VariableUse) → is_read x ≡ false → has root (conflict_names m.records) ≡ true → first_part n.name ≡ root → are_kept_apart m n x y ≡ true
+excluded m n root x y r h e =
+    either_true (bytes_eq m.name n.name) (excludes_by x m n) (excludes_by y n m)
+    (both_hold (is_read x) (names_in_conflict (as_module m) (as_module n)) r (in_conflict m n root h e))
 
 and_false : (a b : Bool) → b ≡ false → (a && b) ≡ false
 and_false true b h = h
 and_false false b h = refl
 
+kept_parts : (r c : Bool) → (not r && c) ≡ true → (r ≡ false) × (c ≡ true)
+kept_parts true c h = absurd (false≢true h)
+kept_parts false c h = (refl, h)
+
 -- nobody of the family clashes
-pub family_passed_over : (x : ModuleUse) (root : Text) (way : VariableUse) (ys : List ModuleUse) → has root (conflict_names x.owner.records) ≡ true
+pub family_passed_over : (x : ModuleUse) (root : Text) (way : VariableUse) (ys : List ModuleUse) → (not (is_read x.used.1) && has root (conflict_names x.owner.records)) ≡ true
     → uses_clash true x.used.1 way ≡ false → ((y : ModuleUse) → IsAmong y ys → first_part y.owner.name ≡ root)
     → ((y : ModuleUse) → IsAmong y ys → y.used.1 ≡ way) → list_any (do_users_clash x) ys ≡ false
 family_passed_over x root way ys c u rooted alike =
+    let p = kept_parts (is_read x.used.1) (has root (conflict_names x.owner.records)) c in
     none_passes (do_users_clash x) ys
-    (λ y a. and_false (is_other x.owner y.owner) (uses_clash (exclude x.owner y.owner) x.used.1 y.used.1)
-    (ap (λ (b : Bool). uses_clash b x.used.1 y.used.1) (excluded x.owner y.owner root c (rooted y a)) ∙ (ap (uses_clash true x.used.1) (alike y a) ∙ u)))
+    (λ y a. and_false (is_other x.owner y.owner) (uses_clash (are_kept_apart x.owner y.owner x.used.1 y.used.1) x.used.1 y.used.1)
+    (ap (λ (b : Bool). uses_clash b x.used.1 y.used.1) (excluded x.owner y.owner root x.used.1 y.used.1 p.0 p.1 (rooted y a)) ∙ (ap (uses_clash true x.used.1) (alike y a) ∙ u)))
 
 -- uses that go together don't clash
-at_start : (e t : Bool) → t ≡ true → (not (e || t) || not true) ≡ false
-at_start true true h = refl
-at_start false true h = refl
-at_start e false h = absurd (false≢true h)
+agree_itself : (x : VariableUse) → agree_at_start x x ≡ true
+agree_itself Untouched = refl
+agree_itself (Fixed a) = use_itself (Fixed a)
+agree_itself Absent = refl
+agree_itself (Pathed d) = refl
+agree_itself Stacked = refl
+
+at_start : (e t a : Bool) → t ≡ true → a ≡ true → (not (e || t) || not a) ≡ false
+at_start true t a h k = ap not k
+at_start false t a h k = rw (h, k) refl
 
 together : (e : Bool) (x y : VariableUse) → go_together x y ≡ true → uses_clash e x y ≡ false
-together e Untouched Untouched h = absurd (false≢true h)
-together e Untouched (Fixed b) h = absurd (false≢true h)
-together e Untouched Absent h = absurd (false≢true h)
-together e Untouched (Pathed b) h = absurd (false≢true h)
-together e Untouched Stacked h = absurd (false≢true h)
-together e (Fixed a) Untouched h = absurd (false≢true h)
-together e (Fixed a) (Fixed b) h = absurd (false≢true h)
-together e (Fixed a) Absent h = absurd (false≢true h)
-together e (Fixed a) (Pathed b) h = absurd (false≢true h)
-together e (Fixed a) Stacked h = absurd (false≢true h)
-together e Absent Untouched h = absurd (false≢true h)
-together e Absent (Fixed b) h = absurd (false≢true h)
-together e Absent Absent h = at_start e true h
-together e Absent (Pathed b) h = absurd (false≢true h)
-together e Absent Stacked h = absurd (false≢true h)
-together e (Pathed a) Untouched h = absurd (false≢true h)
-together e (Pathed a) (Fixed b) h = absurd (false≢true h)
-together e (Pathed a) Absent h = absurd (false≢true h)
-together e (Pathed a) (Pathed b) h = at_start e (nat_eq a b) h
-together e (Pathed a) Stacked h = absurd (false≢true h)
-together e Stacked Untouched h = absurd (false≢true h)
-together e Stacked (Fixed b) h = absurd (false≢true h)
-together e Stacked Absent h = absurd (false≢true h)
-together e Stacked (Pathed b) h = absurd (false≢true h)
-together e Stacked Stacked h = at_start e true h
+together e x y h = at_start e (go_together x y) (agree_at_start x y) h (ap (agree_at_start x) (sym (go_equal x y h)) ∙ agree_itself x)
 
 -- nobody whose use goes together with the first clashes
 pub way_passed_over : (x : ModuleUse) (way : VariableUse) (ys : List ModuleUse) → go_together x.used.1 way ≡ true
     → ((y : ModuleUse) → IsAmong y ys → y.used.1 ≡ way) → list_any (do_users_clash x) ys ≡ false
 way_passed_over x way ys g alike =
     none_passes (do_users_clash x) ys
-    (λ y a. and_false (is_other x.owner y.owner) (uses_clash (exclude x.owner y.owner) x.used.1 y.used.1)
-    (ap (uses_clash (exclude x.owner y.owner) x.used.1) (alike y a) ∙ together (exclude x.owner y.owner) x.used.1 way g))
+    (λ y a. and_false (is_other x.owner y.owner) (uses_clash (are_kept_apart x.owner y.owner x.used.1 y.used.1) x.used.1 y.used.1)
+    (ap (uses_clash (are_kept_apart x.owner y.owner x.used.1 y.used.1) x.used.1) (alike y a) ∙ together (are_kept_apart x.owner y.owner x.used.1 y.used.1) x.used.1 way g))

@@ -8,13 +8,12 @@ use Rattle.std.proofs.lemmas.Bool.{false≢true, eqb-true, eq-eqb, and_parts, an
 use Rattle.envvars.specs.Texts.{Text}
 use Rattle.envvars.specs.Fields.{colon}
 use Rattle.envvars.proofs.TextLemmas.{same_text, bytes_eq-same}
-use Rattle.modulefile.specs.Records.{Record}
-use Rattle.modulefile.specs.Moves.{Module}
+use Rattle.sitecertificate.specs.Candidates.{Candidate, uses_of, HasUse}
 use Rattle.reversal.specs.VariableUses.{VariableUse, Untouched, Fixed, Absent, Pathed, Stacked, can_return}
 use Rattle.reversal.specs.VariableUses.{UsedVariable}
-use Rattle.sitecertificate.specs.RecordUses.{used_by, IsAmong, Uses, modulepath, AreInStep, IsInStep}
-use Rattle.sitecertificate.specs.RecordUses.{same_use, use_alike, are_in_step, is_in_step}
-use Rattle.sitecertificate.specs.Clashes.{exclude, uses_clash, Clash, do_clash}
+use Rattle.sitecertificate.specs.RecordUses.{IsAmong, modulepath, is_read, same_use, use_alike}
+use Rattle.sitecertificate.specs.Steps.{AreInStep, IsInStep, are_in_step, is_in_step}
+use Rattle.sitecertificate.specs.Clashes.{are_kept_apart, uses_clash, Clash, do_clash_by, do_clash}
 use Rattle.sitecertificate.proofs.UsedLemmas.{by_test, by_cases}
 
 -- tests of lists
@@ -113,13 +112,40 @@ alike_at : (b s : Bool) → (not b || s) ≡ true → b ≡ true → s ≡ true
 alike_at true s h t = h
 alike_at false s h t = absurd (false≢true t)
 
-alike : (p q : UsedVariable) → use_alike p q ≡ true → p.0 ≡ q.0 → p.1 ≡ q.1
-alike p q h e = use_same p.1 q.1 (alike_at (bytes_eq p.0 q.0) (same_use p.1 q.1) h (same_bytes p.0 q.0 e))
+used_at : (r o : Bool) → (r || o) ≡ true → r ≡ false → o ≡ true
+used_at true o h f = absurd (false≢true (sym f))
+used_at false o h f = h
+
+-- one that isn't read
+alike : (p q : UsedVariable) → use_alike p q ≡ true → is_read p.1 ≡ false → p.0 ≡ q.0 → p.1 ≡ q.1
+alike p q h r e = use_same p.1 q.1 (alike_at (bytes_eq p.0 q.0) (same_use p.1 q.1) (used_at (is_read p.1) (not (bytes_eq p.0 q.0) || same_use p.1 q.1) h r) (same_bytes p.0 q.0 e))
+
+pub is_untouched : (x : VariableUse) → is_read x ≡ true → x ≡ Untouched
+is_untouched Untouched h = refl
+is_untouched (Fixed a) h = absurd (false≢true h)
+is_untouched Absent h = absurd (false≢true h)
+is_untouched (Pathed d) h = absurd (false≢true h)
+is_untouched Stacked h = absurd (false≢true h)
+
+-- each as the other
+both_alike : (p q : UsedVariable) → use_alike p q ≡ true → use_alike q p ≡ true → p.0 ≡ q.0 → p.1 ≡ q.1
+both_alike p q h k e = by_test (is_read p.1) _
+    (λ t. by_test (is_read q.1) _
+    (λ u. is_untouched p.1 t ∙ sym (is_untouched q.1 u))
+    (λ f. sym (alike q p k f (sym e))))
+    (λ f. alike p q h f e)
+
+alike_or : (r b s : Bool) → (b ≡ true → s ≡ true) → (r || (not b || s)) ≡ true
+alike_or true b s h = refl
+alike_or false true s h = h refl
+alike_or false false s h = refl
 
 to_alike : (p q : UsedVariable) → (p.0 ≡ q.0 → p.1 ≡ q.1) → use_alike p q ≡ true
-to_alike p q h = by_test (bytes_eq p.0 q.0) _
-    (λ t. let s : same_use p.1 q.1 ≡ true = ap (same_use p.1) (sym (h (same_text p.0 q.0 t))) ∙ use_itself p.1 in rw (t, s) refl)
-    (λ t. rw t refl)
+to_alike p q h = alike_or (is_read p.1) (bytes_eq p.0 q.0) (same_use p.1 q.1)
+    (λ t. ap (same_use p.1) (sym (h (same_text p.0 q.0 t))) ∙ use_itself p.1)
+
+read_alike : (p q : UsedVariable) → (is_read p.1 ≡ false → p.0 ≡ q.0 → p.1 ≡ q.1) → use_alike p q ≡ true
+read_alike p q h = by_test (is_read p.1) _ (λ t. rw t refl) (λ f. to_alike p q (h f))
 
 -- modules in step
 
@@ -129,55 +155,52 @@ modulepath_colons = (modulepath, Pathed colon)
 abbrev suits_all : List UsedVariable → UsedVariable → Bool
 suits_all ps p = use_alike p modulepath_colons && list_all (use_alike p) ps
 
-steps : (rs : List Record) → are_in_step (used_by rs) ≡ true → AreInStep rs
-steps rs h = record {
-  one_use = λ v x y a b.
-      let p = and_parts (use_alike (v, x) modulepath_colons) (list_all (use_alike (v, x)) (used_by rs)) (all_each (suits_all (used_by rs)) (used_by rs) h (v, x) a) in
-      alike (v, x) (v, y) (all_each (use_alike (v, x)) (used_by rs) p.1 (v, y) b) refl;
-  modulepath = λ x a.
-      let p = and_parts (use_alike (modulepath, x) modulepath_colons) (list_all (use_alike (modulepath, x)) (used_by rs)) (all_each (suits_all (used_by rs)) (used_by rs) h (modulepath, x) a) in
-      alike (modulepath, x) modulepath_colons p.0 refl;
+suits_at : (ps : List UsedVariable) → are_in_step ps ≡ true → (p : UsedVariable) → IsAmong p ps → (use_alike p modulepath_colons ≡ true) × (list_all (use_alike p) ps ≡ true)
+suits_at ps h p a = and_parts (use_alike p modulepath_colons) (list_all (use_alike p) ps) (all_each (suits_all ps) ps h p a)
+
+steps : (ps : List UsedVariable) → are_in_step ps ≡ true → AreInStep ps
+steps ps h = record {
+  one_use = λ v x y a b. both_alike (v, x) (v, y)
+      (all_each (use_alike (v, x)) ps (suits_at ps h (v, x) a).1 (v, y) b) (all_each (use_alike (v, y)) ps (suits_at ps h (v, y) b).1 (v, x) a) refl;
+  modulepath = λ x a r. alike (modulepath, x) modulepath_colons (suits_at ps h (modulepath, x) a).0 r refl;
 }
 
-to_steps : (rs : List Record) → AreInStep rs → are_in_step (used_by rs) ≡ true
-to_steps rs s = each_all (suits_all (used_by rs)) (used_by rs) (λ p a. and_from (use_alike p modulepath_colons) (list_all (use_alike p) (used_by rs))
-    (to_alike p modulepath_colons (λ e. s.modulepath p.1 (subst (λ (w : Text). IsAmong (w, p.1) (used_by rs)) e a)))
-    (each_all (use_alike p) (used_by rs) (λ q b. to_alike p q (λ e. s.one_use p.0 p.1 q.1 a (subst (λ (w : Text). IsAmong (w, q.1) (used_by rs)) (sym e) b)))))
+to_steps : (ps : List UsedVariable) → AreInStep ps → are_in_step ps ≡ true
+to_steps ps s = each_all (suits_all ps) ps (λ p a. and_from (use_alike p modulepath_colons) (list_all (use_alike p) ps)
+    (read_alike p modulepath_colons (λ r e. s.modulepath p.1 (subst (λ (w : Text). IsAmong (w, p.1) ps) e a) r))
+    (each_all (use_alike p) ps (λ q b. to_alike p q (λ e. s.one_use p.0 p.1 q.1 a (subst (λ (w : Text). IsAmong (w, q.1) ps) (sym e) b)))))
 
-pub in_step : (m : Module) → is_in_step m ≡ true → IsInStep m
-in_step m h = let p = and_parts (list_all can_return m.records) (are_in_step (used_by m.records)) h in record { returns = p.0; in_step = steps m.records p.1 }
+pub in_step : (m : Candidate) → is_in_step m ≡ true → IsInStep m
+in_step m h = let p = and_parts (list_all can_return m.records) (are_in_step (uses_of m)) h in record { returns = p.0; in_step = steps (uses_of m) p.1 }
 
-pub to_in_step : (m : Module) → IsInStep m → is_in_step m ≡ true
-to_in_step m s = and_from (list_all can_return m.records) (are_in_step (used_by m.records)) s.returns (to_steps m.records s.in_step)
+pub to_in_step : (m : Candidate) → IsInStep m → is_in_step m ≡ true
+to_in_step m s = and_from (list_all can_return m.records) (are_in_step (uses_of m)) s.returns (to_steps (uses_of m) s.in_step)
 
 -- modules that clash
 
-pub record SomeClash (m n : Module) : Type 0 where
+pub record SomeClash (m n : Candidate) : Type 0 where
   pub variable : Text
   pub one : VariableUse
   pub other : VariableUse
   pub clash : Clash m n variable one other
 
-abbrev clash_at : Module → Module → UsedVariable → UsedVariable → Bool
-clash_at m n p q = bytes_eq p.0 q.0 && uses_clash (exclude m n) p.1 q.1
-
-pub clashes : (m n : Module) → do_clash m n ≡ true → SomeClash m n
+pub clashes : (m n : Candidate) → do_clash m n ≡ true → SomeClash m n
 clashes m n h =
-    let p = any_some (λ p. list_any (clash_at m n p) (used_by n.records)) (used_by m.records) h in
-    let q = any_some (clash_at m n p.0) (used_by n.records) p.2 in
-    let t = and_parts (bytes_eq p.0.0 q.0.0) (uses_clash (exclude m n) p.0.1 q.0.1) q.2 in
+    let p = any_some (λ p. list_any (do_clash_by m n p) (uses_of n)) (uses_of m) h in
+    let q = any_some (do_clash_by m n p.0) (uses_of n) p.2 in
+    let t = and_parts (bytes_eq p.0.0 q.0.0) (uses_clash (are_kept_apart m n p.0.1 q.0.1) p.0.1 q.0.1) q.2 in
     record {
       variable = p.0.0;
       one = p.0.1;
       other = q.0.1;
       clash = record {
         first = p.1;
-        second = subst (λ (w : Text). Uses n.records w q.0.1) (sym (same_text p.0.0 q.0.0 t.0)) q.1;
+        second = subst (λ (w : Text). HasUse n w q.0.1) (sym (same_text p.0.0 q.0.0 t.0)) q.1;
         clash = t.1;
       };
     }
 
-pub to_clashes : (m n : Module) (v : Text) (x y : VariableUse) → Clash m n v x y → do_clash m n ≡ true
+pub to_clashes : (m n : Candidate) (v : Text) (x y : VariableUse) → Clash m n v x y → do_clash m n ≡ true
 to_clashes m n v x y c =
-    some_any (λ p. list_any (clash_at m n p) (used_by n.records)) (used_by m.records) (v, x) c.first
-    (some_any (clash_at m n (v, x)) (used_by n.records) (v, y) c.second (and_from (bytes_eq v v) (uses_clash (exclude m n) x y) (bytes_eq-same v) c.clash))
+    some_any (λ p. list_any (do_clash_by m n p) (uses_of n)) (uses_of m) (v, x) c.first
+    (some_any (do_clash_by m n (v, x)) (uses_of n) (v, y) c.second (and_from (bytes_eq v v) (uses_clash (are_kept_apart m n x y) x y) (bytes_eq-same v) c.clash))

@@ -1,12 +1,13 @@
+mod Seen
 mod UseLemmas
 pub mod UsedLemmas
 mod RecordLemmas
 pub mod AsCertified
 mod OneUse
 pub mod Exact
-mod Staying
+pub mod Staying
 pub mod CertifiedOnes
-mod MovedVariables
+pub mod MovedVariables
 pub mod Moments
 mod Runs
 mod Agreements

@@ -10,9 +10,9 @@ use Rattle.std.proofs.lemmas.List.Folds.{list_any-append}
 use Rattle.std.proofs.lemmas.Grind.{flat_map-append}
 use Rattle.indexmap.specs.IndexSet.{insert_key, insert_all}
 use Rattle.envvars.proofs.TextLemmas.{same_text, bytes_eq-same}
-use Rattle.modulefile.specs.Moves.{Module}
+use Rattle.sitecertificate.specs.Candidates.{Candidate, uses_of, uses_of_all}
 use Rattle.reversal.specs.VariableUses.{UsedVariable}
-use Rattle.sitecertificate.specs.RecordUses.{used_by, used_by_modules, same_use, IsAmong}
+use Rattle.sitecertificate.specs.RecordUses.{same_use, IsAmong}
 use Rattle.sitecertificate.proofs.UsedLemmas.{by_test}
 use Rattle.sitecertificate.proofs.Exact.{filtered, in_filter, use_same, use_itself}
 use Rattle.sitecertificate.specs.declared.answers.Clash.{Clash}
@@ -168,30 +168,30 @@ inserted_turn view ks xs i x l is =
     ∙ (ap (insert_all same_used ks) (map-append view (take i xs) (x ∷ [])) ∙ insert_more ks (map view (take i xs)) (view x ∷ [])))
 
 -- the uses of modules without a clash
-abbrev pub unclashed : List Module → List (Option Clash) → List UsedVariable
-unclashed ms answers = used_by_modules (without_clashes ms answers)
+abbrev pub unclashed : List Candidate → List (Option Clash) → List UsedVariable
+unclashed ms answers = uses_of_all (without_clashes ms answers)
 
-no_answer : (ms : List Module) → without_clashes ms [] ≡ []
+no_answer : (ms : List Candidate) → without_clashes ms [] ≡ []
 no_answer [] = refl
 no_answer (m ∷ ms) = refl
 
 -- one module more with its answer
-pub unclashed_turn : {X : Type 0} (view : X → Module) (ks total : List UsedVariable) (xs rest : List X)
+pub unclashed_turn : {X : Type 0} (view : X → Candidate) (ks total : List UsedVariable) (xs rest : List X)
     (answers left : List (Option Clash)) (x : X) (answer : Option Clash) → xs ≡ x ∷ rest → answers ≡ answer ∷ left
     → insert_all same_used ks (unclashed (map view xs) answers) ≡ total
-    → insert_all same_used (insert_all same_used ks (used_by_modules (without_clash (view x) answer))) (unclashed (map view rest) left) ≡ total
+    → insert_all same_used (insert_all same_used ks (uses_of_all (without_clash (view x) answer))) (unclashed (map view rest) left) ≡ total
 unclashed_turn view ks total xs rest answers left x answer e f h =
-    sym (insert_more ks (used_by_modules (without_clash (view x) answer)) (unclashed (map view rest) left))
-    ∙ (ap (insert_all same_used ks) (sym (flat_map-append (λ (k : Module). used_by k.records) (without_clash (view x) answer) (without_clashes (map view rest) left)))
+    sym (insert_more ks (uses_of_all (without_clash (view x) answer)) (unclashed (map view rest) left))
+    ∙ (ap (insert_all same_used ks) (sym (flat_map-append uses_of (without_clash (view x) answer) (without_clashes (map view rest) left)))
     ∙ (ap (λ ys. insert_all same_used ks (unclashed (map view ys) (answer ∷ left))) (sym e)
     ∙ (ap (λ (l : List (Option Clash)). insert_all same_used ks (unclashed (map view xs) l)) (sym f) ∙ h)))
 
 -- no module is left, or no answer
-pub unclashed_end : {X : Type 0} (view : X → Module) (ks total : List UsedVariable) (xs : List X) (answers : List (Option Clash)) → (xs ≡ []) ⊎ (answers ≡ [])
+pub unclashed_end : {X : Type 0} (view : X → Candidate) (ks total : List UsedVariable) (xs : List X) (answers : List (Option Clash)) → (xs ≡ []) ⊎ (answers ≡ [])
     → insert_all same_used ks (unclashed (map view xs) answers) ≡ total → ks ≡ total
 unclashed_end view ks total xs answers (inl e) h = ap (λ ys. insert_all same_used ks (unclashed (map view ys) answers)) (sym e) ∙ h
 unclashed_end view ks total xs answers (inr e) h =
-    ap (λ (l : List Module). insert_all same_used ks (used_by_modules l)) (sym (no_answer (map view xs)))
+    ap (λ (l : List Candidate). insert_all same_used ks (uses_of_all l)) (sym (no_answer (map view xs)))
     ∙ (ap (λ (l : List (Option Clash)). insert_all same_used ks (unclashed (map view xs) l)) (sym e) ∙ h)
 
 -- ---- members
@@ -216,26 +216,37 @@ use_keys_same keys.Set (keys.Unset y) = refl
 use_keys_same keys.Set keys.Absent = refl
 use_keys_same keys.Set (keys.Path y) = refl
 use_keys_same keys.Set keys.Stack = refl
+use_keys_same keys.Set keys.Read = refl
 use_keys_same (keys.Unset x) keys.Set = refl
 use_keys_same (keys.Unset x) (keys.Unset y) = refl
 use_keys_same (keys.Unset x) keys.Absent = refl
 use_keys_same (keys.Unset x) (keys.Path y) = refl
 use_keys_same (keys.Unset x) keys.Stack = refl
+use_keys_same (keys.Unset x) keys.Read = refl
 use_keys_same keys.Absent keys.Set = refl
 use_keys_same keys.Absent (keys.Unset y) = refl
 use_keys_same keys.Absent keys.Absent = refl
 use_keys_same keys.Absent (keys.Path y) = refl
 use_keys_same keys.Absent keys.Stack = refl
+use_keys_same keys.Absent keys.Read = refl
 use_keys_same (keys.Path x) keys.Set = refl
 use_keys_same (keys.Path x) (keys.Unset y) = refl
 use_keys_same (keys.Path x) keys.Absent = refl
 use_keys_same (keys.Path x) (keys.Path y) = refl
 use_keys_same (keys.Path x) keys.Stack = refl
+use_keys_same (keys.Path x) keys.Read = refl
 use_keys_same keys.Stack keys.Set = refl
 use_keys_same keys.Stack (keys.Unset y) = refl
 use_keys_same keys.Stack keys.Absent = refl
 use_keys_same keys.Stack (keys.Path y) = refl
 use_keys_same keys.Stack keys.Stack = refl
+use_keys_same keys.Stack keys.Read = refl
+use_keys_same keys.Read keys.Set = refl
+use_keys_same keys.Read (keys.Unset y) = refl
+use_keys_same keys.Read keys.Absent = refl
+use_keys_same keys.Read (keys.Path y) = refl
+use_keys_same keys.Read keys.Stack = refl
+use_keys_same keys.Read keys.Read = refl
 
 abbrev key_eq : UsedKey → UsedKey → Bool
 key_eq = UsedKeyEq.eq-value.it

@@ -5,62 +5,76 @@ use Rattle.std.specs.Prelude.{bytes_eq, is_some}
 use Rattle.std.specs.Option.{option_or}
 use Rattle.std.proofs.lemmas.Bool.{false≢true}
 use Rattle.envvars.specs.Texts.{Text}
-use Rattle.envvars.proofs.TextLemmas.{or_left}
+use Rattle.envvars.proofs.TextLemmas.{or_left, or_right}
 use Rattle.modulefile.specs.Moves.{Module}
 use Rattle.reversal.specs.VariableUses.{VariableUse, Fixed}
 use Rattle.reversal.specs.Live.{last_set, live_set}
 use Rattle.reversal.specs.Runs.{IsReversibleAndApart, AreReversibleTogether}
 use Rattle.reversal.proofs.Parts.{all_suit}
-use Rattle.sitecertificate.specs.RecordUses.{used_by, used_by_modules, IsAmong, Uses, uses_by}
-use Rattle.sitecertificate.specs.Clashes.{is_other, exclude, in_conflict, go_together, agree_at_start}
+use Rattle.sitecertificate.specs.RecordUses.{used_by, used_by_modules, IsAmong, Uses, is_read, uses_by}
+use Rattle.sitecertificate.specs.Candidates.{Candidate, as_module}
+use Rattle.sitecertificate.specs.Clashes.{names_in_conflict, in_conflict, exclude, excludes_by, are_kept_apart, go_together, agree_at_start}
 use Rattle.sitecertificate.specs.Laws.{IsAsCertified, AreCertifiedTogether}
 use Rattle.sitecertificate.proofs.AsCertified.{certain_use, one_use_of, exclude_alike, other_alike}
-use Rattle.sitecertificate.proofs.UsedLemmas.{by_test, by_cases, among_left, among_right, among_either, user_of, Unused}
+use Rattle.sitecertificate.proofs.UsedLemmas.{by_test, by_cases, neither, among_left, among_right, among_either, user_of, Unused}
 use Rattle.sitecertificate.proofs.UsedLemmas.{first_or_none}
 use Rattle.sitecertificate.proofs.Staying.{go_equal}
 use Rattle.sitecertificate.proofs.CertifiedOnes.{certified_apart}
 use Rattle.sitecertificate.proofs.RecordLemmas.{all_follow, AreOfKind, sets_used}
 
-clash_at : (excluded g a : Bool) → excluded ≡ false → g ≡ false → (not (excluded || g) || not a) ≡ true
-clash_at excluded g a e h = rw (e, h) refl
+clash_at : (apart g a : Bool) → apart ≡ false → g ≡ false → (not (apart || g) || not a) ≡ true
+clash_at apart g a e h = rw (e, h) refl
+
+-- what doesn't exclude doesn't keep apart
+none_counts : (r b : Bool) → b ≡ false → (not r && b) ≡ false
+none_counts true b h = refl
+none_counts false b h = h
+
+not_apart : (x y : VariableUse) (m n : Candidate) → exclude (as_module m) (as_module n) ≡ false → are_kept_apart m n x y ≡ false
+not_apart x y m n h =
+    let there = names_in_conflict (as_module m) (as_module n) in
+    let back = names_in_conflict (as_module n) (as_module m) in
+    let both = or_right (bytes_eq m.name n.name) (there || back) h in
+    neither (bytes_eq m.name n.name) (excludes_by x m n || excludes_by y n m) (or_left (bytes_eq m.name n.name) (there || back) h)
+    (neither (excludes_by x m n) (excludes_by y n m) (none_counts (is_read x) there (or_left there back both)) (none_counts (is_read y) back (or_right there back both)))
 
 -- Of certified modules that don't exclude each other, two uses of one variable go together.
 
-together : (ms : List Module) (m n : Module) (v : Text) (x y : VariableUse) → IsAsCertified ms m → IsAsCertified ms n
+together : (ms : List Candidate) (m n : Module) (v : Text) (x y : VariableUse) → IsAsCertified ms m → IsAsCertified ms n
     → exclude m n ≡ false → Uses m.records v x → Uses n.records v y → go_together x y ≡ true
 together ms m n v x y c d e f g = by_test (go_together x y) _ (λ t. t) (λ t. absurd (certified_apart ms c.certain d.certain v x y c.certified d.certified
     (sym (other_alike ms m n c d) ∙ other)
     (record {
       first = certain_use ms m c v x f;
       second = certain_use ms n d v y g;
-      clash = clash_at (exclude c.certain d.certain) (go_together x y) (agree_at_start x y) (sym (exclude_alike ms m n c d) ∙ e) t;
+      clash = clash_at (are_kept_apart c.certain d.certain x y) (go_together x y) (agree_at_start x y) (not_apart x y c.certain d.certain (sym (exclude_alike ms m n c d) ∙ e)) t;
     })))
   where
     name : bytes_eq m.name n.name ≡ false
     name = or_left (bytes_eq m.name n.name) (in_conflict m n) e
 
-    other : is_other m n ≡ true
+    other : not (bytes_eq m.name n.name && bytes_eq m.path n.path) ≡ true
     other = ap (λ (b : Bool). not (b && bytes_eq m.path n.path)) name
 
 -- each variable is used in one way
 abbrev pub HaveOneUse : List Module → Type 0
 HaveOneUse ms = (v : Text) (x y : VariableUse) → IsAmong (v, x) (used_by_modules ms) → IsAmong (v, y) (used_by_modules ms) → x ≡ y
 
-pub certified_of : (ms live : List Module) → AreCertifiedTogether ms live → (m : Module) → IsAmong m live → IsAsCertified ms m
+pub certified_of : (ms : List Candidate) (live : List Module) → AreCertifiedTogether ms live → (m : Module) → IsAmong m live → IsAsCertified ms m
 certified_of ms [] t m a = absurd a
 certified_of ms (n ∷ live) t m (inl e) = subst (IsAsCertified ms) (sym e) t.0
 certified_of ms (n ∷ live) t m (inr a) = certified_of ms live t.2 m a
 
-pub of_kind : (ms live : List Module) → AreCertifiedTogether ms live → AreOfKind live
+pub of_kind : (ms : List Candidate) (live : List Module) → AreCertifiedTogether ms live → AreOfKind live
 of_kind ms live t m a = (certified_of ms live t m a).returns
 
 -- the newest of the modules beside an older one
-beside : (ms live : List Module) (m : Module) (v : Text) (x y : VariableUse) → AreCertifiedTogether ms (m ∷ live) → Uses m.records v x → IsAmong (v, y) (used_by_modules live) → go_together x y ≡ true
+beside : (ms : List Candidate) (live : List Module) (m : Module) (v : Text) (x y : VariableUse) → AreCertifiedTogether ms (m ∷ live) → Uses m.records v x → IsAmong (v, y) (used_by_modules live) → go_together x y ≡ true
 beside ms live m v x y t u a =
     let p = user_of v y live a in
     together ms m p.user v x y t.0 (certified_of ms live t.2 p.user p.there) (t.1 p.user p.there) u p.uses
 
-pub one_use : (ms live : List Module) → AreCertifiedTogether ms live → HaveOneUse live
+pub one_use : (ms : List Candidate) (live : List Module) → AreCertifiedTogether ms live → HaveOneUse live
 one_use ms [] t v x y h k = absurd h
 one_use ms (m ∷ live) t v x y h k =
     by_cases (among_either (v, x) (used_by m.records) (used_by_modules live) h)
@@ -100,7 +114,7 @@ older_sets (n ∷ live) k v h =
 abbrev pub AreUses : (Text → VariableUse) → List Module → Type 0
 AreUses u live = (v : Text) (x : VariableUse) → IsAmong (v, x) (used_by_modules live) → u v ≡ x
 
-pub newest_fits : (ms live : List Module) (m : Module) (u : Text → VariableUse) → AreCertifiedTogether ms (m ∷ live) → AreUses u (m ∷ live) → IsReversibleAndApart u live m
+pub newest_fits : (ms : List Candidate) (live : List Module) (m : Module) (u : Text → VariableUse) → AreCertifiedTogether ms (m ∷ live) → AreUses u (m ∷ live) → IsReversibleAndApart u live m
 newest_fits ms live m u t h = record {
   suits = all_suit u m.records t.0.returns (all_follow u m.records (λ v x a. h v x (among_left (v, x) (used_by m.records) (used_by_modules live) a)));
   sets_apart = λ v s.
@@ -108,7 +122,7 @@ newest_fits ms live m u t h = record {
       older_sets live (of_kind ms live t.2) v (λ k a. no_fixed (Fixed k) p.0 (beside ms live m v (Fixed p.0) (Fixed k) t p.1 a));
 }
 
-pub all_fit : (ms live : List Module) (u : Text → VariableUse) → AreCertifiedTogether ms live → AreUses u live → AreReversibleTogether u live
+pub all_fit : (ms : List Candidate) (live : List Module) (u : Text → VariableUse) → AreCertifiedTogether ms live → AreUses u live → AreReversibleTogether u live
 all_fit ms [] u t h = tt
 all_fit ms (m ∷ live) u t h =
     (newest_fits ms live m u t h, all_fit ms live u t.2 (λ v x a. h v x (among_right (v, x) (used_by m.records) (used_by_modules live) a)))

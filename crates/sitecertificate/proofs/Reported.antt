@@ -221,6 +221,11 @@ judged_bad {X} view e p xs ys x b f d named h =
       record { reason = view x; named = named; added = ap (map view) h ∙ map-append view xs (x ∷ []) },
     )
 
+-- a read disagrees with nothing
+pub judged_read : {P : Type 0} (e : Environment) (p : UsedVariable) (b : Bool) → b ≡ false → (IsTrue b → AgreesWithUse e p.0 p.1) × (AgreesWithUse e p.0 p.1 → IsTrue b)
+    → p.1 ≡ Untouched → P
+judged_read e p b f d h = absurd (let g : false ≡ true = sym f ∙ d.1 (subst (AgreesWithUse e p.0) (sym h) tt) in cc)
+
 -- at the end of the uses
 
 all_taken : (xs : List code.UsedVariable) (i : ℕ) → length xs ≤ i → i ≤ length xs → take i xs ≡ xs

@@ -13,6 +13,7 @@ use Rattle.reversal.specs.Live.{entries_over}
 use Rattle.reversal.specs.Runs.{without_live, live_after, Undoes}
 use Rattle.reversal.specs.Laws.{Holds, RunsReturn, MovesPreserve}
 use Rattle.sitecertificate.specs.RecordUses.{used_by, used_by_modules, IsAmong, uses_by}
+use Rattle.sitecertificate.specs.Candidates.{Candidate}
 use Rattle.sitecertificate.specs.Clashes.{in_conflict}
 use Rattle.sitecertificate.specs.Certificates.{AgreesWith}
 use Rattle.sitecertificate.specs.Laws.{IsAsCertified, AreCertified, AreCertifiedTogether, AreLayered, CertifiedRunsStand}
@@ -25,7 +26,7 @@ use Rattle.sitecertificate.proofs.Moments.{laid_down}
 
 -- A module that is loaded beside live ones, and the live ones without one of them.
 
-newest : (ms live : List Module) (m : Module) (start old : Environment) → AreLayered ms start live old → IsAsCertified ms m
+newest : (ms : List Candidate) (live : List Module) (m : Module) (start old : Environment) → AreLayered ms start live old → IsAsCertified ms m
     → ((n : Module) → IsAmong n live → in_conflict m n ≡ false) → Fits (Loads m) old → AreCertifiedTogether ms (m ∷ live)
 newest ms live m start old s c k fits = (c, (λ n b. neither (bytes_eq m.name n.name) (in_conflict m n) (not_named m.name first.0 live absent n b) (k n b)), s.together)
   where
@@ -47,28 +48,28 @@ left_among : (name : Text) (live : List Module) (n : Module) → IsAmong n (with
 left_among name [] n a = a
 left_among name (m ∷ live) n a = left_at name m live (bytes_eq name m.name) n (left_among name live n) a
 
-less_at : (ms : List Module) (name : Text) (m : Module) (live : List Module) (b : Bool)
+less_at : (ms : List Candidate) (name : Text) (m : Module) (live : List Module) (b : Bool)
     → AreCertifiedTogether ms (m ∷ live) → AreCertifiedTogether ms (without_live name live)
     → AreCertifiedTogether ms (cond b live (m ∷ without_live name live))
 less_at ms name m live true t h = t.2
 less_at ms name m live false t h = (t.0, (λ n a. t.1 n (left_among name live n a)), h)
 
-less_together : (ms : List Module) (name : Text) (live : List Module) → AreCertifiedTogether ms live → AreCertifiedTogether ms (without_live name live)
+less_together : (ms : List Candidate) (name : Text) (live : List Module) → AreCertifiedTogether ms live → AreCertifiedTogether ms (without_live name live)
 less_together ms name [] t = tt
 less_together ms name (m ∷ live) t = less_at ms name m live (bytes_eq name m.name) t (less_together ms name live t.2)
 
 less_used : (name v : Text) (x : VariableUse) (live : List Module) → IsAmong (v, x) (used_by_modules (without_live name live)) → IsAmong (v, x) (used_by_modules live)
 less_used name v x live a = let p = user_of v x (without_live name live) a in used_among v x p.user live (left_among name live p.user p.there) p.uses
 
-used_of : (ms live : List Module) → AreCertifiedTogether ms live → AreUses (uses_by live) live
+used_of : (ms : List Candidate) (live : List Module) → AreCertifiedTogether ms live → AreUses (uses_by live) live
 used_of ms live t = each_use live (one_use ms live t)
 
-held : MovesPreserve → (ms live : List Module) (start e : Environment) → AreLayered ms start live e → Holds (uses_by live) start live e
+held : MovesPreserve → (ms : List Candidate) (live : List Module) (start e : Environment) → AreLayered ms start live e → Holds (uses_by live) start live e
 held preserve ms live start e s =
     (preserve (uses_by live) start e e live [] s.begins s.order s.start_with_live (all_fit ms live (uses_by live) s.together (used_of ms live s.together)) tt refl).0
 
 -- A load: the uses of the module are taken up before it.
-loaded : RunsReturn → MovesPreserve → (ms live : List Module) (m : Module) (start old new : Environment) → AreLayered ms start live old → IsAsCertified ms m
+loaded : RunsReturn → MovesPreserve → (ms : List Candidate) (live : List Module) (m : Module) (start old new : Environment) → AreLayered ms start live old → IsAsCertified ms m
     → AgreesWith (used_by m.records) start → ((n : Module) → IsAmong n live → in_conflict m n ≡ false) → Fits (Loads m) old → moved (Loads m) old ≡ Ok new
     → AreLayered ms start (m ∷ live) new
 loaded runs preserve ms live m start old new s c a k fits h =
@@ -88,7 +89,7 @@ loaded runs preserve ms live m start old new s c a k fits h =
     used_among_more v f = let p = user_of v (uses_by live v) live f in used_among v (uses_by live v) p.user (m ∷ live) (inr p.there) p.uses
 
 -- An unload: the uses that only its module had are laid down after it.
-unloaded : MovesPreserve → (ms live : List Module) (m : Module) (start old new : Environment) → AreLayered ms start live old
+unloaded : MovesPreserve → (ms : List Candidate) (live : List Module) (m : Module) (start old new : Environment) → AreLayered ms start live old
     → Undoes live m → Fits (Unloads m) old → moved (Unloads m) old ≡ Ok new → AreLayered ms start (without_live m.name live) new
 unloaded preserve ms live m start old new s d fits h =
     let u = uses_by live in
@@ -102,7 +103,7 @@ unloaded preserve ms live m start old new s d fits h =
     let o = laid_down u start new less s.begins same (of_kind ms less t) (record { order = r.0.order; start_with_live = r.0.start_with_live }) in
     record { together = t; begins = by_fewer u less start same s.begins; order = o.order; start_with_live = o.start_with_live }
 
-layered : RunsReturn → MovesPreserve → (ms live : List Module) (moves : List Move) (start old new : Environment)
+layered : RunsReturn → MovesPreserve → (ms : List Candidate) (live : List Module) (moves : List Move) (start old new : Environment)
     → AreLayered ms start live old → AreCertified ms start live moves → MovesReach moves old new
     → AreLayered ms start (live_after live moves) new
 layered runs preserve ms live [] start old new s c r = subst (AreLayered ms start live) (sym r) s
@@ -122,7 +123,7 @@ reach_parts : (done rest : List Move) (old new : Environment) → MovesReach (do
 reach_parts [] rest old new r = (old, refl, r)
 reach_parts (m ∷ done) rest old new r = let p = reach_parts done rest r.1.0 new r.1.2 in (p.0, (r.0, (r.1.0, r.1.1, p.1)), p.2)
 
-front : (ms live : List Module) (start : Environment) (done rest : List Move) → AreCertified ms start live (done ++ rest) → AreCertified ms start live done
+front : (ms : List Candidate) (live : List Module) (start : Environment) (done rest : List Move) → AreCertified ms start live (done ++ rest) → AreCertified ms start live done
 front ms live start [] rest c = tt
 front ms live start (Loads m ∷ done) rest c = (c.0, c.1, c.2, front ms (m ∷ live) start done rest c.3)
 front ms live start (Unloads m ∷ done) rest c = (c.0, front ms (without_live m.name live) start done rest c.1)

@@ -13,10 +13,10 @@ use Rattle.std.proofs.lemmas.Cmp.{nat_cmp_total, nat_list_cmp_total, on_total, t
 use Rattle.std.proofs.lemmas.Map.Text.{is_eq-slice_cmp}
 use Rattle.envvars.specs.Texts.{Text}
 use Rattle.envvars.proofs.TextLemmas.{bytes_eq-symmetric}
-use Rattle.modulefile.specs.Moves.{Module}
+use Rattle.sitecertificate.specs.Candidates.{Candidate}
 use Rattle.reversal.specs.VariableUses.{VariableUse, Untouched, Fixed, Absent, Pathed, Stacked}
 use Rattle.sitecertificate.specs.RecordUses.{IsAmong}
-use Rattle.sitecertificate.specs.Clashes.{is_other, names_in_conflict, exclude, go_together, agree_at_start, uses_clash}
+use Rattle.sitecertificate.specs.Clashes.{is_other, excludes_by, are_kept_apart, go_together, agree_at_start, uses_clash}
 use Rattle.sitecertificate.specs.Clashes.{Clash, do_clash}
 use Rattle.sitecertificate.specs.Ranks.{rivals, rank_order, comes_before}
 use Rattle.sitecertificate.specs.Certificates.{clashes_before, stays, staying}
@@ -67,19 +67,19 @@ all_pass (x ∷ xs) = omega (arith, all_pass xs)
 
 -- ---- the order
 
-pub rank_total : (ms : List Module) → IsTotalOrder (rank_order ms)
-rank_total ms = then_total (on_total (rivals ms) nat_cmp_total) (then_total (on_total (λ (m : Module). m.name) nat_list_cmp_total) (on_total (λ (m : Module). m.path) nat_list_cmp_total))
+pub rank_total : (ms : List Candidate) → IsTotalOrder (rank_order ms)
+rank_total ms = then_total (on_total (rivals ms) nat_cmp_total) (then_total (on_total (λ (m : Candidate). m.name) nat_list_cmp_total) (on_total (λ (m : Candidate). m.path) nat_list_cmp_total))
 
 is_less : (o : Ordering) → is_lt o ≡ true → o ≡ Less
 is_less Less h = refl
 is_less Equal h = absurd (false≢true h)
 is_less Greater h = absurd (false≢true h)
 
-pub before_through : (ms : List Module) (k m n : Module) → comes_before ms k m ≡ true → comes_before ms m n ≡ true → comes_before ms k n ≡ true
+pub before_through : (ms : List Candidate) (k m n : Candidate) → comes_before ms k m ≡ true → comes_before ms m n ≡ true → comes_before ms k n ≡ true
 before_through ms k m n h i =
     ap is_lt ((rank_total ms).trans k m n (is_less (rank_order ms k m) h) (is_less (rank_order ms m n) i))
 
-before_itself : (ms : List Module) (m : Module) → comes_before ms m m ≡ false
+before_itself : (ms : List Candidate) (m : Candidate) → comes_before ms m m ≡ false
 before_itself ms m = ap is_lt (tied_itself (rank_total ms) m)
 
 both_equal : (a b : Ordering) → ordering_then a b ≡ Equal → (a ≡ Equal) × (b ≡ Equal)
@@ -87,14 +87,14 @@ both_equal Less b h = absurd (false≢true (ap is_eq h))
 both_equal Equal b h = (refl, h)
 both_equal Greater b h = absurd (false≢true (ap is_eq h))
 
-same_parts : (ms : List Module) (m n : Module) → rank_order ms m n ≡ Equal → is_other m n ≡ false
+same_parts : (ms : List Candidate) (m n : Candidate) → rank_order ms m n ≡ Equal → is_other m n ≡ false
 same_parts ms m n h =
     let p = both_equal (nat_cmp (rivals ms m) (rivals ms n)) (ordering_then (slice_cmp nat_cmp m.name n.name) (slice_cmp nat_cmp m.path n.path)) h in
     let q = both_equal (slice_cmp nat_cmp m.name n.name) (slice_cmp nat_cmp m.path n.path) p.1 in
     ap not (and_from (bytes_eq m.name n.name) (bytes_eq m.path n.path)
     (sym (is_eq-slice_cmp m.name n.name) ∙ ap is_eq q.0) (sym (is_eq-slice_cmp m.path n.path) ∙ ap is_eq q.1))
 
-pub before_either : (ms : List Module) (m n : Module) → is_other m n ≡ true → comes_before ms m n ≡ false → comes_before ms n m ≡ true
+pub before_either : (ms : List Candidate) (m n : Candidate) → is_other m n ≡ true → comes_before ms m n ≡ false → comes_before ms n m ≡ true
 before_either ms m n o h = by (rank_order ms m n) refl
   where
     by : (r : Ordering) → rank_order ms m n ≡ r → comes_before ms n m ≡ true
@@ -104,21 +104,21 @@ before_either ms m n o h = by (rank_order ms m n) refl
 
 -- ---- how many come before
 
-abbrev before_count : List Module → Module → ℕ
+abbrev before_count : List Candidate → Candidate → ℕ
 before_count ms m = length (filter (λ k. comes_before ms k m) ms)
 
-fewer_before : (ms : List Module) (k m : Module) → IsAmong k ms → comes_before ms k m ≡ true → before_count ms k < before_count ms m
+fewer_before : (ms : List Candidate) (k m : Candidate) → IsAmong k ms → comes_before ms k m ≡ true → before_count ms k < before_count ms m
 fewer_before ms k m a h = one_more_passes (λ n. comes_before ms n k) (λ n. comes_before ms n m) ms k (λ n i. before_through ms n k m i h) a (before_itself ms k) h
 
-not_all_before : (ms : List Module) (m : Module) → IsAmong m ms → before_count ms m < length ms
+not_all_before : (ms : List Candidate) (m : Candidate) → IsAmong m ms → before_count ms m < length ms
 not_all_before ms m a = omega (arith, one_more_passes (λ n. comes_before ms n m) (λ n. true) ms m (λ n i. refl) a (before_itself ms m) refl, all_pass ms)
 
 -- ---- who stays
 
-no_earlier_clash : (ms : List Module) (k m : Module) → comes_before ms k m ≡ false → clashes_before ms k m ≡ false
+no_earlier_clash : (ms : List Candidate) (k m : Candidate) → comes_before ms k m ≡ false → clashes_before ms k m ≡ false
 no_earlier_clash ms k m h = ap (λ (b : Bool). b && (is_other m k && do_clash m k)) h
 
-same_stays : (ms : List Module) (n : ℕ) (m : Module) → before_count ms m < n → stays n ms m ≡ stays (suc n) ms m
+same_stays : (ms : List Candidate) (n : ℕ) (m : Candidate) → before_count ms m < n → stays n ms m ≡ stays (suc n) ms m
 same_stays ms zero m l = absurd (omega (arith, l))
 same_stays ms (suc n) m l = ap not (any_alike (λ k. stays n ms k && clashes_before ms k m) (λ k. stays (suc n) ms k && clashes_before ms k m) ms
     (λ k a. by_test (comes_before ms k m) _
@@ -126,16 +126,16 @@ same_stays ms (suc n) m l = ap not (any_alike (λ k. stays n ms k && clashes_bef
     (λ f. and_no (stays n ms k) (clashes_before ms k m) (no_earlier_clash ms k m f) ∙ sym (and_no (stays (suc n) ms k) (clashes_before ms k m) (no_earlier_clash ms k m f)))))
 
 -- a module clashes with none of these that comes before it
-abbrev pub is_free : List Module → List Module → Module → Bool
+abbrev pub is_free : List Candidate → List Candidate → Candidate → Bool
 is_free ms cs m = not (list_any (λ k. clashes_before ms k m) cs)
 
-stays_is : (ms : List Module) (m : Module) → IsAmong m ms → stays (length ms) ms m ≡ is_free ms (staying ms) m
+stays_is : (ms : List Candidate) (m : Candidate) → IsAmong m ms → stays (length ms) ms m ≡ is_free ms (staying ms) m
 stays_is ms m a = same_stays ms (length ms) m (not_all_before ms m a) ∙ ap not (sym (any_kept (λ k. clashes_before ms k m) (stays (length ms) ms) ms))
 
-pub of_staying : (ms : List Module) (m : Module) → IsAmong m (staying ms) → IsAmong m ms × (is_free ms (staying ms) m ≡ true)
+pub of_staying : (ms : List Candidate) (m : Candidate) → IsAmong m (staying ms) → IsAmong m ms × (is_free ms (staying ms) m ≡ true)
 of_staying ms m h = let f = filtered (stays (length ms) ms) ms m h in (f.0, sym (stays_is ms m f.0) ∙ f.1)
 
-pub to_staying : (ms : List Module) (m : Module) → IsAmong m ms → is_free ms (staying ms) m ≡ true → IsAmong m (staying ms)
+pub to_staying : (ms : List Candidate) (m : Candidate) → IsAmong m ms → is_free ms (staying ms) m ≡ true → IsAmong m (staying ms)
 to_staying ms m a h = in_filter (stays (length ms) ms) ms m a (stays_is ms m a ∙ h)
 
 -- ---- clashes, from the other side
@@ -148,7 +148,11 @@ option_turned (Some x) (Some y) = bytes_eq-symmetric x y
 
 -- uses that go together are one
 pub go_equal : (x y : VariableUse) → go_together x y ≡ true → x ≡ y
-go_equal Untouched y h = absurd (false≢true h)
+go_equal Untouched Untouched h = refl
+go_equal Untouched (Fixed a) h = absurd (false≢true h)
+go_equal Untouched Absent h = absurd (false≢true h)
+go_equal Untouched (Pathed d) h = absurd (false≢true h)
+go_equal Untouched Stacked h = absurd (false≢true h)
 go_equal (Fixed a) y h = absurd (false≢true h)
 go_equal Absent Untouched h = absurd (false≢true h)
 go_equal Absent (Fixed a) h = absurd (false≢true h)
@@ -205,44 +209,44 @@ or_turned true false = refl
 or_turned false true = refl
 or_turned false false = refl
 
-exclude_turned : (m n : Module) → exclude m n ≡ exclude n m
-exclude_turned m n =
-    ap (λ (b : Bool). b || (names_in_conflict m n || names_in_conflict n m)) (bytes_eq-symmetric m.name n.name)
-    ∙ ap (λ (b : Bool). bytes_eq n.name m.name || b) (or_turned (names_in_conflict m n) (names_in_conflict n m))
+apart_turned : (m n : Candidate) (x y : VariableUse) → are_kept_apart m n x y ≡ are_kept_apart n m y x
+apart_turned m n x y =
+    ap (λ (b : Bool). b || (excludes_by x m n || excludes_by y n m)) (bytes_eq-symmetric m.name n.name)
+    ∙ ap (λ (b : Bool). bytes_eq n.name m.name || b) (or_turned (excludes_by x m n) (excludes_by y n m))
 
 uses_turned : (e : Bool) (x y : VariableUse) → uses_clash e x y ≡ uses_clash e y x
 uses_turned e x y = λ i. not (e || go_turned x y i) || not (agree_turned x y i)
 
-clash_turned : (m n : Module) (v : Text) (x y : VariableUse) → Clash m n v x y → Clash n m v y x
+clash_turned : (m n : Candidate) (v : Text) (x y : VariableUse) → Clash m n v x y → Clash n m v y x
 clash_turned m n v x y c = record {
   first = c.second;
   second = c.first;
-  clash = ap (λ (e : Bool). uses_clash e y x) (exclude_turned n m) ∙ (uses_turned (exclude m n) y x ∙ c.clash);
+  clash = ap (λ (e : Bool). uses_clash e y x) (apart_turned n m y x) ∙ (uses_turned (are_kept_apart m n x y) y x ∙ c.clash);
 }
 
-pub other_turned : (m n : Module) → is_other m n ≡ is_other n m
+pub other_turned : (m n : Candidate) → is_other m n ≡ is_other n m
 other_turned m n = λ i. not (bytes_eq-symmetric m.name n.name i && bytes_eq-symmetric m.path n.path i)
 
-pub do_clash_turned : (m n : Module) → do_clash m n ≡ true → do_clash n m ≡ true
+pub do_clash_turned : (m n : Candidate) → do_clash m n ≡ true → do_clash n m ≡ true
 do_clash_turned m n h = let c = clashes m n h in to_clashes n m c.variable c.other c.one (clash_turned m n c.variable c.one c.other c.clash)
 
 -- ---- together, and no more
 
-pub free_of : (ms cs : List Module) (k m : Module) → is_free ms cs m ≡ true → IsAmong k cs → clashes_before ms k m ≡ false
+pub free_of : (ms cs : List Candidate) (k m : Candidate) → is_free ms cs m ≡ true → IsAmong k cs → clashes_before ms k m ≡ false
 free_of ms cs k m h a = fails_each (λ n. clashes_before ms n m) cs k (not-true (list_any (λ n. clashes_before ms n m) cs) h) a
 
-pub clash_before : (ms : List Module) (k m : Module) → comes_before ms k m ≡ true → is_other m k ≡ true → do_clash m k ≡ true → clashes_before ms k m ≡ true
+pub clash_before : (ms : List Candidate) (k m : Candidate) → comes_before ms k m ≡ true → is_other m k ≡ true → do_clash m k ≡ true → clashes_before ms k m ≡ true
 clash_before ms k m b o c = and_from (comes_before ms k m) (is_other m k && do_clash m k) b (and_from (is_other m k) (do_clash m k) o c)
 
 -- no two that stay clash
-pub staying_apart : (ms : List Module) (m n : Module) → IsAmong m (staying ms) → IsAmong n (staying ms) → is_other m n ≡ true → do_clash m n ≡ true → ⊥
+pub staying_apart : (ms : List Candidate) (m n : Candidate) → IsAmong m (staying ms) → IsAmong n (staying ms) → is_other m n ≡ true → do_clash m n ≡ true → ⊥
 staying_apart ms m n a b o c = by_test (comes_before ms m n) _
     (λ t. false≢true (sym (free_of ms (staying ms) m n (of_staying ms n b).1 a)
     ∙ clash_before ms m n t (sym (other_turned m n) ∙ o) (do_clash_turned m n c)))
     (λ f. false≢true (sym (free_of ms (staying ms) n m (of_staying ms m a).1 b) ∙ clash_before ms n m (before_either ms m n o f) o c))
 
 -- whoever clashes with none of them stays
-pub staying_most : (ms : List Module) (m : Module) → IsAmong m ms → ((n : Module) → IsAmong n (staying ms) → is_other m n ≡ true → do_clash m n ≡ true → ⊥) → IsAmong m (staying ms)
+pub staying_most : (ms : List Candidate) (m : Candidate) → IsAmong m ms → ((n : Candidate) → IsAmong n (staying ms) → is_other m n ≡ true → do_clash m n ≡ true → ⊥) → IsAmong m (staying ms)
 staying_most ms m a h = to_staying ms m a (by_test (list_any (λ k. clashes_before ms k m) (staying ms)) _
     (λ t. let s = any_some (λ k. clashes_before ms k m) (staying ms) t in
     let p = and_parts (comes_before ms s.0 m) (is_other m s.0 && do_clash m s.0) s.2 in
@@ -251,8 +255,8 @@ staying_most ms m a h = to_staying ms m a (by_test (list_any (λ k. clashes_befo
     (λ f. ap not f))
 
 -- who does not stay clashes with one that does
-pub aside_clashes : (ms : List Module) (m : Module) → IsAmong m ms → (IsAmong m (staying ms) → ⊥)
-    → (n : Module) × IsAmong n (staying ms) × (comes_before ms n m ≡ true) × (is_other m n ≡ true) × (do_clash m n ≡ true)
+pub aside_clashes : (ms : List Candidate) (m : Candidate) → IsAmong m ms → (IsAmong m (staying ms) → ⊥)
+    → (n : Candidate) × IsAmong n (staying ms) × (comes_before ms n m ≡ true) × (is_other m n ≡ true) × (do_clash m n ≡ true)
 aside_clashes ms m a h = by_test (list_any (λ k. clashes_before ms k m) (staying ms)) _
     (λ t. let s = any_some (λ k. clashes_before ms k m) (staying ms) t in
     let p = and_parts (comes_before ms s.0 m) (is_other m s.0 && do_clash m s.0) s.2 in
@@ -263,13 +267,13 @@ aside_clashes ms m a h = by_test (list_any (λ k. clashes_before ms k m) (stayin
 -- ---- one choice
 
 -- each of the list is one of these exactly where it clashes with none of them that comes before it
-abbrev pub IsChoice : List Module → List Module → Type 0
-IsChoice ms cs = (m : Module) → IsAmong m cs ↔ (IsAmong m ms × (is_free ms cs m ≡ true))
+abbrev pub IsChoice : List Candidate → List Candidate → Type 0
+IsChoice ms cs = (m : Candidate) → IsAmong m cs ↔ (IsAmong m ms × (is_free ms cs m ≡ true))
 
-pub staying_chosen : (ms : List Module) → IsChoice ms (staying ms)
+pub staying_chosen : (ms : List Candidate) → IsChoice ms (staying ms)
 staying_chosen ms m = (of_staying ms m, λ h. to_staying ms m h.0 h.1)
 
-as_chosen : (ms cs ds : List Module) → IsChoice ms cs → IsChoice ms ds → (n : ℕ) (m : Module) → before_count ms m < n → IsAmong m cs → IsAmong m ds
+as_chosen : (ms cs ds : List Candidate) → IsChoice ms cs → IsChoice ms ds → (n : ℕ) (m : Candidate) → before_count ms m < n → IsAmong m cs → IsAmong m ds
 as_chosen ms cs ds c d zero m l a = absurd (omega (arith, l))
 as_chosen ms cs ds c d (suc n) m l a =
     let p = (c m).0 a in
@@ -283,5 +287,5 @@ as_chosen ms cs ds c d (suc n) m l a =
           (λ f. ap not f),
     )
 
-pub one_choice : (ms cs ds : List Module) → IsChoice ms cs → IsChoice ms ds → (m : Module) → IsAmong m cs → IsAmong m ds
+pub one_choice : (ms cs ds : List Candidate) → IsChoice ms cs → IsChoice ms ds → (m : Candidate) → IsAmong m cs → IsAmong m ds
 one_choice ms cs ds c d m a = as_chosen ms cs ds c d (suc (before_count ms m)) m (omega arith) a

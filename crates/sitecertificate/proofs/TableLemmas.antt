@@ -7,7 +7,7 @@ use Rattle.std.proofs.lemmas.Map.Text.{hash_map_updates_str}
 use Rattle.indexmap.specs.IndexMap.{IndexMap, get_by}
 use Rattle.envvars.specs.Texts.{Text}
 use Rattle.envvars.proofs.TextLemmas.{bytes_eq-symmetric}
-use Rattle.modulefile.specs.Moves.{Module}
+use Rattle.sitecertificate.specs.Candidates.{Candidate}
 use Rattle.sitecertificate.specs.declared.uses.UsedVariable as code
 use Rattle.sitecertificate.specs.UseViews.{used_view}
 use Rattle.std.specs.List.{list_any}
@@ -40,7 +40,7 @@ pub users_found : {S : Type 0} (m : IndexMap (Bor Text) VariableUsers S) (v : Te
 users_found m v old e = ap (λ (o : Option VariableUsers). option_map_or (λ users. users_in users.ways.items) o []) e
 
 -- a use of a module in the code
-abbrev pub use_of : Module → code.UsedVariable → ModuleUse
+abbrev pub use_of : Candidate → code.UsedVariable → ModuleUse
 use_of m p = record { owner = m; used = used_view p }
 
 -- whether one of some users clashes with a user of its variable

@@ -11,7 +11,7 @@ use Rattle.std.proofs.lemmas.List.{map-append}
 use Rattle.std.proofs.lemmas.List.Sorted.{sorted_far, ranks_by, IsPermutation-sym}
 use Rattle.std.proofs.lemmas.Cmp.{nat_cmp_total, nat_list_cmp_total, on_total, then_total}
 use Rattle.envvars.proofs.TextLemmas.{bytes_eq-same}
-use Rattle.modulefile.specs.Moves.{Module}
+use Rattle.sitecertificate.specs.Candidates.{Candidate}
 use Rattle.sitecertificate.specs.RecordUses.{IsAmong}
 use Rattle.sitecertificate.specs.Clashes.{is_other, do_clash}
 use Rattle.sitecertificate.specs.Ranks.{rivals, comes_before, rank_order}
@@ -19,7 +19,7 @@ use Rattle.sitecertificate.specs.Certificates.{clashes_before, staying}
 use Rattle.sitecertificate.specs.Ranked.{ranked_module, ranked_order, AreRanked, clashes_among, with_next, taken}
 use Rattle.sitecertificate.specs.declared.ranks.Ranked.{Ranked}
 use Rattle.sitecertificate.specs.declared.module_uses.UsingModule.{UsingModule}
-use Rattle.sitecertificate.specs.UsingModules.{module_of}
+use Rattle.sitecertificate.specs.UsingModules.{candidate_of}
 use Rattle.sitecertificate.proofs.UsedLemmas.{by_test, by_cases, among_left, among_right, among_either}
 use Rattle.sitecertificate.proofs.Exact.{any_some}
 use Rattle.sitecertificate.proofs.Members.{fails_each}
@@ -28,50 +28,50 @@ use Rattle.sitecertificate.proofs.Staying.{staying_chosen, one_choice}
 use Rattle.sitecertificate.proofs.CertifiedOnes.{among_moved, among_contains}
 use Rattle.sitecertificate.proofs.AnswerLemmas.{among_mapped, map_more}
 
-itself : (m : Module) → is_other m m ≡ false
+itself : (m : Candidate) → is_other m m ≡ false
 itself m = rw (bytes_eq-same m.name, bytes_eq-same m.path) refl
 
-among_back : (ms ns : List Module) → IsPermutation ms ns → (m : Module) → IsAmong m ns → IsAmong m ms
+among_back : (ms ns : List Candidate) → IsPermutation ms ns → (m : Candidate) → IsAmong m ns → IsAmong m ms
 among_back ms ns h m a = among_moved ns ms (IsPermutation-sym ms ns h) m a
 
 -- none of the later ones comes before an earlier one
-abbrev pub AreInOrder : List Module → List Module → Type 0
+abbrev pub AreInOrder : List Candidate → List Candidate → Type 0
 AreInOrder ms [] = Unit {0}
-AreInOrder ms (m ∷ rest) = ((n : Module) → IsAmong n rest → comes_before ms n m ≡ false) × AreInOrder ms rest
+AreInOrder ms (m ∷ rest) = ((n : Candidate) → IsAmong n rest → comes_before ms n m ≡ false) × AreInOrder ms rest
 
-abbrev AreAfter : List Module → List Module → List Module → Type 0
-AreAfter ms done rest = (n m : Module) → IsAmong n done → IsAmong m rest → comes_before ms m n ≡ false
+abbrev AreAfter : List Candidate → List Candidate → List Candidate → Type 0
+AreAfter ms done rest = (n m : Candidate) → IsAmong n done → IsAmong m rest → comes_before ms m n ≡ false
 
 -- the next one is taken, or clashes
-next_kept : (done : List Module) (m n : Module) → IsAmong n done → IsAmong n (with_next done m)
+next_kept : (done : List Candidate) (m n : Candidate) → IsAmong n done → IsAmong n (with_next done m)
 next_kept done m n a = by_test (clashes_among done m) _
     (λ t. rw t a)
     (λ f. rw f (among_left n done (m ∷ []) a))
 
-next_either : (done : List Module) (m n : Module) → IsAmong n (with_next done m) → IsAmong n done ⊎ ((n ≡ m) × (clashes_among done m ≡ false))
+next_either : (done : List Candidate) (m n : Candidate) → IsAmong n (with_next done m) → IsAmong n done ⊎ ((n ≡ m) × (clashes_among done m ≡ false))
 next_either done m n a = by_test (clashes_among done m) _
     (λ t. inl (subst (λ (b : Bool). IsAmong n (cond b done (done ++ m ∷ []))) t a))
     (λ f. by_cases (among_either n done (m ∷ []) (subst (λ (b : Bool). IsAmong n (cond b done (done ++ m ∷ []))) f a))
     (λ k. inl k) (λ k. by_cases k (λ e. inr (e, f)) (λ no. absurd no)))
 
-next_taken : (done : List Module) (m : Module) → clashes_among done m ≡ false → IsAmong m (with_next done m)
+next_taken : (done : List Candidate) (m : Candidate) → clashes_among done m ≡ false → IsAmong m (with_next done m)
 next_taken done m f = rw f (among_right m done (m ∷ []) (inl refl))
 
-next_after : (ms done rest : List Module) (m : Module) → AreAfter ms done (m ∷ rest) → ((n : Module) → IsAmong n rest → comes_before ms n m ≡ false) → AreAfter ms (with_next done m) rest
+next_after : (ms done rest : List Candidate) (m : Candidate) → AreAfter ms done (m ∷ rest) → ((n : Candidate) → IsAmong n rest → comes_before ms n m ≡ false) → AreAfter ms (with_next done m) rest
 next_after ms done rest m h k n l a b = by_cases (next_either done m n a)
     (λ i. h n l i (inr b))
-    (λ p. subst (λ (x : Module). comes_before ms l x ≡ false) (sym p.0) (k l b))
+    (λ p. subst (λ (x : Candidate). comes_before ms l x ≡ false) (sym p.0) (k l b))
 
-taken_kept : (done rest : List Module) (n : Module) → IsAmong n done → IsAmong n (fold with_next done rest)
+taken_kept : (done rest : List Candidate) (n : Candidate) → IsAmong n done → IsAmong n (fold with_next done rest)
 taken_kept done [] n a = a
 taken_kept done (m ∷ rest) n a = taken_kept (with_next done m) rest n (next_kept done m n a)
 
 -- whoever is free is taken
-taken_free : (ms done rest : List Module) → AreAfter ms done rest → AreInOrder ms rest → (m : Module) → IsAmong m rest → is_free ms (fold with_next done rest) m ≡ true
+taken_free : (ms done rest : List Candidate) → AreAfter ms done rest → AreInOrder ms rest → (m : Candidate) → IsAmong m rest → is_free ms (fold with_next done rest) m ≡ true
     → IsAmong m (fold with_next done rest)
 taken_free ms done [] h o m a k = absurd a
 taken_free ms done (n ∷ rest) h o m (inr a) k = taken_free ms (with_next done n) rest (next_after ms done rest n h o.0) o.1 m a k
-taken_free ms done (n ∷ rest) h o m (inl e) k = subst (λ (x : Module). IsAmong x (fold with_next (with_next done n) rest)) (sym e)
+taken_free ms done (n ∷ rest) h o m (inl e) k = subst (λ (x : Candidate). IsAmong x (fold with_next (with_next done n) rest)) (sym e)
     (by_test (clashes_among done n) _
     (λ t. let s = any_some (λ l. is_other n l && do_clash n l) done t in
     let p = and_parts (is_other n s.0) (do_clash n s.0) s.2 in
@@ -82,14 +82,14 @@ taken_free ms done (n ∷ rest) h o m (inl e) k = subst (λ (x : Module). IsAmon
     (λ f. taken_kept (with_next done n) rest n (next_taken done n f)))
 
 -- whoever is taken is free
-abbrev Taken : List Module → List Module → List Module → Module → Type 0
+abbrev Taken : List Candidate → List Candidate → List Candidate → Candidate → Type 0
 Taken ms rest all m = IsAmong m rest × (is_free ms all m ≡ true)
 
-abbrev Later : List Module → List Module → List Module → List Module → Type 0
-Later ms done rest all = (k : Module) → IsAmong k all → IsAmong k done ⊎ Taken ms rest all k
+abbrev Later : List Candidate → List Candidate → List Candidate → List Candidate → Type 0
+Later ms done rest all = (k : Candidate) → IsAmong k all → IsAmong k done ⊎ Taken ms rest all k
 
-none_clashes : (ms done rest all : List Module) (n : Module) → Later ms (with_next done n) rest all → ((k : Module) → IsAmong k rest → comes_before ms k n ≡ false)
-    → clashes_among done n ≡ false → (k : Module) → IsAmong k all → clashes_before ms k n ≡ true → ⊥
+none_clashes : (ms done rest all : List Candidate) (n : Candidate) → Later ms (with_next done n) rest all → ((k : Candidate) → IsAmong k rest → comes_before ms k n ≡ false)
+    → clashes_among done n ≡ false → (k : Candidate) → IsAmong k all → clashes_before ms k n ≡ true → ⊥
 none_clashes ms done rest all n later o f k i c =
     let p = and_parts (comes_before ms k n) (is_other n k && do_clash n k) c in
     by_cases (later k i)
@@ -98,12 +98,12 @@ none_clashes ms done rest all n later o f k i c =
     (λ q. false≢true (sym (itself n) ∙ (ap (is_other n) (sym q.0) ∙ (and_parts (is_other n k) (do_clash n k) p.1).0))))
     (λ t. false≢true (sym (o k t.0) ∙ p.0))
 
-free_all : (ms all : List Module) (n : Module) → ((k : Module) → IsAmong k all → clashes_before ms k n ≡ true → ⊥) → is_free ms all n ≡ true
+free_all : (ms all : List Candidate) (n : Candidate) → ((k : Candidate) → IsAmong k all → clashes_before ms k n ≡ true → ⊥) → is_free ms all n ≡ true
 free_all ms all n h = by_test (list_any (λ k. clashes_before ms k n) all) _
     (λ t. let s = any_some (λ k. clashes_before ms k n) all t in absurd (h s.0 s.1 s.2))
     (λ g. ap not g)
 
-taken_are : (ms done rest : List Module) → AreAfter ms done rest → AreInOrder ms rest → Later ms done rest (fold with_next done rest)
+taken_are : (ms done rest : List Candidate) → AreAfter ms done rest → AreInOrder ms rest → Later ms done rest (fold with_next done rest)
 taken_are ms done [] h o m a = inl a
 taken_are ms done (n ∷ rest) h o m a =
     let all = fold with_next (with_next done n) rest in
@@ -111,10 +111,10 @@ taken_are ms done (n ∷ rest) h o m a =
     by_cases (later m a)
     (λ i. by_cases (next_either done n m i)
     (λ k. inl k)
-    (λ p. inr (inl p.0, subst (λ (x : Module). is_free ms all x ≡ true) (sym p.0) (free_all ms all n (none_clashes ms done rest all n later o.0 p.1)))))
+    (λ p. inr (inl p.0, subst (λ (x : Candidate). is_free ms all x ≡ true) (sym p.0) (free_all ms all n (none_clashes ms done rest all n later o.0 p.1)))))
     (λ t. inr (inr t.0, t.1))
 
-pub taken_stay : (ms all : List Module) → IsPermutation ms all → AreInOrder ms all → (m : Module) → IsAmong m (taken all) ↔ IsAmong m (staying ms)
+pub taken_stay : (ms all : List Candidate) → IsPermutation ms all → AreInOrder ms all → (m : Candidate) → IsAmong m (taken all) ↔ IsAmong m (staying ms)
 taken_stay ms all same o m = (one_choice ms (taken all) (staying ms) chosen (staying_chosen ms) m, one_choice ms (staying ms) (taken all) (staying_chosen ms) chosen m)
   where
     chosen : IsChoice ms (taken all)
@@ -134,7 +134,7 @@ ranked_total = then_total (on_total (λ (r : Ranked). r.rivals) nat_cmp_total)
 pub rank_weak : IsStrictWeakOrder (λ (r s : Ranked). is_lt (ranked_order r s))
 rank_weak = ranks_by ranked_total (λ (r : Ranked). r)
 
-ranked_is : (ms : List Module) (r s : Ranked) → r.rivals ≡ rivals ms (ranked_module r) → s.rivals ≡ rivals ms (ranked_module s)
+ranked_is : (ms : List Candidate) (r s : Ranked) → r.rivals ≡ rivals ms (ranked_module r) → s.rivals ≡ rivals ms (ranked_module s)
     → ranked_order r s ≡ rank_order ms (ranked_module r) (ranked_module s)
 ranked_is ms r s e f = λ i. ordering_then (nat_cmp (e i) (f i))
     (ordering_then (slice_cmp nat_cmp (ranked_module r).name (ranked_module s).name) (slice_cmp nat_cmp (ranked_module r).path (ranked_module s).path))
@@ -142,7 +142,7 @@ ranked_is ms r s e f = λ i. ordering_then (nat_cmp (e i) (f i))
 abbrev FarSorted : List Ranked → Type 0
 FarSorted rs = (i j : ℕ) (d : Ranked) → i ≤ j → j < length rs → is_lt (ranked_order (get_or rs j d) (get_or rs i d)) ≡ false
 
-far_order : (ms : List Module) (rs : List Ranked) → AreRanked ms rs → FarSorted rs → AreInOrder ms (map ranked_module rs)
+far_order : (ms : List Candidate) (rs : List Ranked) → AreRanked ms rs → FarSorted rs → AreInOrder ms (map ranked_module rs)
 far_order ms [] h s = tt
 far_order ms (r ∷ rs) h s = (
   λ n a.
@@ -150,27 +150,27 @@ far_order ms (r ∷ rs) h s = (
       let c = among_contains rs k.0 k.1 in
       let later : is_lt (ranked_order k.0 r) ≡ false
       = subst (λ (x : Ranked). is_lt (ranked_order x r) ≡ false) c.2 (s 0 (suc c.0) k.0 (omega arith) (omega (arith, c.1))) in
-      subst (λ (x : Module). comes_before ms x (ranked_module r) ≡ false) (sym k.2)
+      subst (λ (x : Candidate). comes_before ms x (ranked_module r) ≡ false) (sym k.2)
       (ap is_lt (sym (ranked_is ms k.0 r (h k.0 (inr k.1)) (h r (inl refl)))) ∙ later),
   far_order ms rs (λ x a. h x (inr a)) (λ i j d l m. s (suc i) (suc j) d (omega (arith, l)) (omega (arith, m))),
 )
 
-pub ranks_in_order : (ms : List Module) (rs : List Ranked) → AreRanked ms rs → IsSortedBy (λ (r s : Ranked). is_lt (ranked_order r s)) rs → AreInOrder ms (map ranked_module rs)
+pub ranks_in_order : (ms : List Candidate) (rs : List Ranked) → AreRanked ms rs → IsSortedBy (λ (r s : Ranked). is_lt (ranked_order r s)) rs → AreInOrder ms (map ranked_module rs)
 ranks_in_order ms rs h s = far_order ms rs h (sorted_far (λ (r s : Ranked). is_lt (ranked_order r s)) rank_weak rs s)
 
 -- ---- as the code has them
 
 pub ranks_turn : (old new : List Ranked) (users : List UsingModule) (i : ℕ) (x : UsingModule) (r : Ranked) → i < length users → x ≡ get_or users i x
-    → new ≡ old ++ r ∷ [] → r.candidate.now ≡ x → map ranked_module old ≡ map module_of (take i users) → map ranked_module new ≡ map module_of (take (i + 1) users)
+    → new ≡ old ++ r ∷ [] → r.candidate.now ≡ x → map ranked_module old ≡ map candidate_of (take i users) → map ranked_module new ≡ map candidate_of (take (i + 1) users)
 ranks_turn old new users i x r l is e q h =
     ap (map ranked_module) e
     ∙ (map-append ranked_module old (r ∷ [])
-    ∙ ((λ k. h k ++ module_of (q k) ∷ []) ∙ sym (map_more module_of users i x l is)))
+    ∙ ((λ k. h k ++ candidate_of (q k) ∷ []) ∙ sym (map_more candidate_of users i x l is)))
 
-pub ranked_turn : (ms : List Module) (old new : List Ranked) (r : Ranked) → new ≡ old ++ r ∷ [] → AreRanked ms old → r.rivals ≡ rivals ms (ranked_module r) → AreRanked ms new
+pub ranked_turn : (ms : List Candidate) (old new : List Ranked) (r : Ranked) → new ≡ old ++ r ∷ [] → AreRanked ms old → r.rivals ≡ rivals ms (ranked_module r) → AreRanked ms new
 ranked_turn ms old new r e h k x a = by_cases (among_either x old (r ∷ []) (subst (IsAmong x) e a))
     (λ b. h x b)
     (λ b. by_cases b (λ q. subst (λ (y : Ranked). y.rivals ≡ rivals ms (ranked_module y)) (sym q) k) (λ no. absurd no))
 
-pub ranked_moved : (ms : List Module) (old new : List Ranked) → IsPermutation old new → AreRanked ms old → AreRanked ms new
+pub ranked_moved : (ms : List Candidate) (old new : List Ranked) → IsPermutation old new → AreRanked ms old → AreRanked ms new
 ranked_moved ms old new same h x a = h x (among_moved new old (IsPermutation-sym old new same) x a)

@@ -8,7 +8,7 @@ use Rattle.std.proofs.lemmas.Bool.{and_parts, and_from}
 use Rattle.std.proofs.lemmas.Grind.{flat_map-append}
 use Rattle.std.proofs.lemmas.List.{take_more, map-append}
 use Rattle.envvars.specs.Texts.{Text}
-use Rattle.modulefile.specs.Moves.{Module}
+use Rattle.sitecertificate.specs.Candidates.{Candidate}
 use Rattle.sitecertificate.specs.RecordUses.{IsAmong}
 use Rattle.sitecertificate.specs.Clashes.{is_other, do_clash}
 use Rattle.sitecertificate.specs.Users.{ModuleUse, AreUsersOf, EntersAll, uses_of_module, uses_of_modules, do_users_clash}
@@ -23,20 +23,20 @@ use Rattle.sitecertificate.proofs.TableLemmas.{some_clash}
 use Rattle.sitecertificate.proofs.AnswerLemmas.{among_of, among_some, clashes_with_none, two_clash}
 
 -- a module that clashes with one of them
-next_passed_by : (users : Text → List ModuleUse) (m : Module) (x y : ModuleUse)
+next_passed_by : (users : Text → List ModuleUse) (m : Candidate) (x y : ModuleUse)
     → IsAmong x (uses_of_module m) × IsAmong y (users x.used.0) × (do_users_clash x y ≡ true)
-    → (ms : List Module) → AreUsersOf users (uses_of_modules ms) → with_next ms m ≡ ms
+    → (ms : List Candidate) → AreUsersOf users (uses_of_modules ms) → with_next ms m ≡ ms
 next_passed_by users m x y found ms all =
     let c = two_clash users m x y found ms all in
     let t : clashes_among ms m ≡ true = some_any (λ n. is_other m n && do_clash m n) ms c.0 c.1 (and_from (is_other m c.0) (do_clash m c.0) c.2 c.3) in
     rw t refl
 
-pub next_passed : (users : Text → List ModuleUse) (m : Module) (p : ModuleUse × ModuleUse)
+pub next_passed : (users : Text → List ModuleUse) (m : Candidate) (p : ModuleUse × ModuleUse)
     → IsAmong p.0 (uses_of_module m) × IsAmong p.1 (users p.0.used.0) × (do_users_clash p.0 p.1 ≡ true) → TakesNext users users m
-next_passed users m p found ms all = subst (λ (l : List Module). AreUsersOf users (uses_of_modules l)) (sym (next_passed_by users m p.0 p.1 found ms all)) all
+next_passed users m p found ms all = subst (λ (l : List Candidate). AreUsersOf users (uses_of_modules l)) (sym (next_passed_by users m p.0 p.1 found ms all)) all
 
 -- a module that clashes with none
-pub next_entered : (old new : Text → List ModuleUse) (m : Module) → some_clash old (uses_of_module m) ≡ false → EntersAll old new (uses_of_module m) → TakesNext old new m
+pub next_entered : (old new : Text → List ModuleUse) (m : Candidate) → some_clash old (uses_of_module m) ≡ false → EntersAll old new (uses_of_module m) → TakesNext old new m
 next_entered old new m h enters ms all =
     let none : clashes_among ms m ≡ false = by_test (clashes_among ms m) _
     (λ t. let s = any_some (λ n. is_other m n && do_clash m n) ms t in
@@ -51,7 +51,7 @@ next_entered old new m h enters ms all =
 
 -- one module more in their order
 
-fold_last : (ms : List Module) (done : List Module) (m : Module) → fold with_next done (ms ++ m ∷ []) ≡ with_next (fold with_next done ms) m
+fold_last : (ms : List Candidate) (done : List Candidate) (m : Candidate) → fold with_next done (ms ++ m ∷ []) ≡ with_next (fold with_next done ms) m
 fold_last [] done m = refl
 fold_last (n ∷ ms) done m = fold_last ms (with_next done n) m
 
@@ -61,11 +61,11 @@ pub taken_turn : (old new : Text → List ModuleUse) (xs : List Ranked) (i : ℕ
 taken_turn old new xs i x l is h k =
     let more : map ranked_module (take (i + 1) xs) ≡ map ranked_module (take i xs) ++ ranked_module x ∷ []
     = ap (map ranked_module) (take_more xs i x l ∙ ap (λ y. take i xs ++ y ∷ []) (sym is)) ∙ map-append ranked_module (take i xs) (x ∷ []) in
-    subst (λ (ms : List Module). AreUsersOf new (uses_of_modules ms)) (sym (ap taken more ∙ fold_last (map ranked_module (take i xs)) [] (ranked_module x)))
+    subst (λ (ms : List Candidate). AreUsersOf new (uses_of_modules ms)) (sym (ap taken more ∙ fold_last (map ranked_module (take i xs)) [] (ranked_module x)))
     (k (taken (map ranked_module (take i xs))) h)
 
 -- users of the same modules
-pub users_moved : (users : Text → List ModuleUse) (ms ns : List Module) → ((m : Module) → IsAmong m ms → IsAmong m ns) → ((m : Module) → IsAmong m ns → IsAmong m ms)
+pub users_moved : (users : Text → List ModuleUse) (ms ns : List Candidate) → ((m : Candidate) → IsAmong m ms → IsAmong m ns) → ((m : Candidate) → IsAmong m ns → IsAmong m ms)
     → AreUsersOf users (uses_of_modules ms) → AreUsersOf users (uses_of_modules ns)
 users_moved users ms ns f g all = record {
   complete = λ x a. let s = among_some uses_of_module ns x a in all.complete x (among_of uses_of_module ms s.0 x (g s.0 s.1) s.2);
@@ -73,7 +73,7 @@ users_moved users ms ns f g all = record {
 }
 
 -- the users of the taken ones are those of the modules that stay
-pub staying_users : (users : Text → List ModuleUse) (ms : List Module) (ranks : List Ranked) → IsPermutation ms (map ranked_module ranks) → AreRanked ms ranks
+pub staying_users : (users : Text → List ModuleUse) (ms : List Candidate) (ranks : List Ranked) → IsPermutation ms (map ranked_module ranks) → AreRanked ms ranks
     → IsSortedBy (λ (r s : Ranked). is_lt (ranked_order r s)) ranks → AreUsersOf users (uses_of_modules (taken (map ranked_module ranks))) → AreUsersOf users (uses_of_modules (staying ms))
 staying_users users ms ranks same ranked sorted all =
     let all_ranks = map ranked_module ranks in

@@ -12,15 +12,15 @@ use Rattle.indexmap.specs.IndexMap.{IndexMap, get_by, Updates}
 use Rattle.envvars.specs.Texts.{Text, has}
 use Rattle.envvars.proofs.TextLemmas.{same_text, bytes_eq-symmetric}
 use Rattle.modulefile.specs.Records.{conflict_names}
-use Rattle.modulefile.specs.Moves.{Module}
-use Rattle.reversal.specs.VariableUses.{VariableUse}
-use Rattle.sitecertificate.specs.RecordUses.{same_use}
+use Rattle.sitecertificate.specs.Candidates.{Candidate}
+use Rattle.reversal.specs.VariableUses.{VariableUse, Untouched, Fixed, Absent, Pathed, Stacked}
+use Rattle.sitecertificate.specs.RecordUses.{same_use, is_read}
 use Rattle.sitecertificate.specs.Clashes.{go_together}
 use Rattle.sitecertificate.specs.declared.uses.UsedVariable as code
 use Rattle.sitecertificate.specs.Users.{ModuleUse, first_part, uses_of_module, uses_of_modules}
 use Rattle.sitecertificate.proofs.TableLemmas.{use_of}
 use Rattle.sitecertificate.proofs.AnswerLemmas.{map_more, uses_more}
-use Rattle.sitecertificate.specs.Ranks.{is_rival}
+use Rattle.sitecertificate.specs.Ranks.{is_rival, excludes_versions}
 use Rattle.sitecertificate.specs.UseKeys.{key_view}
 use Rattle.sitecertificate.specs.declared.keys.UseKey.{UseKey}
 use Rattle.sitecertificate.specs.declared.tally.Counted.{Counted as CodeCounted}
@@ -28,10 +28,10 @@ use Rattle.sitecertificate.specs.contracts.tally.CountedPartialEq.TheImpl as Cou
 use Rattle.sitecertificate.specs.contracts.keys.UseKeyPartialEq.TheImpl as UseKeyEq
 use Rattle.sitecertificate.specs.declared.tally.Tally.{Tally}
 use Rattle.sitecertificate.specs.Tallies.{Counted, is_counted, counted_view, same_views, same_counted, counted_at, HasCounts, CountsMore}
-use Rattle.sitecertificate.specs.Tallies.{CountsOne, is_user, is_excluded_user, is_other_user}
+use Rattle.sitecertificate.specs.Tallies.{CountsOne, is_user, is_excluded_user, is_other_user, is_open_rival}
 use Rattle.sitecertificate.proofs.ConflictLemmas.{any_key}
 use Rattle.sitecertificate.proofs.UsedLemmas.{by_test}
-use Rattle.sitecertificate.proofs.Exact.{use_same, use_itself}
+use Rattle.sitecertificate.proofs.Exact.{use_same, use_itself, is_untouched}
 use Rattle.sitecertificate.proofs.Staying.{go_equal}
 use Rattle.sitecertificate.proofs.OnceLemmas.{use_keys_same}
 
@@ -335,12 +335,12 @@ all_rivals false g s h = refl
 
 -- what the conflicts exclude, by another test of names
 rivals_by : (x : ModuleUse) (excluded : Text → Bool) (us : List ModuleUse) → ((name : Text) → excluded name ≡ has name (conflict_names x.owner.records))
-    → count_by (λ y. bytes_eq x.used.0 y.used.0 && (not (go_together x.used.1 y.used.1) && not (excluded (first_part y.owner.name)))) us ≡ count_by (is_rival x) us
+    → count_by (λ y. bytes_eq x.used.0 y.used.0 && (not (go_together x.used.1 y.used.1) && not (excluded (first_part y.owner.name)))) us ≡ count_by (is_open_rival x) us
 rivals_by x excluded us e = count_alike _ _ us (λ y. ap (λ (b : Bool). bytes_eq x.used.0 y.used.0 && (not (go_together x.used.1 y.used.1) && not b)) (e (first_part y.owner.name)))
 
 -- where its use goes together with none
 pub rivals_all : (x : ModuleUse) (excluded : Text → Bool) (us : List ModuleUse) (n : ℕ) → ((name : Text) → excluded name ≡ has name (conflict_names x.owner.records))
-    → go_together x.used.1 x.used.1 ≡ false → n ≡ count_by (is_other_user x.used.0 None excluded) us → n ≡ count_by (is_rival x) us
+    → go_together x.used.1 x.used.1 ≡ false → n ≡ count_by (is_other_user x.used.0 None excluded) us → n ≡ count_by (is_open_rival x) us
 rivals_all x excluded us n e h k =
     k ∙ (count_alike _ _ us (λ y. all_rivals (bytes_eq x.used.0 y.used.0) (go_together x.used.1 y.used.1) (excluded (first_part y.owner.name)) (go_alone x.used.1 y.used.1 h))
     ∙ rivals_by x excluded us e)
@@ -348,7 +348,7 @@ rivals_all x excluded us n e h k =
 -- where it goes together with the same use
 pub rivals_without : (x : ModuleUse) (excluded : Text → Bool) (us : List ModuleUse) (n m : ℕ) → ((name : Text) → excluded name ≡ has name (conflict_names x.owner.records))
     → go_together x.used.1 x.used.1 ≡ true → n ≡ count_by (is_other_user x.used.0 None excluded) us → m ≡ count_by (is_other_user x.used.0 (Some x.used.1) excluded) us
-    → n - m ≡ count_by (is_rival x) us
+    → n - m ≡ count_by (is_open_rival x) us
 rivals_without x excluded us n m e h k l =
     let others = is_other_user x.used.0 None excluded in
     let same : ModuleUse → Bool = λ y. same_use x.used.1 y.used.1 in
@@ -358,6 +358,50 @@ rivals_without x excluded us n m e h k l =
     ∙ (count_alike _ _ us (λ y. ap (λ (b : Bool). others y && not b) (sym (go_itself x.used.1 y.used.1 h)) ∙ rival_at (bytes_eq x.used.0 y.used.0) (go_together x.used.1 y.used.1) (out y))
     ∙ rivals_by x excluded us e))
 
+-- so they are the rivals of one that doesn't read
+pub rivals_open : (x : ModuleUse) (us : List ModuleUse) (n : ℕ) → is_read x.used.1 ≡ false → n ≡ count_by (is_open_rival x) us → n ≡ count_by (is_rival x) us
+rivals_open x us n r h =
+    h ∙ count_alike _ _ us (λ y. sym (ap (λ (b : Bool). bytes_eq x.used.0 y.used.0 && (not (go_together x.used.1 y.used.1) && (b || not (excludes_versions x.owner y.owner)))) r))
+
+-- all that use the variable otherwise are the rivals of one that reads it
+
+read_goes : (y : VariableUse) → go_together Untouched y ≡ same_use Untouched y
+read_goes Untouched = refl
+read_goes (Fixed a) = refl
+read_goes Absent = refl
+read_goes (Pathed d) = refl
+read_goes Stacked = refl
+
+reader_rival : (b g t : Bool) → g ≡ t → ((b && (true && true)) && not (b && (t && true))) ≡ (b && (not g && true))
+reader_rival true g true e = rw e refl
+reader_rival true g false e = rw e refl
+reader_rival false g t e = refl
+
+in_both : (b t : Bool) → (b && (t && true)) ≡ ((b && (true && true)) && (b && (t && true)))
+in_both true t = refl
+in_both false t = refl
+
+pub rivals_of_reader : (x : ModuleUse) (us : List ModuleUse) → is_read x.used.1 ≡ true
+    → count_by (is_user x.used.0 None) us - count_by (is_user x.used.0 (Some Untouched)) us ≡ count_by (is_rival x) us
+rivals_of_reader x us r =
+    (λ i. count_by all us - count_alike readers (λ y. all y && readers y) us both i)
+    ∙ (sym (count_without all readers us) ∙ count_alike _ _ us (λ y. one y))
+  where
+    all : ModuleUse → Bool
+    all y = is_user x.used.0 None y
+
+    readers : ModuleUse → Bool
+    readers y = is_user x.used.0 (Some Untouched) y
+
+    both : (y : ModuleUse) → readers y ≡ (all y && readers y)
+    both y = in_both (bytes_eq x.used.0 y.used.0) (same_use Untouched y.used.1)
+
+    one : (y : ModuleUse) → (all y && not (readers y)) ≡ is_rival x y
+    one y =
+        reader_rival (bytes_eq x.used.0 y.used.0) (go_together Untouched y.used.1) (same_use Untouched y.used.1) (read_goes y.used.1)
+        ∙ (ap (λ (z : VariableUse). bytes_eq x.used.0 y.used.0 && (not (go_together z y.used.1) && true)) (sym (is_untouched x.used.1 r))
+        ∙ ap (λ (b : Bool). bytes_eq x.used.0 y.used.0 && (not (go_together x.used.1 y.used.1) && (b || not (excludes_versions x.owner y.owner)))) (sym r))
+
 -- how many use a variable so
 pub alike_counted : (v : Text) (x : VariableUse) (us : List ModuleUse) (n : ℕ) → n ≡ count_by (is_counted (record { variable = v; used = Some x; root = None })) us
     → n ≡ count_by (λ u. bytes_eq v u.used.0 && same_use x u.used.1) us
@@ -365,17 +409,17 @@ alike_counted v x us n h = h ∙ count_alike _ _ us (λ u. and_true (bytes_eq v 
 
 -- ---- as loops want them
 
-pub counted_turn : (old mid new : Tally) (m : Module) (ps : List code.UsedVariable) (i : ℕ) (p : code.UsedVariable) → i < length ps → p ≡ get_or ps i p
+pub counted_turn : (old mid new : Tally) (m : Candidate) (ps : List code.UsedVariable) (i : ℕ) (p : code.UsedVariable) → i < length ps → p ≡ get_or ps i p
     → CountsMore old mid (map (use_of m) (take i ps)) → CountsMore mid new (use_of m p ∷ []) → CountsMore old new (map (use_of m) (take (i + 1) ps))
 counted_turn old mid new m ps i p l is h k =
     subst (CountsMore old new) (sym (map_more (use_of m) ps i p l is)) (more_counted old mid new (map (use_of m) (take i ps)) (use_of m p ∷ []) h k)
 
-pub tally_turn : {X : Type 0} (view : X → Module) (old new : Tally) (xs : List X) (i : ℕ) (x : X) → i < length xs → x ≡ get_or xs i x
+pub tally_turn : {X : Type 0} (view : X → Candidate) (old new : Tally) (xs : List X) (i : ℕ) (x : X) → i < length xs → x ≡ get_or xs i x
     → HasCounts old (uses_of_modules (map view (take i xs))) → CountsMore old new (uses_of_module (view x)) → HasCounts new (uses_of_modules (map view (take (i + 1) xs)))
 tally_turn view old new xs i x l is h k =
     subst (HasCounts new) (sym (uses_more view xs i x l is)) (k (uses_of_modules (map view (take i xs))) h)
 
-pub sum_turn : (f : ModuleUse → ℕ) (m : Module) (ps : List code.UsedVariable) (i : ℕ) (p : code.UsedVariable) (a b c : ℕ) → i < length ps → p ≡ get_or ps i p
+pub sum_turn : (f : ModuleUse → ℕ) (m : Candidate) (ps : List code.UsedVariable) (i : ℕ) (p : code.UsedVariable) (a b c : ℕ) → i < length ps → p ≡ get_or ps i p
     → a ≡ sum_by f (map (use_of m) (take i ps)) → b ≡ f (use_of m p) → c ≡ a + b → c ≡ sum_by f (map (use_of m) (take (i + 1) ps))
 sum_turn f m ps i p a b c l is h k e =
     e ∙ ((λ j. h j + k j) ∙ sym (ap (sum_by f) (map_more (use_of m) ps i p l is) ∙ sum_by_push f (map (use_of m) (take i ps)) (use_of m p)))

@@ -10,46 +10,49 @@ use Rattle.envloaded.specs.Loaded.{Entry, names_of, loaded_in, AreLoadedInOrder}
 use Rattle.modulefile.specs.Moves.{Module}
 use Rattle.reversal.specs.VariableUses.{VariableUse, Untouched, Fixed, Absent, Pathed, Stacked}
 use Rattle.reversal.specs.VariableUses.{UsedVariable}
-use Rattle.sitecertificate.specs.RecordUses.{used_by_modules, IsAmong, IsInStep, is_in_step}
+use Rattle.sitecertificate.specs.RecordUses.{IsAmong}
+use Rattle.sitecertificate.specs.Candidates.{Candidate, uses_of_all}
+use Rattle.sitecertificate.specs.Steps.{IsInStep, is_in_step}
 use Rattle.sitecertificate.specs.Clashes.{is_other, Clash, do_clash}
 use Rattle.sitecertificate.specs.Ranks.{comes_before}
 
 -- The first comes before the second in the order of the list, and clashes with it.
-abbrev pub clashes_before : List Module → Module → Module → Bool
+abbrev pub clashes_before : List Candidate → Candidate → Candidate → Bool
 clashes_before ms n m = comes_before ms n m && (is_other m n && do_clash m n)
 
 -- A module of the list stays: it clashes with none that stays and comes before it. The number is how far the question
 -- goes back, and no more modules can come before one than there are.
-abbrev pub stays : ℕ → List Module → Module → Bool
+abbrev pub stays : ℕ → List Candidate → Candidate → Bool
 stays zero ms m = true
 stays (suc n) ms m = not (list_any (λ k. stays n ms k && clashes_before ms k m) ms)
 
 -- the modules of the list that stay
-abbrev pub staying : List Module → List Module
+abbrev pub staying : List Candidate → List Candidate
 staying ms = filter (stays (length ms) ms) ms
 
 -- the certified modules of the list: those in step that stay
-abbrev pub certified : List Module → List Module
+abbrev pub certified : List Candidate → List Candidate
 certified ms = staying (filter is_in_step ms)
 
 -- Beside these modules a module of the list can be certified: it is in step, and clashes with none of them that comes
 -- before it.
-pub record HasPlace (ms certain : List Module) (m : Module) : Type 0 where
+pub record HasPlace (ms certain : List Candidate) (m : Candidate) : Type 0 where
   pub listed : IsAmong m ms
   pub in_step : IsInStep m
-  pub no_clash : (n : Module) (v : Text) (x y : VariableUse) → IsAmong n certain
+  pub no_clash : (n : Candidate) (v : Text) (x y : VariableUse) → IsAmong n certain
       → comes_before (filter is_in_step ms) n m ≡ true → is_other m n ≡ true → Clash m n v x y → ⊥
 
 -- A module of the list is certified: it is in step, and clashes with no certified one that comes before it.
-abbrev pub IsCertified : List Module → Module → Type 0
+abbrev pub IsCertified : List Candidate → Candidate → Type 0
 IsCertified ms m = HasPlace ms (certified ms) m
 
--- The certificate of the list: what its certified modules use.
-abbrev pub certificate : List Module → List UsedVariable
-certificate ms = used_by_modules (certified ms)
+-- The certificate of the list: what its certified modules use, and what they read.
+abbrev pub certificate : List Candidate → List UsedVariable
+certificate ms = uses_of_all (certified ms)
 
 -- The start agrees with a use of a variable. One that is set is unset in it, one that is unset has its value, an absent
--- one is unset, a path is in order with its delimiter, and a stack is in order with the loaded modules as owners.
+-- one is unset, a path is in order with its delimiter, and a stack is in order with the loaded modules as owners. Of a
+-- variable that is read nothing is asked here.
 abbrev pub AgreesWithUse : Environment → Text → VariableUse → Type 0
 AgreesWithUse start v Untouched = Unit {0}
 AgreesWithUse start v (Fixed value) = lookup start v ≡ value

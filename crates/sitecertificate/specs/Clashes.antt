@@ -1,4 +1,4 @@
--- Modules that are never loaded at once, and modules that clash in a variable (own).
+-- Modules that are never loaded at once, and candidates that clash in a variable (own).
 use Rattle.std.specs.Prelude.{◌≡◌, Bool, true, false, not, ◌&&◌, ◌||◌, ◌==◌, bytes_eq, is_none}
 use Rattle.std.specs.List.{list_any}
 use Rattle.std.specs.Option.{option_eq}
@@ -7,12 +7,9 @@ use Rattle.envvars.specs.Texts.{Text}
 use Rattle.envloaded.specs.Loaded.{Entry}
 use Rattle.modulefile.specs.Records.{conflict_names}
 use Rattle.modulefile.specs.Moves.{Module}
-use Rattle.reversal.specs.VariableUses.{VariableUse, Fixed, Absent, Pathed, Stacked}
-use Rattle.sitecertificate.specs.RecordUses.{used_by, Uses}
-
--- They are two modules: their names differ, or the paths of their files.
-abbrev pub is_other : Module → Module → Bool
-is_other m n = not (bytes_eq m.name n.name && bytes_eq m.path n.path)
+use Rattle.reversal.specs.VariableUses.{VariableUse, Untouched, Fixed, Absent, Pathed, Stacked, UsedVariable}
+use Rattle.sitecertificate.specs.RecordUses.{is_read}
+use Rattle.sitecertificate.specs.Candidates.{Candidate, as_module, uses_of, HasUse}
 
 -- a name that the first module is in conflict with means the second
 abbrev pub names_in_conflict : Module → Module → Bool
@@ -31,9 +28,24 @@ in_conflict_with_entry m x =
 abbrev pub exclude : Module → Module → Bool
 exclude m n = bytes_eq m.name n.name || in_conflict m n
 
+-- They are two candidates: their names differ, or the paths of their files.
+abbrev pub is_other : Candidate → Candidate → Bool
+is_other m n = not (bytes_eq m.name n.name && bytes_eq m.path n.path)
+
+-- A conflict of the first candidate means the second, and counts where it uses a variable so: the conflicts of one that
+-- reads the variable are known only while this is as it was.
+abbrev pub excludes_by : VariableUse → Candidate → Candidate → Bool
+excludes_by x m n = not (is_read x) && names_in_conflict (as_module m) (as_module n)
+
+-- The candidates, which use a variable in these two ways, are kept apart: they have one name, or a conflict of one of them
+-- counts that means the other.
+abbrev pub are_kept_apart : Candidate → Candidate → VariableUse → VariableUse → Bool
+are_kept_apart m n x y = bytes_eq m.name n.name || (excludes_by x m n || excludes_by y n m)
+
 -- Modules that are loaded at once may use a variable in these two ways: both as a path with one delimiter, both as a
--- stack, or both as absent.
+-- stack, both as absent, or both read it.
 abbrev pub go_together : VariableUse → VariableUse → Bool
+go_together Untouched Untouched = true
 go_together (Pathed d) (Pathed k) = d == k
 go_together Stacked Stacked = true
 go_together Absent Absent = true
@@ -47,18 +59,20 @@ agree_at_start (Fixed x) Absent = is_none x
 agree_at_start Absent (Fixed y) = is_none y
 agree_at_start x y = true
 
--- whether two uses of one variable clash, by modules that exclude each other or don't
+-- Whether two uses of one variable clash, by candidates that are kept apart or aren't.
 abbrev pub uses_clash : Bool → VariableUse → VariableUse → Bool
-uses_clash excluded x y = not (excluded || go_together x y) || not (agree_at_start x y)
+uses_clash apart x y = not (apart || go_together x y) || not (agree_at_start x y)
 
--- The modules clash in the variable, which the first uses in one way and the second in another.
-pub record Clash (m n : Module) (v : Text) (x y : VariableUse) : Type 0 where
-  pub first : Uses m.records v x
-  pub second : Uses n.records v y
-  pub clash : uses_clash (exclude m n) x y ≡ true
+-- The candidates clash in the variable, which the first uses in one way and the second in another.
+pub record Clash (m n : Candidate) (v : Text) (x y : VariableUse) : Type 0 where
+  pub first : HasUse m v x
+  pub second : HasUse n v y
+  pub clash : uses_clash (are_kept_apart m n x y) x y ≡ true
 
--- The same as a test: the modules clash in some variable.
-abbrev pub do_clash : Module → Module → Bool
-do_clash m n =
-    list_any (λ p. list_any (λ q. bytes_eq p.0 q.0 && uses_clash (exclude m n) p.1 q.1) (used_by n.records))
-    (used_by m.records)
+-- the first clashes with the second by these uses, if they are of one variable
+abbrev pub do_clash_by : Candidate → Candidate → UsedVariable → UsedVariable → Bool
+do_clash_by m n p q = bytes_eq p.0 q.0 && uses_clash (are_kept_apart m n p.1 q.1) p.1 q.1
+
+-- The same as a test: the candidates clash in some variable.
+abbrev pub do_clash : Candidate → Candidate → Bool
+do_clash m n = list_any (λ p. list_any (do_clash_by m n p) (uses_of n)) (uses_of m)

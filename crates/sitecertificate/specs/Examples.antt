@@ -1,5 +1,5 @@
--- Worked examples of certificates (own), each of two modules: which of them are certified, by each rule in turn. And
--- what is lost where a rule is left out.
+-- Worked examples of certificates (own), of two modules each but one: which of them are certified, by each rule in turn.
+-- And what is lost where a rule is left out.
 use Rattle.std.specs.Prelude.{◌≡◌, true, List, [], ◌∷◌, ◌++◌, codes, Some, None}
 use Rattle.envvars.specs.Texts.{Text}
 use Rattle.envvars.specs.Environment.{Environment, lookup}
@@ -13,31 +13,37 @@ use Rattle.reversal.specs.Runs.{live_after}
 use Rattle.reversal.specs.Losses.{ThereAndBack}
 use Rattle.reversal.specs.Examples.{Lose, held, first_module, second_module, variable, crossed, add_front, push_value}
 use Rattle.sitecertificate.specs.RecordUses.{used_by, used_by_modules, modulepath, uses_by}
+use Rattle.sitecertificate.specs.Candidates.{Candidate}
 use Rattle.sitecertificate.specs.Clashes.{agree_at_start}
 use Rattle.sitecertificate.specs.Certificates.{certified, AgreesWithUse, AgreesWith}
 
--- the two modules are certified as a site that has no others
-abbrev pub BothAreCertified : Module → Module → Type 0
+-- the two candidates are certified as a site that has no others
+abbrev pub BothAreCertified : Candidate → Candidate → Type 0
 BothAreCertified m n = certified (m ∷ n ∷ []) ≡ m ∷ n ∷ []
 
 -- the first of them alone is
-abbrev pub FirstIsCertified : Module → Module → Type 0
+abbrev pub FirstIsCertified : Candidate → Candidate → Type 0
 FirstIsCertified m n = certified (m ∷ n ∷ []) ≡ m ∷ []
 
 -- the second of them alone is
-abbrev pub SecondIsCertified : Module → Module → Type 0
+abbrev pub SecondIsCertified : Candidate → Candidate → Type 0
 SecondIsCertified m n = certified (m ∷ n ∷ []) ≡ n ∷ []
 
--- the modules m/1 and n/1 of these records
-abbrev pub first : List Record → Module
-first records = first_module records
+-- the module, which reads these variables
+abbrev pub reading : List Text → Module → Candidate
+reading reads m = record { name = m.name; path = m.path; records = m.records; reads = reads }
 
-abbrev pub second : List Record → Module
-second records = second_module records
+-- the modules m/1 and n/1 of these records, which read nothing
+abbrev pub first : List Record → Candidate
+first records = reading [] (first_module records)
+
+abbrev pub second : List Record → Candidate
+second records = reading [] (second_module records)
 
 -- a module of this name, with a file in this directory
-abbrev pub in_directory : Text → Text → List Record → Module
-in_directory directory name records = record { name = name; path = directory ++ name; records = records }
+abbrev pub in_directory : Text → Text → List Record → Candidate
+in_directory directory name records =
+    record { name = name; path = directory ++ name; records = records; reads = [] }
 
 -- records of the one variable that the examples have
 abbrev pub sets : Text → Record
@@ -201,6 +207,60 @@ OneWay =
     SecondIsCertified (first (sets (codes "y") ∷ Path Remove colon (codes "PATH") (codes "/a" ∷ []) ∷ []))
     (second (sets (codes "x") ∷ []))
 
+-- Modules that read. Both read one variable.
+abbrev pub BothRead : Type 0
+BothRead =
+    BothAreCertified (reading (variable ∷ []) (first_module [])) (reading (variable ∷ []) (second_module []))
+
+-- The first reads what the second sets: this one, whose use goes together with no other, is a rival of its own.
+abbrev pub ReadAndSet : Type 0
+ReadAndSet = FirstIsCertified (reading (variable ∷ []) (first_module [])) (second (sets (codes "x") ∷ []))
+
+-- The first sets what the second reads.
+abbrev pub SetAndRead : Type 0
+SetAndRead = SecondIsCertified (first (sets (codes "x") ∷ [])) (reading (variable ∷ []) (second_module []))
+
+-- One reads what the other uses as a path, or keeps absent: of as many rivals the first name goes first.
+abbrev pub ReadAndPath : Type 0
+ReadAndPath = FirstIsCertified (reading (variable ∷ []) (first_module [])) (second (add_front ∷ []))
+
+abbrev pub AbsentAndRead : Type 0
+AbsentAndRead = FirstIsCertified (first (keeps_absent ∷ [])) (reading (variable ∷ []) (second_module []))
+
+-- A reader's own conflict excludes nothing.
+abbrev pub ReaderInConflict : Type 0
+ReaderInConflict =
+    FirstIsCertified (reading (variable ∷ []) (first_module (conflict (codes "n") ∷ []))) (second (add_front ∷ []))
+
+-- That of the other does,
+abbrev pub UserInConflict : Type 0
+UserInConflict =
+    BothAreCertified (reading (variable ∷ []) (first_module []))
+    (second (conflict (codes "m") ∷ add_front ∷ []))
+
+-- and so does one name.
+abbrev pub ReaderOfOneName : Type 0
+ReaderOfOneName =
+    BothAreCertified (reading (variable ∷ []) (first_module []))
+    (in_directory (codes "/n/") (codes "m/1") (add_front ∷ []))
+
+-- Of three those stay that read: with the one that sets the variable neither of them gets on.
+abbrev pub TwoReaders : Type 0
+TwoReaders =
+    certified (reading (variable ∷ []) (first_module []) ∷ reading (variable ∷ []) (second_module [])
+    ∷ in_directory (codes "/l/") (codes "l/1") (add_front ∷ []) ∷ [])
+    ≡ reading (variable ∷ []) (first_module []) ∷ reading (variable ∷ []) (second_module []) ∷ []
+
+-- A module that reads MODULEPATH is in step,
+abbrev pub ModulepathRead : Type 0
+ModulepathRead =
+    BothAreCertified (reading (modulepath ∷ []) (first_module [])) (reading (modulepath ∷ []) (second_module []))
+
+-- and one that reads what it uses is not.
+abbrev pub ReadsItsOwn : Type 0
+ReadsItsOwn =
+    SecondIsCertified (reading (variable ∷ []) (first_module (add_front ∷ []))) (second (sets (codes "x") ∷ []))
+
 -- Why uses clash. The start agrees with all that the modules use, and accepted moves that load and unload them lose it.
 pub record LoseTogether (ms : List Module) (start : Environment) (moves : List Move) : Type 0 where
   pub agrees : AgreesWith (used_by_modules ms) start
@@ -208,7 +268,8 @@ pub record LoseTogether (ms : List Module) (start : Environment) (moves : List M
 
 -- the same of two modules of one record each, which are loaded, and then unloaded in the order of their loads
 abbrev pub LoseByRecords : Record → Record → Environment → Type 0
-LoseByRecords r s start = LoseTogether (first (r ∷ []) ∷ second (s ∷ []) ∷ []) start (crossed r s)
+LoseByRecords r s start =
+    LoseTogether (first_module (r ∷ []) ∷ second_module (s ∷ []) ∷ []) start (crossed r s)
 
 abbrev pub LoseByDelimiters : Type 0
 LoseByDelimiters =
@@ -235,16 +296,16 @@ pub record LoseBetween (ms : List Module) (start : Environment) (moves : List Mo
 -- Both modules set a variable, and the unload of one takes the value of the other.
 abbrev pub LoseByBothSet : Type 0
 LoseByBothSet =
-    LoseBetween (first (sets (codes "x") ∷ []) ∷ second (sets (codes "y") ∷ []) ∷ []) (held [])
-    (Loads (first (sets (codes "x") ∷ [])) ∷ Loads (second (sets (codes "y") ∷ []))
-    ∷ Unloads (first (sets (codes "x") ∷ [])) ∷ [])
+    LoseBetween (first_module (sets (codes "x") ∷ []) ∷ second_module (sets (codes "y") ∷ []) ∷ []) (held [])
+    (Loads (first_module (sets (codes "x") ∷ [])) ∷ Loads (second_module (sets (codes "y") ∷ []))
+    ∷ Unloads (first_module (sets (codes "x") ∷ [])) ∷ [])
 
 -- One sets a variable, and the load of another, which keeps it absent, takes the value.
 abbrev pub LoseBySetAndAbsent : Type 0
 LoseBySetAndAbsent =
-    LoseBetween (first (sets (codes "x") ∷ []) ∷ second (keeps_absent ∷ []) ∷ []) (held [])
-    (Loads (first (sets (codes "x") ∷ [])) ∷ Loads (second (keeps_absent ∷ []))
-    ∷ Unloads (second (keeps_absent ∷ [])) ∷ [])
+    LoseBetween (first_module (sets (codes "x") ∷ []) ∷ second_module (keeps_absent ∷ []) ∷ []) (held [])
+    (Loads (first_module (sets (codes "x") ∷ [])) ∷ Loads (second_module (keeps_absent ∷ []))
+    ∷ Unloads (second_module (keeps_absent ∷ [])) ∷ [])
 
 -- One module with two uses of a variable: it sets it, and then pushes a value. After a load and its unload the variable
 -- has the value that was set, though it was unset in a start that agrees with both uses.

@@ -13,45 +13,47 @@ use Rattle.reversal.specs.Runs.{without_live, live_after, Undoes}
 use Rattle.reversal.specs.Laws.{Holds}
 use Rattle.reversal.specs.Undone.{UndoAlike}
 use Rattle.reversal.specs.VariableUses.{VariableUse, UsedVariable, can_return, absent_in}
-use Rattle.sitecertificate.specs.RecordUses.{used_by, used_by_modules, IsAmong, IsInStep, uses_by}
+use Rattle.sitecertificate.specs.RecordUses.{used_by, used_by_modules, IsAmong, uses_by}
+use Rattle.sitecertificate.specs.Candidates.{Candidate}
+use Rattle.sitecertificate.specs.Steps.{IsInStep}
 use Rattle.sitecertificate.specs.Clashes.{is_other, in_conflict, in_conflict_with_entry, exclude, Clash}
 use Rattle.sitecertificate.specs.Certificates.{HasPlace, IsCertified, certified, AgreesWith, IsNotLoaded}
 use Rattle.sitecertificate.specs.Disagreements.{Disagreement, IsDisagreement}
 
 -- The certified modules that the test finds are those of the definition.
 abbrev pub CertifiedAreExact : Type 0
-CertifiedAreExact = (ms : List Module) (m : Module) → IsAmong m (certified ms) ↔ IsCertified ms m
+CertifiedAreExact = (ms : List Candidate) (m : Candidate) → IsAmong m (certified ms) ↔ IsCertified ms m
 
 -- No two certified modules clash.
 abbrev pub CertifiedDontClash : Type 0
 CertifiedDontClash =
-    (ms : List Module) (m n : Module) (v : Text) (x y : VariableUse) → IsCertified ms m → IsCertified ms n
+    (ms : List Candidate) (m n : Candidate) (v : Text) (x y : VariableUse) → IsCertified ms m → IsCertified ms n
     → is_other m n ≡ true → Clash m n v x y → ⊥
 
 -- No module more could be certified beside them: one in step that clashes with none of them is one of them.
 abbrev pub CertifiedAreMost : Type 0
 CertifiedAreMost =
-    (ms : List Module) (m : Module) → IsAmong m ms → IsInStep m
-    → ((n : Module) (v : Text) (x y : VariableUse) → IsCertified ms n → is_other m n ≡ true → Clash m n v x y → ⊥)
+    (ms : List Candidate) (m : Candidate) → IsAmong m ms → IsInStep m
+    → ((n : Candidate) (v : Text) (x y : VariableUse) → IsCertified ms n → is_other m n ≡ true → Clash m n v x y → ⊥)
     → IsCertified ms m
 
 -- No other modules meet the definition: where some are exactly those that can be certified beside them, they are the
 -- certified ones.
 abbrev pub CertifiedAreUnique : Type 0
 CertifiedAreUnique =
-    (ms certain : List Module) → ((m : Module) → IsAmong m certain ↔ HasPlace ms certain m)
-    → (m : Module) → IsAmong m certain ↔ IsCertified ms m
+    (ms certain : List Candidate) → ((m : Candidate) → IsAmong m certain ↔ HasPlace ms certain m)
+    → (m : Candidate) → IsAmong m certain ↔ IsCertified ms m
 
 -- They are the same in whatever order the modules are listed.
 abbrev pub CertifiedInAnyOrder : Type 0
 CertifiedInAnyOrder =
-    (ms ns : List Module) → IsPermutation ms ns → (m : Module) → IsCertified ms m → IsCertified ns m
+    (ms ns : List Candidate) → IsPermutation ms ns → (m : Candidate) → IsCertified ms m → IsCertified ns m
 
 -- The module is a certified one, with these records, or with others that undo what those of the certificate undo, are of
 -- kinds after which the start can be back, keep the same variables absent, and are in conflict with the same names: as
 -- one whose file sets another value in another shell.
-pub record IsAsCertified (ms : List Module) (m : Module) : Type 0 where
-  pub certain : Module
+pub record IsAsCertified (ms : List Candidate) (m : Module) : Type 0 where
+  pub certain : Candidate
   pub certified : IsCertified ms certain
   pub name : certain.name ≡ m.name
   pub path : certain.path ≡ m.path
@@ -63,7 +65,7 @@ pub record IsAsCertified (ms : List Module) (m : Module) : Type 0 where
 -- Each load is of a certified module, as it loads, that is in conflict with no live one, and with whose uses the start
 -- agrees. Each unload is of a live module, by records that undo what those of its load undo. No common use of a variable
 -- is asked for: each module may have its own.
-abbrev pub AreCertified : List Module → Environment → List Module → List Move → Type 0
+abbrev pub AreCertified : List Candidate → Environment → List Module → List Move → Type 0
 AreCertified ms start live [] = Unit {0}
 AreCertified ms start live (Loads m ∷ moves) =
     IsAsCertified ms m × AgreesWith (used_by m.records) start
@@ -85,20 +87,20 @@ EntriesHaveConflicts =
 -- the start itself where no module is live.
 abbrev pub CertifiedRunsStand : Type 0
 CertifiedRunsStand =
-    (ms : List Module) (start e : Environment) (done rest : List Move) → AreLoadedInOrder start
+    (ms : List Candidate) (start e : Environment) (done rest : List Move) → AreLoadedInOrder start
     → AreCertified ms start [] (done ++ rest) → MovesReach (done ++ rest) start e
     → (mid : Environment) × MovesReach done start mid × MovesReach rest mid e
     × Holds (uses_by (live_after [] done)) start (live_after [] done) mid
 
 -- the live modules are certified, as they were loaded, and none excludes another
-abbrev pub AreCertifiedTogether : List Module → List Module → Type 0
+abbrev pub AreCertifiedTogether : List Candidate → List Module → Type 0
 AreCertifiedTogether ms [] = Unit {0}
 AreCertifiedTogether ms (m ∷ live) =
     IsAsCertified ms m × ((n : Module) → IsAmong n live → exclude m n ≡ false) × AreCertifiedTogether ms live
 
 -- The live modules are certified, and none excludes another. The start is one by their uses of variables, and the
 -- environment is in order and is that start with them layered on it.
-pub record AreLayered (ms : List Module) (start : Environment) (live : List Module) (e : Environment) : Type 0 where
+pub record AreLayered (ms : List Candidate) (start : Environment) (live : List Module) (e : Environment) : Type 0 where
   pub together : AreCertifiedTogether ms live
   pub begins : IsStart (uses_by live) start
   pub order : IsInOrder (uses_by live) e
@@ -108,14 +110,14 @@ pub record AreLayered (ms : List Module) (start : Environment) (live : List Modu
 -- Where no module is live then, the environment is the start.
 abbrev pub CertifiedMovesPreserve : Type 0
 CertifiedMovesPreserve =
-    (ms : List Module) (start old new : Environment) (live : List Module) (moves : List Move)
+    (ms : List Candidate) (start old new : Environment) (live : List Module) (moves : List Move)
     → AreLayered ms start live old → AreCertified ms start live moves → MovesReach moves old new
     → AreLayered ms start (live_after live moves) new × (live_after live moves ≡ [] → new ≡ start)
 
 -- It begins so: with no module live a start whose loaded list is in order, and with live ones a start that agrees with
 -- what they use.
 abbrev pub NoneIsLayered : Type 0
-NoneIsLayered = (ms : List Module) (start : Environment) → AreLoadedInOrder start → AreLayered ms start [] start
+NoneIsLayered = (ms : List Candidate) (start : Environment) → AreLoadedInOrder start → AreLayered ms start [] start
 
 abbrev pub AgreeingBegins : Type 0
 AgreeingBegins =
@@ -143,5 +145,5 @@ DisagreementsRefute =
 -- A module that is loaded at the start isn't loaded again while none of the start is unloaded: of it nothing is said.
 abbrev pub LoadedStayLoaded : Type 0
 LoadedStayLoaded =
-    (ms : List Module) (start e : Environment) (live : List Module) (m : Module) → AreLayered ms start live e
+    (ms : List Candidate) (start e : Environment) (live : List Module) (m : Module) → AreLayered ms start live e
     → Fits (Loads m) e → IsNotLoaded m start

@@ -1,10 +1,13 @@
 pub mod RecordUses
+pub mod Candidates
+pub mod Steps
 pub mod Clashes
 pub mod Ranks
 pub mod Certificates
 pub mod Laws
 pub mod Examples
 pub mod UseViews
+pub mod CandidateViews
 pub mod Disagreements
 pub mod DisagreementViews
 pub mod ClashAnswers

@@ -1,41 +1,43 @@
 -- The order in which the modules of a list are certified (own): those first that get on with most others.
-use Rattle.std.specs.Prelude.{ℕ, Bool, not, ◌&&◌, List, bytes_eq}
+use Rattle.std.specs.Prelude.{ℕ, Bool, not, ◌&&◌, ◌||◌, List, bytes_eq}
 use Rattle.std.specs.List.{count_by, sum_by}
 use Rattle.std.specs.declared.cmp.Ordering.{Ordering}
 use Rattle.std.specs.Ordering.{is_lt, nat_cmp, on, then_cmp}
 use Rattle.std.specs.Cmp.Lexicographic.{slice_cmp}
 use Rattle.envvars.specs.Texts.{Text, has}
 use Rattle.modulefile.specs.Records.{conflict_names}
-use Rattle.modulefile.specs.Moves.{Module}
 use Rattle.reversal.specs.VariableUses.{VariableUse}
-use Rattle.sitecertificate.specs.RecordUses.{same_use}
+use Rattle.sitecertificate.specs.RecordUses.{same_use, is_read}
+use Rattle.sitecertificate.specs.Candidates.{Candidate}
 use Rattle.sitecertificate.specs.Clashes.{go_together}
 use Rattle.sitecertificate.specs.Users.{ModuleUse, first_part, uses_of_module, uses_of_modules}
 
 -- how many of the modules use the variable so
-abbrev pub users_alike : List Module → Text → VariableUse → ℕ
+abbrev pub users_alike : List Candidate → Text → VariableUse → ℕ
 users_alike ms v x = count_by (λ u. bytes_eq v u.used.0 && same_use x u.used.1) (uses_of_modules ms)
 
 -- A conflict of the first module names the first part of the second's name, and so means all its versions.
-abbrev pub excludes_versions : Module → Module → Bool
+abbrev pub excludes_versions : Candidate → Candidate → Bool
 excludes_versions m n = has (first_part n.name) (conflict_names m.records)
 
 -- The second user is a rival of the first: it uses the variable in a way that doesn't go together with that of the
--- first, which doesn't exclude all its versions.
+-- first, which reads the variable, or doesn't exclude all its versions.
 abbrev pub is_rival : ModuleUse → ModuleUse → Bool
 is_rival x y =
-    bytes_eq x.used.0 y.used.0 && (not (go_together x.used.1 y.used.1) && not (excludes_versions x.owner y.owner))
+    bytes_eq x.used.0 y.used.0
+    && (not (go_together x.used.1 y.used.1)
+    && (is_read x.used.1 || not (excludes_versions x.owner y.owner)))
 
 -- How many rivals a module has among these, in all its variables.
-abbrev pub rivals : List Module → Module → ℕ
+abbrev pub rivals : List Candidate → Candidate → ℕ
 rivals ms m = sum_by (λ x. count_by (is_rival x) (uses_of_modules ms)) (uses_of_module m)
 
 -- The order: by how many rivals they have, and then by the bytes of their names and of their paths.
-abbrev pub rank_order : List Module → Module → Module → Ordering
+abbrev pub rank_order : List Candidate → Candidate → Candidate → Ordering
 rank_order ms =
     then_cmp (on (rivals ms) nat_cmp)
     (then_cmp (on (λ m. m.name) (slice_cmp nat_cmp)) (on (λ m. m.path) (slice_cmp nat_cmp)))
 
 -- the first comes before the second
-abbrev pub comes_before : List Module → Module → Module → Bool
+abbrev pub comes_before : List Candidate → Candidate → Candidate → Bool
 comes_before ms m n = is_lt (rank_order ms m n)

@@ -1,13 +1,11 @@
--- How the records of modules use variables (own): each by itself, and those of one module together.
-use Rattle.std.specs.Prelude.{◌≡◌, ◌⊎◌, Bool, true, false, not, ◌&&◌, ◌||◌, ◌==◌, List, [], ◌∷◌, filter_map, flat_map}
+-- How the records of modules use variables (own).
+use Rattle.std.specs.Prelude.{◌≡◌, ◌⊎◌, Bool, true, false, not, ◌||◌, ◌==◌, List, [], ◌∷◌, filter_map, flat_map}
 use Rattle.std.specs.Prelude.{bytes_eq, codes, if◌then◌else◌}
-use Rattle.std.specs.List.{list_all}
 use Rattle.std.specs.Option.{option_eq}
 use Rattle.envvars.specs.Texts.{Text}
-use Rattle.envvars.specs.Fields.{colon}
 use Rattle.modulefile.specs.Records.{Record}
 use Rattle.modulefile.specs.Moves.{Module}
-use Rattle.reversal.specs.VariableUses.{VariableUse, Untouched, Fixed, Absent, Pathed, Stacked, can_return}
+use Rattle.reversal.specs.VariableUses.{VariableUse, Untouched, Fixed, Absent, Pathed, Stacked}
 use Rattle.reversal.specs.VariableUses.{UsedVariable, use_by}
 
 -- what the records use
@@ -31,17 +29,7 @@ Uses rs v x = IsAmong (v, x) (used_by rs)
 abbrev pub modulepath : Text
 modulepath = codes "MODULEPATH"
 
--- The records are in step: they use each variable in one way, and MODULEPATH as a path with colons.
-pub record AreInStep (rs : List Record) : Type 0 where
-  pub one_use : (v : Text) (x y : VariableUse) → Uses rs v x → Uses rs v y → x ≡ y
-  pub modulepath : (x : VariableUse) → Uses rs modulepath x → x ≡ Pathed colon
-
--- A module in step: its records are of the kinds alone after which the start can be back, and they are in step.
-pub record IsInStep (m : Module) : Type 0 where
-  pub returns : list_all can_return m.records ≡ true
-  pub in_step : AreInStep m.records
-
--- The same as tests. Two uses are one.
+-- The same as a test: two uses are one.
 abbrev pub same_use : VariableUse → VariableUse → Bool
 same_use Untouched Untouched = true
 same_use (Fixed x) (Fixed y) = option_eq bytes_eq x y
@@ -50,17 +38,17 @@ same_use (Pathed d) (Pathed k) = d == k
 same_use Stacked Stacked = true
 same_use x y = false
 
--- they are of two variables, or are one use
+-- the use is a read, and no record's
+abbrev pub is_read : VariableUse → Bool
+is_read Untouched = true
+is_read (Fixed x) = false
+is_read Absent = false
+is_read (Pathed d) = false
+is_read Stacked = false
+
+-- the first is a read, or they are of two variables, or are one use
 abbrev pub use_alike : UsedVariable → UsedVariable → Bool
-use_alike p q = not (bytes_eq p.0 q.0) || same_use p.1 q.1
-
--- no two of them use one variable in two ways, and none uses MODULEPATH but as a path with colons
-abbrev pub are_in_step : List UsedVariable → Bool
-are_in_step ps = list_all (λ p. use_alike p (modulepath, Pathed colon) && list_all (use_alike p) ps) ps
-
--- the module is in step
-abbrev pub is_in_step : Module → Bool
-is_in_step m = list_all can_return m.records && are_in_step (used_by m.records)
+use_alike p q = is_read p.1 || (not (bytes_eq p.0 q.0) || same_use p.1 q.1)
 
 -- The use of a variable by the first of the pairs that has it; untouched where none has.
 abbrev pub first_use : Text → List UsedVariable → VariableUse

@@ -6,7 +6,9 @@ use Rattle.envvars.specs.Texts.{Text}
 use Rattle.indexmap.specs.IndexMap.{get_by}
 use Rattle.reversal.specs.VariableUses.{VariableUse}
 use Rattle.sitecertificate.specs.RecordUses.{same_use}
+use Rattle.sitecertificate.specs.Clashes.{go_together}
 use Rattle.sitecertificate.specs.Users.{ModuleUse, first_part}
+use Rattle.sitecertificate.specs.Ranks.{excludes_versions}
 use Rattle.sitecertificate.specs.UseKeys.{key_view}
 use Rattle.sitecertificate.specs.declared.tally.Counted.{Counted as CodeCounted}
 use Rattle.sitecertificate.specs.declared.tally.Tally.{Tally}
@@ -66,6 +68,12 @@ is_user v used y = is_counted (record { variable = v; used = used; root = None }
 -- it does, and the first part of its name is excluded
 abbrev pub is_excluded_user : Text → Option VariableUse → (Text → Bool) → ModuleUse → Bool
 is_excluded_user v used excluded y = is_user v used y && excluded (first_part y.owner.name)
+
+-- The second user's use of a variable doesn't go together with that of the first, which doesn't exclude all its
+-- versions.
+abbrev pub is_open_rival : ModuleUse → ModuleUse → Bool
+is_open_rival x y =
+    bytes_eq x.used.0 y.used.0 && (not (go_together x.used.1 y.used.1) && not (excludes_versions x.owner y.owner))
 
 -- it does, and the first part of its name isn't excluded
 abbrev pub is_other_user : Text → Option VariableUse → (Text → Bool) → ModuleUse → Bool

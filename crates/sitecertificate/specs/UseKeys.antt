@@ -1,6 +1,6 @@
 -- The keys of uses in the code, as the definitions see them (own).
 use Rattle.std.specs.Prelude.{◌≡◌, List, map, Some, None}
-use Rattle.reversal.specs.VariableUses.{VariableUse, Fixed, Absent, Pathed, Stacked, UsedVariable}
+use Rattle.reversal.specs.VariableUses.{VariableUse, Untouched, Fixed, Absent, Pathed, Stacked, UsedVariable}
 use Rattle.sitecertificate.specs.UseViews.{used_view}
 use Rattle.sitecertificate.specs.declared.keys.UseKey.{UseKey}
 use Rattle.sitecertificate.specs.declared.keys.UseKey.TheVariants as keys
@@ -14,6 +14,7 @@ key_view (keys.Unset value) = Fixed (Some value.now)
 key_view keys.Absent = Absent
 key_view (keys.Path delim) = Pathed delim
 key_view keys.Stack = Stacked
+key_view keys.Read = Untouched
 
 -- the variable of a key, and the use of it
 abbrev pub used_key_view : UsedKey → UsedVariable

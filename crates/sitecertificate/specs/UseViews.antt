@@ -12,6 +12,7 @@ use_view (code.Fixed value) = uses.Fixed (option_map string_bytes value)
 use_view code.Absent = uses.Absent
 use_view (code.Pathed delim) = uses.Pathed delim.character
 use_view code.Stacked = uses.Stacked
+use_view code.Read = uses.Untouched
 
 -- a variable with its use
 abbrev pub used_view : UsedVariable → uses.UsedVariable

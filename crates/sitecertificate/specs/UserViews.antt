@@ -1,5 +1,5 @@
 -- The users of variables in the code, as the definitions see them (own).
-use Rattle.modules.specs.MoveViews.{module_view}
+use Rattle.sitecertificate.specs.CandidateViews.{candidate_view}
 use Rattle.sitecertificate.specs.UseViews.{used_view}
 use Rattle.sitecertificate.specs.Users.{ModuleUse}
 use Rattle.sitecertificate.specs.declared.users.User.{User}
@@ -7,7 +7,7 @@ use Rattle.sitecertificate.specs.declared.users.ClashingUsers.{ClashingUsers}
 
 -- a user
 abbrev pub user_view : User → ModuleUse
-user_view u = record { owner = module_view u.owner.now; used = used_view u.used.now }
+user_view u = record { owner = candidate_view u.owner.now; used = used_view u.used.now }
 
 -- the user, and the other with which it clashes
 abbrev pub users_view : ClashingUsers → ModuleUse × ModuleUse

@@ -4,28 +4,30 @@ use Rattle.std.specs.Prelude.{◌≡◌, ◌⊎◌, Bool, true, false, ◌&&◌,
 use Rattle.std.specs.Prelude.{None}
 use Rattle.std.specs.List.{list_any}
 use Rattle.envvars.specs.Texts.{Text}
-use Rattle.modulefile.specs.Moves.{Module}
 use Rattle.reversal.specs.VariableUses.{UsedVariable}
-use Rattle.sitecertificate.specs.RecordUses.{used_by, IsAmong}
+use Rattle.sitecertificate.specs.RecordUses.{IsAmong}
+use Rattle.sitecertificate.specs.Candidates.{Candidate, uses_of}
 use Rattle.sitecertificate.specs.EachOnce.{each_once}
-use Rattle.sitecertificate.specs.Clashes.{is_other, exclude, uses_clash}
+use Rattle.sitecertificate.specs.Clashes.{is_other, are_kept_apart, uses_clash}
 
 -- a module, and one of its uses of a variable
 pub record ModuleUse : Type 0 where
-  pub owner : Module
+  pub owner : Candidate
   pub used : UsedVariable
 
 -- what the module uses, each use once
-abbrev pub uses_of_module : Module → List ModuleUse
-uses_of_module m = map (λ p. record { owner = m; used = p }) (each_once (used_by m.records))
+abbrev pub uses_of_module : Candidate → List ModuleUse
+uses_of_module m = map (λ p. record { owner = m; used = p }) (each_once (uses_of m))
 
 -- what the modules use, each of them each use once
-abbrev pub uses_of_modules : List Module → List ModuleUse
+abbrev pub uses_of_modules : List Candidate → List ModuleUse
 uses_of_modules ms = flat_map uses_of_module ms
 
 -- two users of one variable are of two modules and clash
 abbrev pub do_users_clash : ModuleUse → ModuleUse → Bool
-do_users_clash x y = is_other x.owner y.owner && uses_clash (exclude x.owner y.owner) x.used.1 y.used.1
+do_users_clash x y =
+    is_other x.owner y.owner
+    && uses_clash (are_kept_apart x.owner y.owner x.used.1 y.used.1) x.used.1 y.used.1
 
 -- The answer names one of these users that clashes with the first, or none of them does.
 abbrev pub IsClashAmong : ModuleUse → List ModuleUse → Option ModuleUse → Type 0

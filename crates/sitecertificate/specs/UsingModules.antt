@@ -1,8 +1,8 @@
--- Modules with what they use in the code, as the definitions see them (own).
-use Rattle.modules.specs.MoveViews.{module_view}
-use Rattle.modulefile.specs.Moves as moves
+-- Candidates with what they use in the code, as the definitions see them (own).
+use Rattle.sitecertificate.specs.Candidates.{Candidate}
+use Rattle.sitecertificate.specs.CandidateViews.{candidate_view}
 use Rattle.sitecertificate.specs.declared.module_uses.UsingModule.{UsingModule}
 
--- the module
-abbrev pub module_of : UsingModule → moves.Module
-module_of candidate = module_view candidate.owner.now
+-- the candidate
+abbrev pub candidate_of : UsingModule → Candidate
+candidate_of using = candidate_view using.owner.now

@@ -1,10 +1,11 @@
 //! Where an environment doesn't agree with a certificate.
-ghost use Rattle.std.specs.Prelude.{◌≡◌, ◌↔◌, [], Some, map, IfOk, IfErr, OnOk, IsTrue};
+ghost use Rattle.std.specs.Prelude.{◌≡◌, ◌↔◌, [], Some, map, IfOk, IfErr, OnOk, IsTrue, MatchOption};
 ghost use Rattle.std.specs.Option.{option_map};
 ghost use Rattle.envvars.specs.Texts.{slice_texts};
 ghost use Rattle.envvars.specs.declared.fault.EnvFault.TheVariants.{OutOfMemory};
 ghost use Rattle.envloaded.specs.Loaded.{names_of, loaded_in};
 ghost use Rattle.envloaded.specs.LoadedEntries.{entry_view};
+ghost use Rattle.reversal.specs.VariableUses.{Untouched};
 ghost use Rattle.sitecertificate.specs.RecordUses.{IsAmong};
 ghost use Rattle.sitecertificate.specs.Certificates.{AgreesWithUse, AgreesWith};
 ghost use Rattle.sitecertificate.specs.UseViews.{used_view};
@@ -37,6 +38,7 @@ fn agrees_with_use(
         VariableUse::Fixed(None) | VariableUse::Absent => Ok(env.get(variable).is_none()),
         VariableUse::Fixed(Some(value)) => Ok(env.get(variable) == Some(value.as_str())),
         VariableUse::Pathed(delim) => is_path_in_order(alloc, env, variable, delim.character),
+        VariableUse::Read => Ok(true),
         VariableUse::Stacked => match owners {
             Some(owners) => is_stack_in_order(alloc, env, variable, owners.as_slice()),
             None => Ok(true),
@@ -44,23 +46,25 @@ fn agrees_with_use(
     }
 }
 
-/// The reason that a use of a variable gives, where an environment doesn't agree with it.
-fn reason_for(alloc: Global, wanted: &UsedVariable) -> Result<Disagreement, AllocError>
-    ensures { IfOk result (λ reason. use_named (disagreement_view reason) ≡ Some (used_view wanted.now)) }
+/// The reason that a use of a variable gives, where an environment doesn't agree with it. A read gives none.
+fn reason_for(alloc: Global, wanted: &UsedVariable) -> Result<Option<Disagreement>, AllocError>
+    ensures { IfOk result (λ found. MatchOption found ((used_view wanted.now).1 ≡ Untouched)
+        (λ reason. use_named (disagreement_view reason) ≡ Some (used_view wanted.now))) }
 {
     let variable = String::from_str(alloc, wanted.variable.as_str())?;
     match &wanted.used {
-        VariableUse::Fixed(None) => Ok(Disagreement::IsSet(variable)),
+        VariableUse::Fixed(None) => Ok(Some(Disagreement::IsSet(variable))),
         VariableUse::Fixed(Some(value)) => {
             let value = String::from_str(alloc, value.as_str())?;
-            Ok(Disagreement::HasNotValue { variable, value })
+            Ok(Some(Disagreement::HasNotValue { variable, value }))
         }
-        VariableUse::Absent => Ok(Disagreement::IsNotAbsent(variable)),
-        VariableUse::Pathed(delim) => Ok(Disagreement::PathNotInOrder {
+        VariableUse::Absent => Ok(Some(Disagreement::IsNotAbsent(variable))),
+        VariableUse::Pathed(delim) => Ok(Some(Disagreement::PathNotInOrder {
             variable,
             delim: *delim,
-        }),
-        VariableUse::Stacked => Ok(Disagreement::StackNotInOrder(variable)),
+        })),
+        VariableUse::Stacked => Ok(Some(Disagreement::StackNotInOrder(variable))),
+        VariableUse::Read => Ok(None),
     }
 }
 
@@ -79,7 +83,9 @@ fn judge_use(
     if agrees_with_use(alloc, env, owners, wanted)? {
         return Ok(());
     }
-    found.push(reason_for(alloc, wanted)?)?;
+    if let Some(reason) = reason_for(alloc, wanted)? {
+        found.push(reason)?;
+    }
     Ok(())
 }
 

@@ -1,8 +1,8 @@
 //! A clash of each of some modules with another one of them.
 ghost use Rattle.std.specs.Prelude.{◌≡◌, List, map, string_bytes, IfOk};
-ghost use Rattle.modulefile.specs.Moves as moves;
-ghost use Rattle.modules.specs.MoveViews.{module_view};
-ghost use Rattle.sitecertificate.specs.RecordUses.{used_by_modules};
+ghost use Rattle.sitecertificate.specs.Candidates as candidates;
+ghost use Rattle.sitecertificate.specs.CandidateViews.{candidate_view};
+ghost use Rattle.sitecertificate.specs.Candidates.{uses_of_all};
 ghost use Rattle.sitecertificate.specs.Certificates.{staying};
 ghost use Rattle.sitecertificate.specs.Ranks.{users_alike};
 ghost use Rattle.sitecertificate.specs.UseViews.{use_view, used_view};
@@ -13,8 +13,9 @@ ghost use Rattle.sitecertificate.specs.Users.{AreUsersOf, uses_of_modules};
 ghost use Rattle.sitecertificate.specs.UserViews.{user_view};
 ghost use Rattle.sitecertificate.specs.Tables.{users_at};
 ghost use Rattle.sitecertificate.specs.Tallies.{HasCounts};
-ghost use Rattle.sitecertificate.specs.UsingModules.{module_of};
+ghost use Rattle.sitecertificate.specs.UsingModules.{candidate_of};
 
+use crate::candidate::Candidate;
 use crate::conflicts::conflict_names;
 use crate::keys::key_of;
 use crate::module_uses::{UsingModule, using_modules};
@@ -24,7 +25,6 @@ use crate::table::VariableTable;
 use crate::tally::{Counted, Tally};
 use crate::users::ClashingUsers;
 use crate::uses::{UsedVariable, VariableUse};
-use modules::Module;
 use std::alloc::{AllocError, Global};
 
 /// The clash of a module with another.
@@ -51,7 +51,7 @@ fn clash_between(
     users: ClashingUsers<'_>,
 ) -> Result<Clash, AllocError>
     ensures clash { IfOk result (IsClashBetween (user_view users.entry.own) (user_view users.entry.other)) }
-    ensures alike { IfOk result (λ clash. (ms : List moves.Module) → HasCounts tally.now (uses_of_modules ms)
+    ensures alike { IfOk result (λ clash. (ms : List candidates.Candidate) → HasCounts tally.now (uses_of_modules ms)
         → clash.alike ≡ users_alike ms (string_bytes clash.variable) (use_view clash.theirs)) }
 {
     let ClashingUsers { own, other } = users;
@@ -79,9 +79,9 @@ fn clash_of<'a>(
     table: &VariableTable<'a>,
     candidate: &'a UsingModule<'a>,
 ) -> Result<Option<Clash>, AllocError>
-    ensures { IfOk result (λ answer. (ms : List moves.Module) → HasCounts tally.now (uses_of_modules ms)
+    ensures { IfOk result (λ answer. (ms : List candidates.Candidate) → HasCounts tally.now (uses_of_modules ms)
         → AreUsersOf (users_at table.now) (uses_of_modules (staying ms))
-        → IsAnswer ms (module_of candidate.entry.now) answer) }
+        → IsAnswer ms (candidate_of candidate.entry.now) answer) }
 {
     let conflicts = conflict_names(alloc, candidate.owner.records.as_slice())?;
     match table.clash_of(candidate, &conflicts) {
@@ -97,9 +97,9 @@ fn answers_of<'a>(
     table: &VariableTable<'a>,
     users: &'a [UsingModule<'a>],
 ) -> Result<Vec<Option<Clash>>, AllocError>
-    ensures { IfOk result (λ found. (ms : List moves.Module) → HasCounts tally.now (uses_of_modules ms)
+    ensures { IfOk result (λ found. (ms : List candidates.Candidate) → HasCounts tally.now (uses_of_modules ms)
         → AreUsersOf (users_at table.now) (uses_of_modules (staying ms))
-        → AreAnswers ms (map module_of users.entry.now) found.items) }
+        → AreAnswers ms (map candidate_of users.entry.now) found.items) }
 {
     let mut found = Vec::new(alloc);
     for candidate in users {
@@ -114,7 +114,7 @@ pub struct FoundClashes {
     /// For each of the modules, in their order, a clash with one that stays; `None` where it stays itself, since it
     /// clashes with none of these.
     pub answers: Vec<Option<Clash>>,
-    /// What those use that clash with none: each use once, in the order in which they first stand.
+    /// What those use and read that clash with none: each use once, in the order in which they first stand.
     pub unclashed_uses: Vec<UsedVariable>,
     /// For each of the modules beside them, in their order, a clash with one that stays; `None` where it clashes with none.
     pub beside: Vec<Option<Clash>>,
@@ -127,11 +127,11 @@ fn clashes_of<'a>(
     others: &'a [UsingModule<'a>],
 ) -> Result<FoundClashes, AllocError>
     ensures answers { IfOk result (λ found.
-        AreAnswers (map module_of users.entry.now) (map module_of users.entry.now) found.answers.items) }
+        AreAnswers (map candidate_of users.entry.now) (map candidate_of users.entry.now) found.answers.items) }
     ensures uses { IfOk result (λ found. map used_view found.unclashed_uses.items
-        ≡ each_once (used_by_modules (without_clashes (map module_of users.entry.now) found.answers.items))) }
+        ≡ each_once (uses_of_all (without_clashes (map candidate_of users.entry.now) found.answers.items))) }
     ensures beside { IfOk result (λ found.
-        AreAnswers (map module_of users.entry.now) (map module_of others.entry.now) found.beside.items) }
+        AreAnswers (map candidate_of users.entry.now) (map candidate_of others.entry.now) found.beside.items) }
 {
     let tally = Tally::of(alloc, users)?;
     let ranks = ranks(alloc, &tally, users)?;
@@ -146,23 +146,23 @@ fn clashes_of<'a>(
     })
 }
 
-/// Of modules that clash those that stay, as many as can be: the others have a clash with one of these. What those that
-/// stay use. And of other modules, which have no part in who stays, a clash with one that does.
+/// Of candidates that clash those that stay, as many as can be: the others have a clash with one of these. What those
+/// that stay use and read. And of other modules, which have no part in who stays, a clash with one that does.
 ///
 /// The only error is want of memory.
 pub fn clashes(
     alloc: Global,
-    modules: &[Module],
-    others: &[Module],
+    candidates: &[Candidate],
+    others: &[Candidate],
 ) -> Result<FoundClashes, AllocError>
     ensures answers { IfOk result (λ found.
-        AreAnswers (map module_view modules.now) (map module_view modules.now) found.answers.items) }
+        AreAnswers (map candidate_view candidates.now) (map candidate_view candidates.now) found.answers.items) }
     ensures uses { IfOk result (λ found. map used_view found.unclashed_uses.items
-        ≡ each_once (used_by_modules (without_clashes (map module_view modules.now) found.answers.items))) }
+        ≡ each_once (uses_of_all (without_clashes (map candidate_view candidates.now) found.answers.items))) }
     ensures beside { IfOk result (λ found.
-        AreAnswers (map module_view modules.now) (map module_view others.now) found.beside.items) }
+        AreAnswers (map candidate_view candidates.now) (map candidate_view others.now) found.beside.items) }
 {
-    let users = using_modules(alloc, modules)?;
+    let users = using_modules(alloc, candidates)?;
     let others = using_modules(alloc, others)?;
     clashes_of(alloc, users.as_slice(), others.as_slice())
 }

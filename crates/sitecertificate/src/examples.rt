@@ -10,6 +10,9 @@ ghost use Rattle.sitecertificate.specs.Examples.{ModulepathPushed, ModulepathPar
 ghost use Rattle.sitecertificate.specs.Examples.{LoseByDelimiters, LoseByPathAndStack, LoseBySetAndPush};
 ghost use Rattle.sitecertificate.specs.Examples.{LoseByUnsetAndPush, LoseByBothSet, LoseBySetAndAbsent};
 ghost use Rattle.sitecertificate.specs.Examples.{SetAndPushLeaveValue, StartsAgree};
+ghost use Rattle.sitecertificate.specs.Examples.{BothRead, ReadAndSet, SetAndRead, ReadAndPath, AbsentAndRead};
+ghost use Rattle.sitecertificate.specs.Examples.{ReaderInConflict, UserInConflict, ReaderOfOneName, TwoReaders};
+ghost use Rattle.sitecertificate.specs.Examples.{ModulepathRead, ReadsItsOwn};
 
 /// Two modules that don't exclude each other use one variable.
 pub fn clashes()
@@ -45,6 +48,22 @@ pub fn exclusive_uses()
     ensures two_values { TwoValues }
     ensures two_files { TwoFilesAndValues }
     ensures one_value { OneValue }
+{}
+
+/// Modules of which one reads a variable: two reads go together, a read and another use clash. A reader's own conflict
+/// excludes nothing.
+pub fn reads()
+    ensures both { BothRead }
+    ensures read_and_set { ReadAndSet }
+    ensures set_and_read { SetAndRead }
+    ensures read_and_path { ReadAndPath }
+    ensures absent_and_read { AbsentAndRead }
+    ensures reader_in_conflict { ReaderInConflict }
+    ensures user_in_conflict { UserInConflict }
+    ensures one_name { ReaderOfOneName }
+    ensures two_readers { TwoReaders }
+    ensures modulepath { ModulepathRead }
+    ensures its_own { ReadsItsOwn }
 {}
 
 /// Modules out of step, and one way: they aren't certified, and keep no other from being so.

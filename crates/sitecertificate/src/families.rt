@@ -1,14 +1,16 @@
 //! Users of one variable whose names have one first part: a `conflict` with this part excludes all of them at once.
-ghost use Rattle.std.specs.Prelude.{◌≡◌, ◌++◌, [], ◌∷◌, map, if◌then◌else◌, is_ok, IfOk};
+ghost use Rattle.std.specs.Prelude.{◌≡◌, ◌++◌, ◌&&◌, [], ◌∷◌, map, not, if◌then◌else◌, is_ok, IfOk};
 ghost use Rattle.std.specs.Option.{option_map};
-ghost use Rattle.sitecertificate.specs.RecordUses.{IsAmong};
+ghost use Rattle.envvars.specs.Texts.{has};
+ghost use Rattle.modulefile.specs.Records.{conflict_names};
+ghost use Rattle.sitecertificate.specs.RecordUses.{IsAmong, is_read as is_read_use};
 ghost use Rattle.sitecertificate.specs.UseViews.{use_view};
 ghost use Rattle.sitecertificate.specs.Users.{ModuleUse, first_part, IsClashAmong};
 ghost use Rattle.sitecertificate.specs.UserViews.{user_view};
 
 use crate::conflicts::Seeker;
 use crate::users::{User, first_clash_among};
-use crate::uses::{VariableUse, uses_clash};
+use crate::uses::{VariableUse, is_read, uses_clash};
 use std::alloc::{AllocError, Global};
 
 /// Users of one variable whose names have one first part.
@@ -45,14 +47,22 @@ impl<'a> Family<'a> {
         Ok(())
     }
 
+    /// Whether the seeker's conflicts keep it apart from the whole family. None of them counts where it reads the variable.
+    fn is_kept_apart(&self, seeker: &Seeker<'_>) -> bool
+        ensures { result ≡ (not (is_read_use (user_view seeker.now.user).used.1)
+            && has self.now.root.now (conflict_names (user_view seeker.now.user).owner.records)) }
+    {
+        !is_read(&seeker.user.used.used) && seeker.excludes_family(self.root)
+    }
+
     /// The first user that clashes with the seeker, where all use the variable in this way. None is looked at where a
-    /// start can agree with both uses, and the seeker's conflicts exclude the whole family.
+    /// start can agree with both uses, and the seeker is kept apart from the whole family.
     pub(crate) fn first_clash(&self, seeker: &Seeker<'_>, way: &VariableUse) -> Option<User<'a>>
         requires { (y : ModuleUse) → IsAmong y (map user_view self.now.users.items) → y.used.1 ≡ use_view way.now }
         ensures { IsClashAmong (user_view seeker.now.user) (map user_view self.now.users.items)
             (option_map user_view result) }
     {
-        if seeker.excludes_family(self.root) && !uses_clash(true, &seeker.user.used.used, way) {
+        if self.is_kept_apart(seeker) && !uses_clash(true, &seeker.user.used.used, way) {
             return None;
         }
         first_clash_among(seeker.user, self.users.as_slice())

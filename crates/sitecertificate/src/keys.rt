@@ -18,6 +18,8 @@ pub(crate) enum UseKey<'a> {
     Path(char),
     /// It is a stack.
     Stack,
+    /// It is read.
+    Read,
 }
 
 /// The key of a use.
@@ -30,6 +32,7 @@ pub(crate) fn key_of(used: &VariableUse) -> UseKey<'_>
         VariableUse::Absent => UseKey::Absent,
         VariableUse::Pathed(delim) => UseKey::Path(delim.character),
         VariableUse::Stacked => UseKey::Stack,
+        VariableUse::Read => UseKey::Read,
     }
 }
 

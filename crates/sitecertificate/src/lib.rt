@@ -4,6 +4,7 @@
 
 mod agreement;
 mod answers;
+mod candidate;
 mod conflicts;
 mod disagreement;
 mod examples;
@@ -24,6 +25,7 @@ mod ways;
 
 pub use agreement::disagreements;
 pub use answers::{Clash, FoundClashes, clashes};
+pub use candidate::Candidate;
 pub use disagreement::Disagreement;
 pub use laws::certified;
-pub use uses::{UsedVariable, VariableUse, first_unlike, used_by};
+pub use uses::{UsedVariable, VariableUse, first_unlike, uses_of};

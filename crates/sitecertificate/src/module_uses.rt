@@ -1,33 +1,31 @@
-//! Modules with what they use, computed once for each.
+//! Candidates with what they use, computed once for each.
 ghost use Rattle.std.specs.Prelude.{◌≡◌, map, IfOk};
-ghost use Rattle.modulefile.specs.RecordViews.{record_view};
-ghost use Rattle.modules.specs.MoveViews.{module_view};
-ghost use Rattle.sitecertificate.specs.RecordUses as uses;
+ghost use Rattle.sitecertificate.specs.CandidateViews.{candidate_view};
+ghost use Rattle.sitecertificate.specs.Candidates.{uses_of};
 ghost use Rattle.sitecertificate.specs.EachOnce.{each_once};
 ghost use Rattle.sitecertificate.specs.UseViews.{used_view};
 
+use crate::candidate::Candidate;
 use crate::once::each_once;
-use crate::uses::{UsedVariable, used_by};
-use modules::Module;
+use crate::uses::{UsedVariable, uses_of};
 use std::alloc::{AllocError, Global};
 
-/// A module with what it uses.
+/// A candidate with what it uses.
 #[derive(Drop)]
 pub(crate) struct UsingModule<'a> {
-    /// The module.
-    pub(crate) owner: &'a Module,
-    /// What its records use, each use once.
+    /// The candidate.
+    pub(crate) owner: &'a Candidate,
+    /// What its records use and what it reads, each use once.
     pub(crate) used: Vec<UsedVariable>,
-    ghost exact: { map used_view used.items ≡ each_once (uses.used_by (map record_view owner.now.records.items)) },
+    ghost exact: { map used_view used.items ≡ each_once (uses_of (candidate_view owner.now)) },
 }
 
 impl<'a> UsingModule<'a> {
-    /// The module with what it uses.
-    fn of(alloc: Global, owner: &'a Module) -> Result<UsingModule<'a>, AllocError>
-        ensures { IfOk result (λ candidate. candidate.owner.now ≡ owner.entry.now) }
+    /// The candidate with what it uses.
+    fn of(alloc: Global, owner: &'a Candidate) -> Result<UsingModule<'a>, AllocError>
+        ensures { IfOk result (λ using. using.owner.now ≡ owner.entry.now) }
     {
-        let records = owner.records.as_slice();
-        let all_used = used_by(alloc, records)?;
+        let all_used = uses_of(alloc, owner.records.as_slice(), owner.reads.as_slice())?;
         Ok(UsingModule {
             owner,
             used: each_once(alloc, all_used.as_slice())?,
@@ -35,17 +33,17 @@ impl<'a> UsingModule<'a> {
     }
 }
 
-/// Each module with what it uses.
+/// Each candidate with what it uses.
 pub(crate) fn using_modules<'a>(
     alloc: Global,
-    modules: &'a [Module],
+    candidates: &'a [Candidate],
 ) -> Result<Vec<UsingModule<'a>>, AllocError>
-    ensures { IfOk result (λ users. map (λ candidate. module_view candidate.owner.now) users.items
-        ≡ map module_view modules.entry.now) }
+    ensures { IfOk result (λ users. map (λ using. candidate_view using.owner.now) users.items
+        ≡ map candidate_view candidates.entry.now) }
 {
     let mut users = Vec::new(alloc);
-    for module in modules {
-        users.push(UsingModule::of(alloc, module)?)?;
+    for candidate in candidates {
+        users.push(UsingModule::of(alloc, candidate)?)?;
     }
     Ok(users)
 }

@@ -2,12 +2,12 @@
 ghost use Rattle.std.specs.Prelude.{◌≡◌, [], List, map, IfOk, OnOk};
 ghost use Rattle.indexmap.specs.IndexSet.{insert_key, insert_all};
 ghost use Rattle.reversal.specs.VariableUses as variable_uses;
-ghost use Rattle.sitecertificate.specs.RecordUses.{used_by_modules};
+ghost use Rattle.sitecertificate.specs.Candidates.{uses_of_all};
 ghost use Rattle.sitecertificate.specs.UseViews.{used_view};
 ghost use Rattle.sitecertificate.specs.ClashAnswers.{without_clash, without_clashes};
 ghost use Rattle.sitecertificate.specs.EachOnce.{same_used, each_once};
 ghost use Rattle.sitecertificate.specs.UseKeys.{HasUses};
-ghost use Rattle.sitecertificate.specs.UsingModules.{module_of};
+ghost use Rattle.sitecertificate.specs.UsingModules.{candidate_of};
 
 use crate::answers::Clash;
 use crate::keys::{UsedKey, used_key};
@@ -76,7 +76,7 @@ impl<'a> UsesOnce<'a> {
         answer: &Option<Clash>,
     ) -> Result<(), AllocError>
         ensures { OnOk result ((ps : List variable_uses.UsedVariable) → HasUses self.old ps → HasUses self.new
-            (insert_all same_used ps (used_by_modules (without_clash (module_of candidate.entry.now) answer.now)))) }
+            (insert_all same_used ps (uses_of_all (without_clash (candidate_of candidate.entry.now) answer.now)))) }
     {
         match answer {
             None => self.add_all(alloc, candidate.used.as_slice()),
@@ -105,7 +105,7 @@ pub(crate) fn unclashed_uses<'a>(
     answers: &[Option<Clash>],
 ) -> Result<Vec<UsedVariable>, AllocError>
     ensures { IfOk result (λ found. map used_view found.items
-        ≡ each_once (used_by_modules (without_clashes (map module_of users.entry.now) answers.now))) }
+        ≡ each_once (uses_of_all (without_clashes (map candidate_of users.entry.now) answers.now))) }
 {
     let mut once = UsesOnce::new(alloc);
     for (candidate, answer) in users.iter().zip(answers) {

@@ -1,15 +1,18 @@
-//! Two modules: whether they exclude each other, so that they are never loaded at once.
+//! Two candidates: whether they are kept apart, so that they are never loaded at once.
 ghost use Rattle.std.specs.Prelude.{◌≡◌, map, string_bytes};
 ghost use Rattle.std.specs.List.{list_any};
 ghost use Rattle.modulename.specs.ModuleName.{means};
 ghost use Rattle.modulefile.specs.Records.{conflicts_of};
 ghost use Rattle.modulefile.specs.RecordViews.{record_view};
-ghost use Rattle.modules.specs.MoveViews.{module_view};
+ghost use Rattle.sitecertificate.specs.CandidateViews.{candidate_view};
+ghost use Rattle.sitecertificate.specs.Candidates.{as_module};
 ghost use Rattle.sitecertificate.specs.Clashes as clashes;
+ghost use Rattle.sitecertificate.specs.UseViews.{use_view};
 
+use crate::candidate::Candidate;
+use crate::uses::{VariableUse, is_read};
 use modulefile::Record;
 use modulename::means;
-use modules::Module;
 
 /// Whether one of the names means the module of this full name.
 fn is_meant(names: &[String], full_name: &str) -> bool
@@ -35,24 +38,40 @@ fn are_in_conflict_with(records: &[Record], full_name: &str) -> bool
         .any(|recorded| is_conflict_with(recorded, full_name))
 }
 
-/// Whether a conflict of the first module means the second.
-fn names_in_conflict(one: &Module, other: &Module) -> bool
-    ensures { result ≡ clashes.names_in_conflict (module_view one.now) (module_view other.now) }
+/// Whether a conflict of the first candidate means the second.
+fn names_in_conflict(one: &Candidate, other: &Candidate) -> bool
+    ensures { result ≡ clashes.names_in_conflict (as_module (candidate_view one.now))
+        (as_module (candidate_view other.now)) }
 {
     are_in_conflict_with(one.records.as_slice(), other.name.as_str())
 }
 
-/// Whether the modules exclude each other: they have one name, or a conflict of one of them means the other.
-pub fn exclude(one: &Module, other: &Module) -> bool
-    ensures { result ≡ clashes.exclude (module_view one.now) (module_view other.now) }
+/// Whether a conflict of the first candidate means the second, and counts where it uses a variable so: where it doesn't
+/// read it.
+fn excludes_by(used: &VariableUse, one: &Candidate, other: &Candidate) -> bool
+    ensures { result ≡ clashes.excludes_by (use_view used.now) (candidate_view one.now) (candidate_view other.now) }
 {
-    one.name.as_str() == other.name.as_str()
-        || (names_in_conflict(one, other) || names_in_conflict(other, one))
+    !is_read(used) && names_in_conflict(one, other)
 }
 
-/// Whether they are two modules: a module is a name with its file.
-pub fn is_other(one: &Module, other: &Module) -> bool
-    ensures { result ≡ clashes.is_other (module_view one.now) (module_view other.now) }
+/// Whether two candidates that use a variable so are kept apart: they have one name, or a conflict of one of them, which
+/// doesn't read the variable, means the other.
+pub(crate) fn are_kept_apart(
+    one: &Candidate,
+    other: &Candidate,
+    used: &VariableUse,
+    theirs: &VariableUse,
+) -> bool
+    ensures { result ≡ clashes.are_kept_apart (candidate_view one.now) (candidate_view other.now) (use_view used.now)
+        (use_view theirs.now) }
+{
+    one.name.as_str() == other.name.as_str()
+        || (excludes_by(used, one, other) || excludes_by(theirs, other, one))
+}
+
+/// Whether they are two candidates: a module is a name with its file.
+pub fn is_other(one: &Candidate, other: &Candidate) -> bool
+    ensures { result ≡ clashes.is_other (candidate_view one.now) (candidate_view other.now) }
 {
     !(one.name.as_str() == other.name.as_str() && one.path.as_str() == other.path.as_str())
 }

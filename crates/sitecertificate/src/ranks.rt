@@ -2,11 +2,11 @@
 ghost use Rattle.std.specs.Prelude.{◌≡◌, List, map, IfOk};
 ghost use Rattle.std.specs.List.Sorted.{IsPermutation, IsSortedBy};
 ghost use Rattle.std.specs.Ordering.{is_lt};
-ghost use Rattle.modulefile.specs.Moves as moves;
+ghost use Rattle.sitecertificate.specs.Candidates as candidates;
 ghost use Rattle.sitecertificate.specs.Users.{uses_of_modules};
 ghost use Rattle.sitecertificate.specs.Tallies.{HasCounts};
 ghost use Rattle.sitecertificate.specs.Ranked.{ranked_module, ranked_order, AreRanked};
-ghost use Rattle.sitecertificate.specs.UsingModules.{module_of};
+ghost use Rattle.sitecertificate.specs.UsingModules.{candidate_of};
 
 use crate::module_uses::UsingModule;
 use crate::tally::Tally;
@@ -42,8 +42,8 @@ fn with_rivals<'a>(
     tally: &Tally<'a>,
     users: &'a [UsingModule<'a>],
 ) -> Result<Vec<Ranked<'a>>, AllocError>
-    ensures modules { IfOk result (λ ranks. map ranked_module ranks.items ≡ map module_of users.entry.now) }
-    ensures rivals { IfOk result (λ ranks. (ms : List moves.Module) → HasCounts tally.now (uses_of_modules ms)
+    ensures modules { IfOk result (λ ranks. map ranked_module ranks.items ≡ map candidate_of users.entry.now) }
+    ensures rivals { IfOk result (λ ranks. (ms : List candidates.Candidate) → HasCounts tally.now (uses_of_modules ms)
         → AreRanked ms ranks.items) }
 {
     let mut ranks = Vec::with_capacity(alloc, users.len())?;
@@ -69,8 +69,8 @@ pub(crate) fn ranks<'a>(
     users: &'a [UsingModule<'a>],
 ) -> Result<Vec<Ranked<'a>>, AllocError>
     ensures same { IfOk result (λ ranks.
-        IsPermutation (map module_of users.entry.now) (map ranked_module ranks.items)) }
-    ensures rivals { IfOk result (λ ranks. (ms : List moves.Module) → HasCounts tally.now (uses_of_modules ms)
+        IsPermutation (map candidate_of users.entry.now) (map ranked_module ranks.items)) }
+    ensures rivals { IfOk result (λ ranks. (ms : List candidates.Candidate) → HasCounts tally.now (uses_of_modules ms)
         → AreRanked ms ranks.items) }
     ensures sorted { IfOk result (λ ranks. IsSortedBy (λ r s. is_lt (ranked_order r s)) ranks.items) }
 {

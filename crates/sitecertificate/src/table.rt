@@ -9,7 +9,7 @@ ghost use Rattle.sitecertificate.specs.Users.{uses_of_modules};
 ghost use Rattle.sitecertificate.specs.UserViews.{user_view, users_view};
 ghost use Rattle.sitecertificate.specs.Conflicts.{has_name};
 ghost use Rattle.sitecertificate.specs.Tables.{users_at};
-ghost use Rattle.sitecertificate.specs.UsingModules.{module_of};
+ghost use Rattle.sitecertificate.specs.UsingModules.{candidate_of};
 ghost use Rattle.sitecertificate.specs.Ranked.{ranked_module, taken};
 
 use crate::conflicts::{Names, Seeker, conflict_names};
@@ -64,7 +64,7 @@ impl<'a> VariableTable<'a> {
         candidate: &'a UsingModule<'a>,
     ) -> Result<(), AllocError>
         ensures { OnOk result (EntersAll (users_at self.old) (users_at self.new)
-            (uses_of_module (module_of candidate.entry.now))) }
+            (uses_of_module (candidate_of candidate.entry.now))) }
     {
         for used in &candidate.used {
             let owner = candidate.owner;
@@ -90,8 +90,8 @@ impl<'a> VariableTable<'a> {
         conflicts: &Names<'a>,
     ) -> Option<ClashingUsers<'a>>
         requires { (name : Text) → has_name conflicts.now name
-            ≡ has name (conflict_names (module_of candidate.now).records) }
-        ensures { IsFoundOf (users_at self.now) (uses_of_module (module_of candidate.entry.now))
+            ≡ has name (conflict_names (candidate_of candidate.now).records) }
+        ensures { IsFoundOf (users_at self.now) (uses_of_module (candidate_of candidate.entry.now))
             (option_map users_view result) }
     {
         for used in &candidate.used {
@@ -116,7 +116,7 @@ impl<'a> VariableTable<'a> {
         alloc: Global,
         candidate: &'a UsingModule<'a>,
     ) -> Result<(), AllocError>
-        ensures { OnOk result (TakesNext (users_at self.old) (users_at self.new) (module_of candidate.entry.now)) }
+        ensures { OnOk result (TakesNext (users_at self.old) (users_at self.new) (candidate_of candidate.entry.now)) }
     {
         let conflicts = conflict_names(alloc, candidate.owner.records.as_slice())?;
         match self.clash_of(candidate, &conflicts) {

@@ -1,24 +1,25 @@
 //! How many users each variable has, by the ways in which they use it and the first parts of their names.
-ghost use Rattle.std.specs.Prelude.{◌≡◌, ◌+◌, [], ◌∷◌, List, map, IfOk, OnOk};
+ghost use Rattle.std.specs.Prelude.{◌≡◌, ◌+◌, ◌-◌, [], ◌∷◌, List, map, None, Some, IfOk, OnOk};
 ghost use Rattle.std.specs.List.{count_by};
 ghost use Rattle.std.specs.Option.{option_map};
 ghost use Rattle.envvars.specs.Texts.{Text, has};
 ghost use Rattle.modulefile.specs.Records as records;
-ghost use Rattle.modulefile.specs.Moves as moves;
+ghost use Rattle.reversal.specs.VariableUses.{Untouched};
+ghost use Rattle.sitecertificate.specs.Candidates as candidates;
 ghost use Rattle.sitecertificate.specs.Users.{ModuleUse, uses_of_module, uses_of_modules};
 ghost use Rattle.sitecertificate.specs.Ranks.{is_rival, rivals};
 ghost use Rattle.sitecertificate.specs.UserViews.{user_view};
 ghost use Rattle.sitecertificate.specs.UseKeys.{key_view};
 ghost use Rattle.sitecertificate.specs.Conflicts.{has_name};
 ghost use Rattle.sitecertificate.specs.Tallies.{counted_at, HasCounts, CountsMore, CountsOne};
-ghost use Rattle.sitecertificate.specs.Tallies.{is_excluded_user, is_other_user};
-ghost use Rattle.sitecertificate.specs.UsingModules.{module_of};
+ghost use Rattle.sitecertificate.specs.Tallies.{is_user, is_excluded_user, is_other_user, is_open_rival};
+ghost use Rattle.sitecertificate.specs.UsingModules.{candidate_of};
 
 use crate::conflicts::{Names, conflict_names};
 use crate::keys::{UseKey, key_of};
 use crate::module_uses::UsingModule;
 use crate::users::User;
-use crate::uses::go_together;
+use crate::uses::{go_together, is_read};
 use indexmap::IndexMap;
 use std::alloc::{AllocError, Global};
 
@@ -105,7 +106,7 @@ impl<'a> Tally<'a> {
 
     /// Counts what a module uses.
     fn enter_module(&mut self, candidate: &'a UsingModule<'a>) -> Result<(), AllocError>
-        ensures { OnOk result (CountsMore self.old self.new (uses_of_module (module_of candidate.entry.now))) }
+        ensures { OnOk result (CountsMore self.old self.new (uses_of_module (candidate_of candidate.entry.now))) }
     {
         for used in &candidate.used {
             let owner = candidate.owner;
@@ -116,7 +117,7 @@ impl<'a> Tally<'a> {
 
     /// The tally of what the modules use.
     pub(crate) fn of(alloc: Global, users: &'a [UsingModule<'a>]) -> Result<Tally<'a>, AllocError>
-        ensures { IfOk result (λ tally. HasCounts tally (uses_of_modules (map module_of users.entry.now))) }
+        ensures { IfOk result (λ tally. HasCounts tally (uses_of_modules (map candidate_of users.entry.now))) }
     {
         let mut tally = Tally::new(alloc);
         for candidate in users {
@@ -168,12 +169,13 @@ impl<'a> Tally<'a> {
         Ok(all.saturating_sub(self.excluded(variable, used, names)?))
     }
 
-    /// How many rivals this user has, whose module is in conflict with these names.
-    fn rivals_of<'u>(&self, user: User<'u>, names: &Names<'u>) -> Result<usize, AllocError>
+    /// How many don't go together with this user, whose module is in conflict with these names, and aren't excluded by it
+    /// with all versions.
+    fn open_rivals<'u>(&self, user: User<'u>, names: &Names<'u>) -> Result<usize, AllocError>
         requires { (name : Text) → has_name names.now name
             ≡ has name (records.conflict_names (user_view user).owner.records) }
         ensures { IfOk result (λ number. (us : List ModuleUse) → HasCounts self.now us
-            → number ≡ count_by (is_rival (user_view user.entry)) us) }
+            → number ≡ count_by (is_open_rival (user_view user.entry)) us) }
     {
         let variable = user.variable();
         let used = &user.used.used;
@@ -185,14 +187,46 @@ impl<'a> Tally<'a> {
         Ok(others.saturating_sub(alike))
     }
 
-    /// How many rivals a module has.
+    /// How many use the variable in another way than to read it.
+    fn beside_readers(&self, variable: &str) -> usize
+        ensures { (us : List ModuleUse) → HasCounts self.now us → result
+            ≡ count_by (is_user variable.now None) us - count_by (is_user variable.now (Some Untouched)) us }
+    {
+        let all = self.count(Counted {
+            variable,
+            used: None,
+            root: None,
+        });
+        let readers = self.count(Counted {
+            variable,
+            used: Some(UseKey::Read),
+            root: None,
+        });
+        all.saturating_sub(readers)
+    }
+
+    /// How many rivals this user has, whose module is in conflict with these names.
+    fn rivals_of<'u>(&self, user: User<'u>, names: &Names<'u>) -> Result<usize, AllocError>
+        requires { (name : Text) → has_name names.now name
+            ≡ has name (records.conflict_names (user_view user).owner.records) }
+        ensures { IfOk result (λ number. (us : List ModuleUse) → HasCounts self.now us
+            → number ≡ count_by (is_rival (user_view user.entry)) us) }
+    {
+        let variable = user.variable();
+        if is_read(&user.used.used) {
+            return Ok(self.beside_readers(variable));
+        }
+        self.open_rivals(user, names)
+    }
+
+    /// How many rivals a candidate has.
     pub(crate) fn rivals<'u>(
         &self,
         alloc: Global,
         candidate: &'u UsingModule<'u>,
     ) -> Result<usize, AllocError>
-        ensures { IfOk result (λ number. (ms : List moves.Module) → HasCounts self.now (uses_of_modules ms)
-            → number ≡ rivals ms (module_of candidate.entry.now)) }
+        ensures { IfOk result (λ number. (ms : List candidates.Candidate) → HasCounts self.now (uses_of_modules ms)
+            → number ≡ rivals ms (candidate_of candidate.entry.now)) }
     {
         let names = conflict_names(alloc, candidate.owner.records.as_slice())?;
         let mut number = 0_usize;

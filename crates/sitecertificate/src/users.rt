@@ -4,17 +4,17 @@ ghost use Rattle.std.specs.Option.{option_map};
 ghost use Rattle.sitecertificate.specs.Users.{first_part, do_users_clash};
 ghost use Rattle.sitecertificate.specs.UserViews.{user_view};
 
+use crate::candidate::Candidate;
 use crate::names::first_part;
-use crate::pairs::{exclude, is_other};
+use crate::pairs::{are_kept_apart, is_other};
 use crate::uses::{UsedVariable, uses_clash};
-use modules::Module;
 
-/// A module, and one of its uses of a variable.
+/// A candidate, and one of its uses of a variable.
 #[derive(Clone, Copy)]
 pub(crate) struct User<'a> {
-    /// The module with its records.
-    pub(crate) owner: &'a Module,
-    /// One of the uses that its records make.
+    /// The candidate.
+    pub(crate) owner: &'a Candidate,
+    /// One of its uses.
     pub(crate) used: &'a UsedVariable,
 }
 
@@ -49,7 +49,7 @@ fn do_clash(one: User<'_>, other: User<'_>) -> bool
 {
     is_other(one.owner, other.owner)
         && uses_clash(
-            exclude(one.owner, other.owner),
+            are_kept_apart(one.owner, other.owner, &one.used.used, &other.used.used),
             &one.used.used,
             &other.used.used,
         )

@@ -1,16 +1,17 @@
-//! How the records of a module use variables: each by itself, and those of one module together.
-ghost use Rattle.std.specs.Prelude.{◌≡◌, ◌++◌, [], ◌∷◌, find, map, not, IfOk, OnOk};
+//! How modules use variables: by their records, each by itself, and by what they read.
+ghost use Rattle.std.specs.Prelude.{◌≡◌, ◌++◌, [], ◌∷◌, find, map, not, string_bytes, IfOk, OnOk};
 ghost use Rattle.std.specs.Option.{option_map};
 ghost use Rattle.modulefile.specs.RecordViews.{record_view};
 ghost use Rattle.reversal.specs.VariableUses as variable_uses;
 ghost use Rattle.sitecertificate.specs.RecordUses as uses;
+ghost use Rattle.sitecertificate.specs.Candidates.{read_of};
 ghost use Rattle.sitecertificate.specs.Clashes as clashes;
 ghost use Rattle.sitecertificate.specs.UseViews.{use_view, used_view};
 
 use modulefile::{Delimiter, PathEdit, Record};
 use std::alloc::{AllocError, Global};
 
-/// How a record uses the variable that it names.
+/// How a module uses a variable: one that a record of it names, or that its file reads.
 #[derive(Debug, Drop)]
 pub enum VariableUse {
     /// It sets the variable, which is unset else; or it unsets the variable, which else has this value.
@@ -21,6 +22,8 @@ pub enum VariableUse {
     Pathed(Delimiter),
     /// It uses the variable as a stack.
     Stacked,
+    /// A file reads the variable; no record does.
+    Read,
 }
 
 impl VariableUse {
@@ -37,6 +40,7 @@ impl VariableUse {
             VariableUse::Absent => Ok(VariableUse::Absent),
             VariableUse::Pathed(delim) => Ok(VariableUse::Pathed(*delim)),
             VariableUse::Stacked => Ok(VariableUse::Stacked),
+            VariableUse::Read => Ok(VariableUse::Read),
         }
     }
 }
@@ -107,7 +111,7 @@ fn push_use(
 }
 
 /// What the records use, in their order.
-pub fn used_by(alloc: Global, records: &[Record]) -> Result<Vec<UsedVariable>, AllocError>
+fn used_by(alloc: Global, records: &[Record]) -> Result<Vec<UsedVariable>, AllocError>
     ensures { IfOk result (λ used. map used_view used.items ≡ uses.used_by (map record_view records.now)) }
 {
     let mut used = Vec::new(alloc);
@@ -117,8 +121,37 @@ pub fn used_by(alloc: Global, records: &[Record]) -> Result<Vec<UsedVariable>, A
     Ok(used)
 }
 
+/// Adds a use of each variable that is read.
+fn push_reads(
+    alloc: Global,
+    used: &mut Vec<UsedVariable>,
+    reads: &[String],
+) -> Result<(), AllocError>
+    ensures { OnOk result (map used_view used.new.items
+        ≡ map used_view used.old.items ++ map read_of (map string_bytes reads.now)) }
+{
+    for variable in reads {
+        used.push(use_of(alloc, variable.as_str(), VariableUse::Read)?)?;
+    }
+    Ok(())
+}
+
+/// What a module uses: what its records do, in their order, and then what its file reads.
+pub fn uses_of(
+    alloc: Global,
+    records: &[Record],
+    reads: &[String],
+) -> Result<Vec<UsedVariable>, AllocError>
+    ensures { IfOk result (λ used. map used_view used.items
+        ≡ uses.used_by (map record_view records.now) ++ map read_of (map string_bytes reads.now)) }
+{
+    let mut used = used_by(alloc, records)?;
+    push_reads(alloc, &mut used, reads)?;
+    Ok(used)
+}
+
 /// Whether modules that are loaded at once may use a variable in these two ways: both as a path with one delimiter,
-/// both as a stack, or both as absent.
+/// both as a stack, both as absent, or both read it.
 pub fn go_together(one: &VariableUse, other: &VariableUse) -> bool
     ensures { result ≡ clashes.go_together (use_view one.now) (use_view other.now) }
 {
@@ -126,8 +159,9 @@ pub fn go_together(one: &VariableUse, other: &VariableUse) -> bool
         (VariableUse::Pathed(one), VariableUse::Pathed(other)) => {
             one.character == other.character
         }
-        (VariableUse::Stacked, VariableUse::Stacked) | (VariableUse::Absent, VariableUse::Absent) =>
-            true,
+        (VariableUse::Stacked, VariableUse::Stacked)
+        | (VariableUse::Absent, VariableUse::Absent)
+        | (VariableUse::Read, VariableUse::Read) => true,
         _ => false,
     }
 }
@@ -148,6 +182,19 @@ fn agree_at_start(one: &VariableUse, other: &VariableUse) -> bool
     }
 }
 
+/// Whether the use is a read.
+pub(crate) fn is_read(used: &VariableUse) -> bool
+    ensures { result ≡ uses.is_read (use_view used.now) }
+{
+    match used {
+        VariableUse::Read => true,
+        VariableUse::Fixed(_)
+        | VariableUse::Absent
+        | VariableUse::Pathed(_)
+        | VariableUse::Stacked => false,
+    }
+}
+
 /// Whether two uses are one.
 fn same_use(one: &VariableUse, other: &VariableUse) -> bool
     ensures { result ≡ uses.same_use (use_view one.now) (use_view other.now) }
@@ -160,27 +207,29 @@ fn same_use(one: &VariableUse, other: &VariableUse) -> bool
         (VariableUse::Pathed(one), VariableUse::Pathed(other)) => {
             one.character == other.character
         }
-        (VariableUse::Stacked, VariableUse::Stacked) | (VariableUse::Absent, VariableUse::Absent) =>
-            true,
+        (VariableUse::Stacked, VariableUse::Stacked)
+        | (VariableUse::Absent, VariableUse::Absent)
+        | (VariableUse::Read, VariableUse::Read) => true,
         _ => false,
     }
 }
 
-/// Whether two uses of one variable clash, by modules that exclude each other or don't.
-pub fn uses_clash(excluded: bool, one: &VariableUse, other: &VariableUse) -> bool
-    ensures { result ≡ clashes.uses_clash excluded (use_view one.now) (use_view other.now) }
+/// Whether two uses of one variable clash, by candidates that are kept apart or aren't.
+pub fn uses_clash(apart: bool, one: &VariableUse, other: &VariableUse) -> bool
+    ensures { result ≡ clashes.uses_clash apart (use_view one.now) (use_view other.now) }
 {
-    !(excluded || go_together(one, other)) || !agree_at_start(one, other)
+    !(apart || go_together(one, other)) || !agree_at_start(one, other)
 }
 
-/// Whether two uses are of two variables, or are one.
+/// Whether the first use is a read, or they are of two variables, or are one.
 fn is_alike(one: &UsedVariable, other: &UsedVariable) -> bool
     ensures { result ≡ uses.use_alike (used_view one.now) (used_view other.now) }
 {
-    one.variable.as_str() != other.variable.as_str() || same_use(&one.used, &other.used)
+    is_read(&one.used)
+        || (one.variable.as_str() != other.variable.as_str() || same_use(&one.used, &other.used))
 }
 
-/// The first of the uses that uses the same variable in another way.
+/// The first of the uses that uses the same variable in another way than this one, unless this is a read.
 pub fn first_unlike<'a>(
     one: &UsedVariable,
     all_used: &'a [UsedVariable],

@@ -5,7 +5,7 @@ use Rattle.envvars.specs.Environment.{Environment}
 use Rattle.requests.specs.Steps.{RequestContext}
 use Rattle.siteaudit.specs.declared.auditing.AuditedModule.{AuditedModule}
 use Rattle.siteaudit.specs.declared.standing.Standing.{Standing}
-use Rattle.siteaudit.specs.declared.standing.Standing.TheVariants.{Certified, Asks, OneWay, ReadsUsed, OutOfStep}
+use Rattle.siteaudit.specs.declared.standing.Standing.TheVariants.{Certified, Asks, OneWay, OutOfStep}
 use Rattle.siteaudit.specs.declared.standing.Standing.TheVariants.{Withheld, Clashes, Refused}
 use Rattle.trials.specs.Trials.{HasTrial}
 use Rattle.trials.specs.Views.{trial_view, has_failed}
@@ -16,7 +16,6 @@ abbrev pub is_tried : Standing → Bool
 is_tried Certified = false
 is_tried (Asks first) = true
 is_tried (OneWay first) = true
-is_tried (ReadsUsed used) = true
 is_tried (OutOfStep variable one other) = true
 is_tried Withheld = true
 is_tried (Clashes clash) = true

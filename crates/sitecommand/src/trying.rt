@@ -30,7 +30,6 @@ fn is_tried(standing: &Standing) -> bool
     match standing {
         Standing::Asks(_)
         | Standing::OneWay(_)
-        | Standing::ReadsUsed(_)
         | Standing::OutOfStep { .. }
         | Standing::Withheld
         | Standing::Clashes(_) => true,

@@ -1,11 +1,11 @@
 -- The answers to what is asked of what is loaded are those of one of the choices, and with what this one has loaded each
 -- question has the answer that it has.
-use Rattle.std.proofs.Common.{◌≡◌, ◌⊎◌, inl, inr, ℕ, Bool, true, false, cond, not, ◌&&◌, nat_eq, List, [], ◌∷◌, ◌++◌, map, filter}
+use Rattle.std.proofs.Common.{◌≡◌, ◌⊎◌, inl, inr, ℕ, Bool, true, false, cond, not, nat_eq, List, [], ◌∷◌, ◌++◌, map, filter}
 use Rattle.std.proofs.Common.{append-nil, Option, Some, None, Ok, Err, refl, ap, sym, subst, ◌∙◌, arith}
 use Rattle.std.specs.Prelude.{bytes_eq, flat_map}
 use Rattle.std.specs.List.{list_all, list_any, cons_option, AllByRecursion}
 use Rattle.std.proofs.lemmas.Bool.Decides.{nat_tests}
-use Rattle.std.proofs.lemmas.Bool.{false≢true, and_parts, and_from, or_cases, not_from_true, not_from_false}
+use Rattle.std.proofs.lemmas.Bool.{false≢true, and_parts, and_from, not_from_true, not_from_false}
 use Rattle.std.proofs.lemmas.List.{append_assoc}
 use Rattle.modulename.specs.ModuleName.{means, slash}
 use Rattle.envvars.specs.Texts.{Text}

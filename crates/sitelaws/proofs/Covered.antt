@@ -1,6 +1,6 @@
 -- The ways that a file asks for are all ways, as far as it asks; and what evaluations that are alike leave in them.
 use Rattle.std.proofs.Common.{◌≡◌, ◌⊎◌, inl, inr, Bool, true, false, cond, ◌&&◌, ◌||◌, not, nat_le, length, List, [], ◌∷◌, ◌++◌, Result, Ok, Err, refl, ap, sym}
-use Rattle.std.proofs.Common.{◌∙◌, subst, Option, Some, None}
+use Rattle.std.proofs.Common.{◌∙◌, subst, None}
 use Rattle.std.specs.Prelude.{flat_map, bytes_eq}
 use Rattle.std.specs.List.{list_all, cons_option}
 use Rattle.std.proofs.lemmas.Bool.{false≢true, and_parts, and_from, or_from}

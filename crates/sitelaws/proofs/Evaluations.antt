@@ -10,7 +10,7 @@ use Rattle.modulefile.specs.Files.{Ran, RunsFile}
 use Rattle.modulefile.specs.Laws as files
 use Rattle.requests.specs.Refusals.{refused_as, RefusedAs}
 use Rattle.requests.specs.Reasons.{RequestReason, file_refused}
-use Rattle.requests.specs.Steps.{RequestContext, entries_of, script_at}
+use Rattle.requests.specs.Steps.{entries_of, script_at}
 use Rattle.requests.proofs.Bound.{went_on}
 use Rattle.settled.specs.Ways.{Way, first_way, other_ways, FileRuns, reads_in}
 use Rattle.sitelaws.specs.Sites.{Site, SiteModule, over_site, context_in, EvaluatesBy, EvaluateBy, EvaluatesTo, HasSettledRecords, Reads}

@@ -8,6 +8,7 @@ mod Standing
 mod OneStanding
 mod Forbidden
 mod Unloaded
+pub mod FreeReads
 mod Returned
 mod Editable
 mod ChangesAgree

@@ -5,20 +5,21 @@ use Rattle.std.specs.List.{list_all}
 use Rattle.std.proofs.lemmas.Bool.{false≢true, and_parts, eq-eqb}
 use Rattle.envvars.specs.Texts.{Text}
 use Rattle.envvars.specs.Fields.{colon}
-use Rattle.modulefile.specs.Records.{Record}
-use Rattle.modulefile.specs.Moves.{Module}
 use Rattle.modulefile.specs.Laws as files
-use Rattle.reversal.specs.VariableUses.{VariableUse, Pathed, can_return}
+use Rattle.reversal.specs.VariableUses.{VariableUse, Pathed, can_return, UsedVariable}
 use Rattle.requests.specs.Reasons.{RequestReason}
 use Rattle.settled.specs.Ways.{FileRuns, are_runs_alike, keeps_answer, keep_answers}
-use Rattle.sitecertificate.specs.RecordUses.{used_by, IsAmong, modulepath, same_use, AreInStep}
+use Rattle.sitecertificate.specs.RecordUses.{IsAmong, modulepath, same_use}
+use Rattle.sitecertificate.specs.Candidates.{Candidate, uses_of}
+use Rattle.sitecertificate.specs.Steps.{AreInStep}
+use Rattle.sitecertificate.specs.Certificates.{IsCertified}
 use Rattle.sitecertificate.proofs.Exact.{use_itself}
 use Rattle.sitecertificate.proofs.CertifiedOnes.{certified_apart}
-use Rattle.sitelaws.specs.Sites.{Site, SiteModule, EvaluatesTo, HasSettledRecords, Reads, HasFreeReads, with_records}
-use Rattle.sitelaws.specs.Standings.{Standing, Certified, Asks, OneWay, ReadsUsed, OutOfStep, Clashes, Refused}
-use Rattle.sitelaws.specs.Standings.{IsUsedTwice, ClashesWith, IsUserOf, HasStanding, standing_word}
+use Rattle.sitelaws.specs.Sites.{Site, SiteModule, EvaluatesTo, candidate_of}
+use Rattle.sitelaws.specs.Standings.{Standing, Certified, Asks, OneWay, OutOfStep, Clashes, Refused}
+use Rattle.sitelaws.specs.Standings.{IsUsedTwice, ClashesWith, IsSettledAnd, HasStanding, standing_word}
 use Rattle.sitelaws.specs.Laws.{OneStanding}
-use Rattle.sitelaws.proofs.Evaluations.{one_outcome, one_list}
+use Rattle.sitelaws.proofs.Evaluations.{one_outcome, same_runs}
 
 -- what a standing says of the outcome: refused 0, settled 1, each question keeps its answer but a record is one-way 2,
 -- and else 3
@@ -34,7 +35,6 @@ abbrev said : Standing → ℕ
 said Certified = 1
 said (Asks q) = 3
 said (OneWay r) = 2
-said (ReadsUsed v n) = 1
 said (OutOfStep v x y) = 1
 said (Clashes v x y n) = 1
 said (Refused reason) = 0
@@ -52,92 +52,83 @@ not_all p (y ∷ xs) x h = found_at p y x xs (p y) h (not_all p xs x)
 abbrev Says : Site → SiteModule → Standing → Type 0
 Says site m s = (o : Outcome) × EvaluatesTo site m o × (seen o ≡ said s)
 
-of_settled : (site : Site) (m : SiteModule) (rs : List Record) → HasSettledRecords site m rs → (o : Outcome) × EvaluatesTo site m o × (seen o ≡ 1)
-of_settled site m rs p =
-    let k = and_parts (keep_answers p.runs) (list_all can_return p.runs.first.records) p.settled in
-    (Ok p.runs, p.evaluated, rw (k.0, k.1) refl)
+of_settled : (site : Site) (m : SiteModule) (P : Candidate → Type 0) → IsSettledAnd site m P → Says site m Certified
+of_settled site m P (runs, h, settled, p) =
+    let k = and_parts (keep_answers runs) (list_all can_return runs.first.records) settled in
+    (Ok runs, h, rw (k.0, k.1) refl)
 
-says : (site : Site) (without : List Text) (ms : List Module) (m : SiteModule) (s : Standing) → HasStanding site without ms m s → Says site m s
-says site without ms m Certified h = of_settled site m h.0 h.1
-says site without ms m (Asks q) (runs, h, first) =
+says : (site : Site) (ms : List Candidate) (m : SiteModule) (s : Standing) → HasStanding site ms m s → Says site m s
+says site ms m Certified h = of_settled site m (IsCertified ms) h
+says site ms m (Asks q) (runs, h, first) =
     (Ok runs, h, rw (not_all (keeps_answer (are_runs_alike runs) runs.first.records) runs.first.asked q first) refl)
-says site without ms m (OneWay r) (runs, h, kept, first) = (Ok runs, h, rw (kept, not_all can_return runs.first.records r first) refl)
-says site without ms m (ReadsUsed v n) h = of_settled site m h.0 h.1
-says site without ms m (OutOfStep v x y) h = of_settled site m h.0 h.1
-says site without ms m (Clashes v x y n) h = of_settled site m h.0 h.1
-says site without ms m (Refused reason) h = (Err reason, h, refl)
+says site ms m (OneWay r) (runs, h, kept, first) = (Ok runs, h, rw (kept, not_all can_return runs.first.records r first) refl)
+says site ms m (OutOfStep v x y) h = of_settled site m (λ c. IsUsedTwice (uses_of c) v x y) h
+says site ms m (Clashes v x y n) h = of_settled site m (λ c. ClashesWith ms c v x y n) h
+says site ms m (Refused reason) h = (Err reason, h, refl)
 
-same_said : files.OneOutcome → (site : Site) (without : List Text) (ms : List Module) (m : SiteModule) (s t : Standing) → HasStanding site without ms m s → HasStanding site without ms m t → said s ≡ said t
-same_said one site without ms m s t h k =
-    let a = says site without ms m s h in
-    let b = says site without ms m t k in
+same_said : files.OneOutcome → (site : Site) (ms : List Candidate) (m : SiteModule) (s t : Standing) → HasStanding site ms m s → HasStanding site ms m t → said s ≡ said t
+same_said one site ms m s t h k =
+    let a = says site ms m s h in
+    let b = says site ms m t k in
     sym a.2 ∙ (ap seen (one_outcome one site m a.0 b.0 a.1 b.1) ∙ b.2)
-
--- free reads, or not
-
-not_free : (site : Site) (without : List Text) (m : SiteModule) (v : Text) (n : Module) → HasFreeReads site without m → Reads site m v → IsUserOf site without v n → ⊥
-not_free site without m v n free r u = free v n u.used r u.eligible u.uses
 
 -- in step and out of step
 
 not_alike : (x y : VariableUse) → same_use x y ≡ false → x ≡ y → ⊥
 not_alike x y h e = false≢true (sym h ∙ (ap (same_use x) (sym e) ∙ use_itself x))
 
-not_both : (rs : List Record) (v : Text) (x y : VariableUse) → IsUsedTwice rs v x y → AreInStep rs → ⊥
-not_both rs v x y u s = by_second u.second
+not_both : (ps : List UsedVariable) (v : Text) (x y : VariableUse) → IsUsedTwice ps v x y → AreInStep ps → ⊥
+not_both ps v x y u s = by_second u.second
   where
-    by_second : IsAmong (v, y) ((modulepath, Pathed colon) ∷ used_by rs) → ⊥
+    by_second : IsAmong (v, y) ((modulepath, Pathed colon) ∷ ps) → ⊥
     by_second (inl e) =
         let name : v ≡ modulepath = ap (λ p. p.0) e in
         let other : y ≡ Pathed colon = ap (λ p. p.1) e in
-        not_alike x y u.differ (s.modulepath x (subst (λ (w : Text). IsAmong (w, x) (used_by rs)) name u.first) ∙ sym other)
+        not_alike x y u.differ (s.modulepath x (subst (λ (w : Text). IsAmong (w, x) ps) name u.first) u.used ∙ sym other)
     by_second (inr a) = not_alike x y u.differ (s.one_use v x y u.first a)
 
-certified_not_twice : files.OneOutcome → (site : Site) (without : List Text) (ms : List Module) (m : SiteModule) (v : Text)
-    (x y : VariableUse) → HasStanding site without ms m Certified → HasStanding site without ms m (OutOfStep v x y) → ⊥
-certified_not_twice one site without ms m v x y (rs, p, f, c) (qs, q, g, u) =
-    not_both rs v x y (subst (λ (l : List Record). IsUsedTwice l v x y) (sym (one_list one site m rs qs p q)) u) c.in_step.in_step
+-- one module is one candidate
+same_candidate : files.OneOutcome → (site : Site) (m : SiteModule) (runs more : FileRuns RequestReason) → EvaluatesTo site m (Ok runs) → EvaluatesTo site m (Ok more) → candidate_of m more ≡ candidate_of m runs
+same_candidate one site m runs more h k = ap (candidate_of m) (same_runs one site m runs more h k)
 
-certified_not_clash : files.OneOutcome → (site : Site) (without : List Text) (ms : List Module) (m : SiteModule) (v : Text)
-    (x y : VariableUse) (n : Module) → HasStanding site without ms m Certified → HasStanding site without ms m (Clashes v x y n) → ⊥
-certified_not_clash one site without ms m v x y n (rs, p, f, c) (qs, q, g, k) =
-    let w : ClashesWith ms (with_records m rs) v x y n = subst (λ (l : List Record). ClashesWith ms (with_records m l) v x y n) (sym (one_list one site m rs qs p q)) k in
-    certified_apart ms (with_records m rs) n v x y c w.certain w.another w.clash
+certified_not_twice : files.OneOutcome → (site : Site) (ms : List Candidate) (m : SiteModule) (v : Text)
+    (x y : VariableUse) → HasStanding site ms m Certified → HasStanding site ms m (OutOfStep v x y) → ⊥
+certified_not_twice one site ms m v x y (runs, h, s, c) (more, k, t, u) =
+    not_both (uses_of (candidate_of m runs)) v x y (subst (λ (n : Candidate). IsUsedTwice (uses_of n) v x y) (same_candidate one site m runs more h k) u) c.in_step.in_step
 
-twice_not_clash : files.OneOutcome → (site : Site) (without : List Text) (ms : List Module) (m : SiteModule) (v w : Text)
-    (x y a b : VariableUse) (n : Module) → HasStanding site without ms m (OutOfStep v x y)
-    → HasStanding site without ms m (Clashes w a b n) → ⊥
-twice_not_clash one site without ms m v w x y a b n (rs, p, f, u) (qs, q, g, k) =
-    let c : ClashesWith ms (with_records m rs) w a b n = subst (λ (l : List Record). ClashesWith ms (with_records m l) w a b n) (sym (one_list one site m rs qs p q)) k in
-    not_both rs v x y u c.in_step.in_step
+certified_not_clash : files.OneOutcome → (site : Site) (ms : List Candidate) (m : SiteModule) (v : Text)
+    (x y : VariableUse) (n : Candidate) → HasStanding site ms m Certified → HasStanding site ms m (Clashes v x y n) → ⊥
+certified_not_clash one site ms m v x y n (runs, h, s, c) (more, k, t, u) =
+    let w : ClashesWith ms (candidate_of m runs) v x y n = subst (λ (l : Candidate). ClashesWith ms l v x y n) (same_candidate one site m runs more h k) u in
+    certified_apart ms (candidate_of m runs) n v x y c w.certain w.another w.clash
+
+twice_not_clash : files.OneOutcome → (site : Site) (ms : List Candidate) (m : SiteModule) (v w : Text)
+    (x y a b : VariableUse) (n : Candidate) → HasStanding site ms m (OutOfStep v x y)
+    → HasStanding site ms m (Clashes w a b n) → ⊥
+twice_not_clash one site ms m v w x y a b n (runs, h, s, u) (more, k, t, q) =
+    let c : ClashesWith ms (candidate_of m runs) w a b n = subst (λ (l : Candidate). ClashesWith ms l w a b n) (same_candidate one site m runs more h k) q in
+    not_both (uses_of (candidate_of m runs)) v x y u c.in_step.in_step
 
 -- all of them
 
 apart : (s t : Standing) → (said s == said t) ≡ false → said s ≡ said t → ⊥
 apart s t f e = false≢true (sym f ∙ (ap (λ x. said s == x) (sym e) ∙ eq-eqb (said s) (said s) refl))
 
-by_said : files.OneOutcome → (site : Site) (without : List Text) (ms : List Module) (m : SiteModule) (s t : Standing) → said s ≡ said t
-    → HasStanding site without ms m s → HasStanding site without ms m t → standing_word s ≡ standing_word t
-by_said one site without ms m Certified Certified e h k = refl
-by_said one site without ms m Certified (ReadsUsed v n) e h k = absurd (not_free site without m v n h.2 k.2 k.3)
-by_said one site without ms m Certified (OutOfStep v x y) e h k = absurd (certified_not_twice one site without ms m v x y h k)
-by_said one site without ms m Certified (Clashes v x y n) e h k = absurd (certified_not_clash one site without ms m v x y n h k)
-by_said one site without ms m (ReadsUsed v n) Certified e h k = absurd (not_free site without m v n k.2 h.2 h.3)
-by_said one site without ms m (ReadsUsed v n) (ReadsUsed w l) e h k = refl
-by_said one site without ms m (ReadsUsed v n) (OutOfStep w x y) e h k = absurd (not_free site without m v n k.2 h.2 h.3)
-by_said one site without ms m (ReadsUsed v n) (Clashes w x y l) e h k = absurd (not_free site without m v n k.2 h.2 h.3)
-by_said one site without ms m (OutOfStep v x y) Certified e h k = absurd (certified_not_twice one site without ms m v x y k h)
-by_said one site without ms m (OutOfStep v x y) (ReadsUsed w l) e h k = absurd (not_free site without m w l h.2 k.2 k.3)
-by_said one site without ms m (OutOfStep v x y) (OutOfStep w a b) e h k = refl
-by_said one site without ms m (OutOfStep v x y) (Clashes w a b n) e h k = absurd (twice_not_clash one site without ms m v w x y a b n h k)
-by_said one site without ms m (Clashes v x y n) Certified e h k = absurd (certified_not_clash one site without ms m v x y n k h)
-by_said one site without ms m (Clashes v x y n) (ReadsUsed w l) e h k = absurd (not_free site without m w l h.2 k.2 k.3)
-by_said one site without ms m (Clashes v x y n) (OutOfStep w a b) e h k = absurd (twice_not_clash one site without ms m w v a b x y n k h)
-by_said one site without ms m (Clashes v x y n) (Clashes w a b l) e h k = refl
-by_said one site without ms m (Asks q) (Asks p) e h k = refl
-by_said one site without ms m (OneWay r) (OneWay q) e h k = refl
-by_said one site without ms m (Refused r) (Refused q) e h k = refl
-by_said one site without ms m s t e h k = absurd (apart s t refl e)
+by_said : files.OneOutcome → (site : Site) (ms : List Candidate) (m : SiteModule) (s t : Standing) → said s ≡ said t
+    → HasStanding site ms m s → HasStanding site ms m t → standing_word s ≡ standing_word t
+by_said one site ms m Certified Certified e h k = refl
+by_said one site ms m Certified (OutOfStep v x y) e h k = absurd (certified_not_twice one site ms m v x y h k)
+by_said one site ms m Certified (Clashes v x y n) e h k = absurd (certified_not_clash one site ms m v x y n h k)
+by_said one site ms m (OutOfStep v x y) Certified e h k = absurd (certified_not_twice one site ms m v x y k h)
+by_said one site ms m (OutOfStep v x y) (OutOfStep w a b) e h k = refl
+by_said one site ms m (OutOfStep v x y) (Clashes w a b n) e h k = absurd (twice_not_clash one site ms m v w x y a b n h k)
+by_said one site ms m (Clashes v x y n) Certified e h k = absurd (certified_not_clash one site ms m v x y n k h)
+by_said one site ms m (Clashes v x y n) (OutOfStep w a b) e h k = absurd (twice_not_clash one site ms m w v a b x y n k h)
+by_said one site ms m (Clashes v x y n) (Clashes w a b l) e h k = refl
+by_said one site ms m (Asks q) (Asks p) e h k = refl
+by_said one site ms m (OneWay r) (OneWay q) e h k = refl
+by_said one site ms m (Refused r) (Refused q) e h k = refl
+by_said one site ms m s t e h k = absurd (apart s t refl e)
 
 pub one_standing : files.OneOutcome → OneStanding
-one_standing one site without ms m s t h k = by_said one site without ms m s t (same_said one site without ms m s t h k) h k
+one_standing one site ms m s t h k = by_said one site ms m s t (same_said one site ms m s t h k) h k

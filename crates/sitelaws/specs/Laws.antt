@@ -1,6 +1,6 @@
 -- The laws of sites (own): loads are admitted, settled modules do alike wherever they are evaluated, sessions of
 -- certified modules return to their start, and changes by hand keep its agreement with what a module uses.
-use Rattle.std.specs.Prelude.{◌≡◌, ◌↔◌, ℕ, true, List, [], ◌∷◌, ◌++◌, Some, Ok}
+use Rattle.std.specs.Prelude.{◌≡◌, ◌⊎◌, ◌↔◌, ℕ, true, List, [], ◌∷◌, ◌++◌, Some, Ok}
 use Rattle.std.specs.List.{list_all}
 use Rattle.envvars.specs.Texts.{Text}
 use Rattle.envvars.specs.Environment.{Environment}
@@ -23,14 +23,16 @@ use Rattle.requests.specs.Returning.{AreNew}
 use Rattle.requests.specs.PlainRuns.{HasEvaluatedTo}
 use Rattle.handchanges.specs.HandChanges.{HandChange, MayChange, IsHandChange, start_after}
 use Rattle.sitecertificate.specs.RecordUses.{used_by, IsAmong, Uses, uses_by}
+use Rattle.sitecertificate.specs.Candidates.{Candidate, as_module}
+use Rattle.sitecertificate.specs.Clashes.{is_other, names_in_conflict}
 use Rattle.sitecertificate.specs.Certificates.{IsCertified, certified, AgreesWith}
 use Rattle.sitecertificate.specs.Laws.{AreLayered}
 use Rattle.settled.specs.Resting.{is_changing}
 use Rattle.sitelaws.specs.Sites.{Site, SiteModule, over_site, HasSettledRecords, Reads, ReadsAlike, IsDirectory}
-use Rattle.sitelaws.specs.Sites.{IsOfSite, file_of, IsSettledModule, AreSettledModules, AreEligible, AreCandidates}
+use Rattle.sitelaws.specs.Sites.{IsOfSite, file_of, candidate_file, IsSettledModule, AreSettledModules}
 use Rattle.sitelaws.specs.Sites.{IsClosed, AreDirectories, AreNamesBelow, AreModulesIn, Evaluated, settled_among}
-use Rattle.sitelaws.specs.Sites.{eligible_among, candidates_among, with_records, AreEvaluated}
-use Rattle.sitelaws.specs.Standings.{Standing, Certified, standing_word, HasStanding}
+use Rattle.sitelaws.specs.Sites.{AreEvaluated}
+use Rattle.sitelaws.specs.Standings.{Standing, Certified, standing_word, HasStanding, IsSettledAnd}
 use Rattle.sitelaws.specs.Admitted.{AdmittedMovesReach}
 
 -- Each load of an accepted request was admitted.
@@ -63,13 +65,10 @@ ModulesFound =
     (site : Site) (dirs : List Text) (ms : List SiteModule) → AreDirectories site dirs → AreModulesIn site dirs ms
     → (m : SiteModule) → IsAmong m ms ↔ IsOfSite site m
 
--- The settled modules of a site are those that are settled by the outcomes of its evaluations; and so are the eligible
--- ones and the candidates, whichever modules are withheld.
+-- The settled modules of a site are those that are settled by the outcomes of its evaluations.
 abbrev pub SettledModulesFound : Type 0
 SettledModulesFound =
-    (site : Site) (without : List Text) (outcomes : List Evaluated) → AreEvaluated site outcomes
-    → AreSettledModules site (settled_among outcomes) × AreEligible site without (eligible_among without outcomes)
-    × AreCandidates site without (candidates_among without outcomes)
+    (site : Site) (outcomes : List Evaluated) → AreEvaluated site outcomes → AreSettledModules site (settled_among outcomes)
 
 -- What is loaded so: the records are of kinds after which the start can be back, keep the same variables absent as
 -- these, and are in conflict with the same names.
@@ -88,44 +87,47 @@ SettledRecordsAreAll =
     → is_changing left.context.mode ≡ true → ReadsAlike site left.context.before m
     → UndoAlike ran.records rs × (left.context.mode ≡ load → LoadAlike rs ran.records)
 
--- A module stands as certified where it is, with its records, one of the certified modules among the candidates of the
--- site.
+-- A module stands as certified where it is settled and, with its records and its reads, one of the certified candidates.
 abbrev pub CertifiedStand : Type 0
 CertifiedStand =
-    (site : Site) (without : List Text) (ms : List Module) (m : SiteModule) → AreCandidates site without ms
-    → HasStanding site without ms m Certified
-    ↔ ((rs : List Record) × HasSettledRecords site m rs × IsAmong (with_records m rs) (certified ms))
+    (site : Site) (ms : List Candidate) (m : SiteModule)
+    → HasStanding site ms m Certified ↔ IsSettledAnd site m (λ c. IsAmong c (certified ms))
 
--- Each module of a site has a standing.
+-- Each module of a site whose candidates are all settled modules has a standing.
 abbrev pub EachStands : Type 0
 EachStands =
-    (site : Site) (without : List Text) (eligible ms : List Module) (m : SiteModule) → AreEligible site without eligible
-    → AreCandidates site without ms → IsOfSite site m
-    → (standing : Standing) × HasStanding site without ms m standing
+    (site : Site) (ms : List Candidate) (m : SiteModule) → AreSettledModules site ms → IsOfSite site m
+    → (standing : Standing) × HasStanding site ms m standing
 
--- It stands in one of the seven ways alone.
+-- It stands in one of the six ways alone.
 abbrev pub OneStanding : Type 0
 OneStanding =
-    (site : Site) (without : List Text) (ms : List Module) (m : SiteModule) (s t : Standing)
-    → HasStanding site without ms m s → HasStanding site without ms m t → standing_word s ≡ standing_word t
+    (site : Site) (ms : List Candidate) (m : SiteModule) (s t : Standing)
+    → HasStanding site ms m s → HasStanding site ms m t → standing_word s ≡ standing_word t
 
--- These modules can be certified: each is a settled one of the site, with its records, and what a certified one of them
--- reads no certified one of them uses, be it the same.
-pub record CanBeCertified (site : Site) (ms : List Module) : Type 0 where
-  pub settled : (m : Module) → IsAmong m ms → IsSettledModule site m
-  pub free : (m n : Module) (v : Text) (x : VariableUse) → IsCertified ms m → IsCertified ms n
-      → Reads site (file_of m) v → Uses n.records v x → ⊥
+-- each of these candidates is a settled module of the site, with its records and its reads
+abbrev pub AreSettled : Site → List Candidate → Type 0
+AreSettled site ms = (m : Candidate) → IsAmong m ms → IsSettledModule site m
+
+-- What a certified module reads no certified one uses but another that is kept apart from it: one of its name, or one of
+-- which a conflict means it.
+abbrev pub CertifiedReadFreely : Type 0
+CertifiedReadFreely =
+    (site : Site) (ms : List Candidate) (m n : Candidate) (v : Text) (x : VariableUse) → AreSettled site ms
+    → IsCertified ms m → IsCertified ms n → Reads site (candidate_file m) v → Uses n.records v x
+    → (is_other m n ≡ true)
+    × ((m.name ≡ n.name) ⊎ (names_in_conflict (as_module n) (as_module m) ≡ true))
 
 -- One of the modules has this name and this file, the start agrees with what it uses, and what it reads has in the start
 -- the values of the environment at hand.
-abbrev pub IsOneOf : Site → List Module → Environment → Text → Text → Type 0
+abbrev pub IsOneOf : Site → List Candidate → Environment → Text → Text → Type 0
 IsOneOf site ms start name path =
-    (m : Module) × IsAmong m ms × (m.name ≡ name) × (m.path ≡ path) × AgreesWith (used_by m.records) start
-    × ReadsAlike site start (file_of m)
+    (m : Candidate) × IsAmong m ms × (m.name ≡ name) × (m.path ≡ path) × AgreesWith (used_by m.records) start
+    × ReadsAlike site start (candidate_file m)
 
 -- Each load is of one of the modules, by its name and its file, with whose uses the start agrees and whose reads have
 -- their values in it. Nothing is asked of the records of the load.
-abbrev pub LoadsAreOf : Site → List Module → Environment → List Move → Type 0
+abbrev pub LoadsAreOf : Site → List Candidate → Environment → List Move → Type 0
 LoadsAreOf site ms start [] = Unit {0}
 LoadsAreOf site ms start (Loads m ∷ moves) =
     IsOneOf site ms start m.name m.path × LoadsAreOf site ms start moves
@@ -136,7 +138,7 @@ LoadsAreOf site ms start (Unloads m ∷ moves) = LoadsAreOf site ms start moves
 -- modules, with whose uses the start agrees and whose reads have in it the values of the environment at hand; and no
 -- module that is loaded at the start is unloaded. Then each environment of the session is in order and is the start with
 -- the live modules layered on it; with none it is the start.
-abbrev pub CertificateHolds : Site → List Module → Type 0
+abbrev pub CertificateHolds : Site → List Candidate → Type 0
 CertificateHolds site certain =
     (start : Environment) (rs : List Request) (before after : List Response)
     → AreLoadedInOrder start → Session (over_site site) start rs (before ++ after)
@@ -144,17 +146,18 @@ CertificateHolds site certain =
     → Holds (uses_by (live_after [] (session_moves before))) start (live_after [] (session_moves before))
     (end_environment start before)
 
--- The theorem of sites: so it is for the certified modules of any that can be certified, however these were chosen.
--- Nothing is asked of the records of loads and unloads, of their kinds, or of how the modules go together; of modules that
--- aren't certified nothing at all, and the start agrees with what the session loads alone.
+-- The theorem of sites: so it is for the certified ones of any candidates that are settled modules of the site, however
+-- these were chosen. Nothing is asked of the records of loads and unloads, of their kinds, or of how the modules go
+-- together; of modules that aren't certified nothing at all, and the start agrees with what the session loads alone.
 abbrev pub SiteSessionsReturn : Type 0
-SiteSessionsReturn = (site : Site) (ms : List Module) → CanBeCertified site ms → CertificateHolds site (certified ms)
+SiteSessionsReturn =
+    (site : Site) (ms : List Candidate) → AreSettled site ms → CertificateHolds site (certified ms)
 
 -- The same for any modules that are certified: in whatever order an audit has them.
 abbrev pub AuditsHold : Type 0
 AuditsHold =
-    (site : Site) (ms certain : List Module) → CanBeCertified site ms
-    → ((m : Module) → IsAmong m certain → IsCertified ms m) → CertificateHolds site certain
+    (site : Site) (ms certain : List Candidate) → AreSettled site ms
+    → ((m : Candidate) → IsAmong m certain → IsCertified ms m) → CertificateHolds site certain
 
 -- what each of the modules reads has in the start the values of the environment at hand
 abbrev pub AreReadAlike : Site → Environment → List Module → Type 0
@@ -164,9 +167,9 @@ AreReadAlike site start live = (m : Module) → IsAmong m live → ReadsAlike si
 -- with certified modules layered on it.
 abbrev pub SiteCommandsReturn : Type 0
 SiteCommandsReturn =
-    (site : Site) (ms : List Module) (shell : Shell) (start e : Environment) (live : List Module)
+    (site : Site) (ms : List Candidate) (shell : Shell) (start e : Environment) (live : List Module)
     (action : RequestedAction) (d : Done)
-    → CanBeCertified site ms → AreLayered ms start live e → AreReadAlike site start live
+    → AreSettled site ms → AreLayered ms start live e → AreReadAlike site start live
     → RequestStep (in_shell (over_site site) shell) e action (Ok d) → AreNew start d.moves
     → LoadsAreOf site (certified ms) start d.moves
     → AreLayered ms start (live_after live d.moves) d.env × AreReadAlike site start (live_after live d.moves)
@@ -177,7 +180,7 @@ SiteCommandsReturn =
 -- parts a path as live modules do. So a change of a variable that the module doesn't use keeps it.
 abbrev pub ChangesAgree : Type 0
 ChangesAgree =
-    (site : Site) (ms live : List Module) (start e : Environment) (m : Module) (c : HandChange)
+    (site : Site) (ms : List Candidate) (live : List Module) (start e : Environment) (m : Module) (c : HandChange)
     → HasSettledRecords site (file_of m) m.records → AgreesWith (used_by m.records) start → AreLayered ms start live e
     → IsHandChange (uses_by live) live e c
     → ((x : VariableUse) → Uses m.records c.variable x → MayChange (Some x) live e c)
@@ -187,7 +190,7 @@ ChangesAgree =
 -- So does it keep the values of what a settled module reads, where it is a change of another variable.
 abbrev pub ChangesLeaveReads : Type 0
 ChangesLeaveReads =
-    (site : Site) (ms live : List Module) (start e : Environment) (m : Module) (c : HandChange)
+    (site : Site) (ms : List Candidate) (live : List Module) (start e : Environment) (m : Module) (c : HandChange)
     → HasSettledRecords site (file_of m) m.records → ReadsAlike site start (file_of m) → AreLayered ms start live e
     → IsHandChange (uses_by live) live e c → (Reads site (file_of m) c.variable → ⊥)
     → ReadsAlike site (start_after (uses_by live) live start e c) (file_of m)

@@ -1,5 +1,5 @@
 -- A whole site (own): its directories, its modules, and the records of those that are settled.
-use Rattle.std.specs.Prelude.{◌≡◌, ◌↔◌, Bool, true, false, not, ◌&&◌, List, [], ◌∷◌, ◌++◌, map, filter, filter_map}
+use Rattle.std.specs.Prelude.{◌≡◌, ◌↔◌, Bool, true, List, [], ◌∷◌, ◌++◌, map, filter_map}
 use Rattle.std.specs.Prelude.{flat_map, bytes_eq, if◌then◌else◌, Option, Some, None, Result, Ok, Err}
 use Rattle.std.specs.List.{list_any}
 use Rattle.std.specs.List.Sorted.{IsStrictlySortedBy}
@@ -7,6 +7,7 @@ use Rattle.modulename.specs.ModuleName.{means}
 use Rattle.modulename.specs.Versions.{version_order}
 use Rattle.envvars.specs.Texts.{Text, has}
 use Rattle.envvars.specs.Environment.{Environment, lookup}
+use Rattle.envvars.specs.Fields.{without_repeats}
 use Rattle.tclrules.specs.declared.limits.Limits.{Limits}
 use Rattle.shelltext.specs.declared.shell.Shell.TheVariants.{Sh}
 use Rattle.filetree.specs.Agreement.{Files, Listings}
@@ -16,14 +17,14 @@ use Rattle.modulefile.specs.Records.{Record, added_elements}
 use Rattle.modulefile.specs.Moves.{Module}
 use Rattle.modulefile.specs.Answers.{FileContext}
 use Rattle.modulefile.specs.Files.{Ran, RunsFile}
-use Rattle.reversal.specs.VariableUses.{VariableUse, UsedVariable}
 use Rattle.settled.specs.Ways.{Way, first_way, other_ways, FileRuns, is_settled, reads_in}
 use Rattle.search.specs.Listed.{IsBelow}
 use Rattle.requests.specs.Refusals.{RefusedAs}
 use Rattle.requests.specs.Reasons.{RequestReason, file_refused}
 use Rattle.requests.specs.Steps as requests
 use Rattle.requests.specs.Steps.{RequestContext, request_context_in, entries_of, script_at}
-use Rattle.sitecertificate.specs.RecordUses.{IsAmong, Uses, used_by_modules, modulepath, IsInStep, is_in_step}
+use Rattle.sitecertificate.specs.RecordUses.{IsAmong, modulepath}
+use Rattle.sitecertificate.specs.Candidates.{Candidate}
 
 -- A site: the files and directories of a tree, the limits on the evaluation of each file, and the environment at hand.
 -- Its MODULEPATH is where the site begins, and each file is evaluated in it.
@@ -159,48 +160,33 @@ pub record IsOfSite (site : Site) (m : SiteModule) : Type 0 where
 abbrev pub file_of : Module → SiteModule
 file_of m = record { name = m.name; path = m.path }
 
--- the module with these records
-abbrev pub with_records : SiteModule → List Record → Module
-with_records m rs = record { name = m.name; path = m.path; records = rs }
+-- a candidate without its records and its reads
+abbrev pub candidate_file : Candidate → SiteModule
+candidate_file m = record { name = m.name; path = m.path }
 
--- A settled module of the site, with its records.
-pub record IsSettledModule (site : Site) (m : Module) : Type 0 where
-  pub of_site : IsOfSite site (file_of m)
-  pub records : HasSettledRecords site (file_of m) m.records
+-- the module as a candidate, with the records of its first evaluation, and with what all of them read, each variable once
+abbrev pub candidate_of : SiteModule → FileRuns RequestReason → Candidate
+candidate_of m runs =
+    record {
+      name = m.name;
+      path = m.path;
+      records = runs.first.records;
+      reads = without_repeats (reads_in runs);
+    }
+
+-- A settled module of the site, with its records and its reads.
+pub record IsSettledModule (site : Site) (m : Candidate) : Type 0 where
+  pub of_site : IsOfSite site (candidate_file m)
+  pub records : HasSettledRecords site (candidate_file m) m.records
+  pub reads : m.reads ≡ without_repeats (reads_in records.runs)
 
 -- the list has all settled modules of the site, and no others
-abbrev pub AreSettledModules : Site → List Module → Type 0
-AreSettledModules site ms = (m : Module) → IsAmong m ms ↔ IsSettledModule site m
-
--- ---- modules that are withheld, and those that may be certified
+abbrev pub AreSettledModules : Site → List Candidate → Type 0
+AreSettledModules site ms = (m : Candidate) → IsAmong m ms ↔ IsSettledModule site m
 
 -- a module of this name is withheld by hand: one of the names that are given means it
 abbrev pub is_withheld : List Text → Text → Bool
 is_withheld without name = list_any (λ given. means given name) without
-
--- An eligible module: a settled one of the site that is in step and isn't withheld, so that it may be certified.
-pub record IsEligible (site : Site) (without : List Text) (m : Module) : Type 0 where
-  pub settled : IsSettledModule site m
-  pub in_step : IsInStep m
-  pub kept : is_withheld without m.name ≡ false
-
--- the list has all eligible modules of the site, and no others
-abbrev pub AreEligible : Site → List Text → List Module → Type 0
-AreEligible site without ms = (m : Module) → IsAmong m ms ↔ IsEligible site without m
-
--- No eligible module uses a variable that this one reads.
-abbrev pub HasFreeReads : Site → List Text → SiteModule → Type 0
-HasFreeReads site without m =
-    (v : Text) (n : Module) (x : VariableUse) → Reads site m v → IsEligible site without n → Uses n.records v x → ⊥
-
--- A candidate for the certificate: a settled module of the site, whose reads are free.
-pub record IsCandidate (site : Site) (without : List Text) (m : Module) : Type 0 where
-  pub settled : IsSettledModule site m
-  pub free : HasFreeReads site without (file_of m)
-
--- the list has all candidates of the site, and no others
-abbrev pub AreCandidates : Site → List Text → List Module → Type 0
-AreCandidates site without ms = (m : Module) → IsAmong m ms ↔ IsCandidate site without m
 
 -- ---- directories in lists, and modules in these
 
@@ -233,36 +219,19 @@ AreModulesIn site (dir ∷ dirs) ms =
 abbrev pub Evaluated : Type 0
 Evaluated = SiteModule × Result (FileRuns RequestReason) RequestReason
 
--- the module with its records, where it is settled
-abbrev pub settled_of : Evaluated → Option Module
-settled_of (m, Ok runs) = if is_settled runs then Some (with_records m runs.first.records) else None
+-- the module as a candidate, where it is settled
+abbrev pub settled_of : Evaluated → Option Candidate
+settled_of (m, Ok runs) = if is_settled runs then Some (candidate_of m runs) else None
 settled_of (m, Err reason) = None
 
 -- the settled ones of some evaluated modules, in their order
-abbrev pub settled_among : List Evaluated → List Module
+abbrev pub settled_among : List Evaluated → List Candidate
 settled_among outcomes = filter_map settled_of outcomes
 
 -- the variables that the evaluations of a module's file read
 abbrev pub reads_of : Evaluated → List Text
 reads_of (m, Ok runs) = reads_in runs
 reads_of (m, Err reason) = []
-
--- the module is in step and isn't withheld
-abbrev pub is_eligible : List Text → Module → Bool
-is_eligible without m = is_in_step m && not (is_withheld without m.name)
-
--- the eligible ones of some evaluated modules, in their order
-abbrev pub eligible_among : List Text → List Evaluated → List Module
-eligible_among without outcomes = filter (is_eligible without) (settled_among outcomes)
-
--- it reads none of the variables in these uses
-abbrev pub reads_none : List UsedVariable → Evaluated → Bool
-reads_none used outcome = not (list_any (λ p. has p.0 (reads_of outcome)) used)
-
--- the candidates among some evaluated modules, in their order
-abbrev pub candidates_among : List Text → List Evaluated → List Module
-candidates_among without outcomes =
-    filter_map settled_of (filter (reads_none (used_by_modules (eligible_among without outcomes))) outcomes)
 
 -- The list has each module of the site with the outcome of its evaluations, and no others.
 pub record AreEvaluated (site : Site) (outcomes : List Evaluated) : Type 0 where

@@ -4,15 +4,15 @@ use Rattle.envvars.specs.Texts.{Text}
 use Rattle.envvars.specs.Fields.{colon}
 use Rattle.tclrules.specs.Oracle.{Question}
 use Rattle.modulefile.specs.Records.{Record}
-use Rattle.modulefile.specs.Moves.{Module}
-use Rattle.reversal.specs.VariableUses.{VariableUse, Pathed, can_return}
+use Rattle.reversal.specs.VariableUses.{VariableUse, Pathed, can_return, UsedVariable}
 use Rattle.requests.specs.Reasons.{RequestReason}
-use Rattle.settled.specs.Ways.{FileRuns, are_runs_alike, keeps_answer, keep_answers}
-use Rattle.sitecertificate.specs.RecordUses.{IsAmong, Uses, used_by, same_use, modulepath, IsInStep}
+use Rattle.settled.specs.Ways.{FileRuns, are_runs_alike, keeps_answer, keep_answers, is_settled}
+use Rattle.sitecertificate.specs.RecordUses.{IsAmong, is_read, same_use, modulepath}
+use Rattle.sitecertificate.specs.Candidates.{Candidate, uses_of}
+use Rattle.sitecertificate.specs.Steps.{IsInStep}
 use Rattle.sitecertificate.specs.Clashes.{is_other, Clash}
 use Rattle.sitecertificate.specs.Certificates.{IsCertified}
-use Rattle.sitelaws.specs.Sites.{Site, SiteModule, EvaluatesTo, HasSettledRecords, Reads, with_records}
-use Rattle.sitelaws.specs.Sites.{IsEligible, HasFreeReads}
+use Rattle.sitelaws.specs.Sites.{Site, SiteModule, EvaluatesTo, candidate_of}
 
 pub data Standing : Type 0 where
   -- settled, in step, and without a clash: its loads and unloads need no judgement
@@ -21,13 +21,11 @@ pub data Standing : Type 0 where
   Asks : (first : Question) → Standing
   -- each question keeps its answer, and this is the first of its records after which the start can't be back
   OneWay : (first : Record) → Standing
-  -- it is settled, and reads the variable, which the other module, an eligible one, uses
-  ReadsUsed : (variable : Text) (other : Module) → Standing
-  -- it is a candidate, and uses the variable in these two ways; or the variable is MODULEPATH, and the second way is
-  -- that of a path with colons
+  -- it is settled, and uses the variable in these two ways, of which the second may be a read; or the variable is
+  -- MODULEPATH, and the second way is that of a path with colons
   OutOfStep : (variable : Text) (one other : VariableUse) → Standing
-  -- it is a candidate in step, and clashes with a certified module in the variable, by its own use and that of the other
-  Clashes : (variable : Text) (own theirs : VariableUse) (other : Module) → Standing
+  -- it is settled and in step, and clashes with a certified module in the variable, by its own use and that of the other
+  Clashes : (variable : Text) (own theirs : VariableUse) (other : Candidate) → Standing
   -- its evaluation is refused
   Refused : RequestReason → Standing
 
@@ -36,7 +34,6 @@ abbrev pub standing_word : Standing → Text
 standing_word Certified = codes "certified"
 standing_word (Asks first) = codes "asks"
 standing_word (OneWay first) = codes "one-way"
-standing_word (ReadsUsed variable other) = codes "reads-used"
 standing_word (OutOfStep variable one other) = codes "out-of-step"
 standing_word (Clashes variable own theirs other) = codes "clashes"
 standing_word (Refused reason) = codes "refused"
@@ -50,45 +47,39 @@ IsFirstUnkept runs q =
 abbrev pub IsFirstOneWay : List Record → Record → Type 0
 IsFirstOneWay rs r = find (λ x. not (can_return x)) rs ≡ Some r
 
--- The records use the variable in two ways, of which the second may be that of MODULEPATH as a path with colons.
-pub record IsUsedTwice (rs : List Record) (v : Text) (x y : VariableUse) : Type 0 where
-  pub first : IsAmong (v, x) (used_by rs)
-  pub second : IsAmong (v, y) ((modulepath, Pathed colon) ∷ used_by rs)
+-- Two of these uses are of the variable and differ, of which the second may be a read, or that of MODULEPATH as a path
+-- with colons.
+pub record IsUsedTwice (ps : List UsedVariable) (v : Text) (x y : VariableUse) : Type 0 where
+  pub first : IsAmong (v, x) ps
+  pub used : is_read x ≡ false
+  pub second : IsAmong (v, y) ((modulepath, Pathed colon) ∷ ps)
   pub differ : same_use x y ≡ false
 
--- The module, which is in step, clashes in the variable with a certified one of these candidates.
-pub record ClashesWith (ms : List Module) (m : Module) (v : Text) (x y : VariableUse) (other : Module) : Type 0 where
-  pub in_step : IsInStep m
-  pub certain : IsCertified ms other
-  pub another : is_other m other ≡ true
-  pub clash : Clash m other v x y
+-- The candidate, which is in step, clashes in the variable with a certified one of these.
+pub record ClashesWith (ms : List Candidate) (m : Candidate) (v : Text) (x y : VariableUse) (other : Candidate) : Type 0
+  where
+    pub in_step : IsInStep m
+    pub certain : IsCertified ms other
+    pub another : is_other m other ≡ true
+    pub clash : Clash m other v x y
 
--- the module is settled, its reads are free, and this holds of it with its records
-abbrev pub IsCandidateAnd : Site → List Text → SiteModule → (Module → Type 0) → Type 0
-IsCandidateAnd site without m P =
-    (rs : List Record) × HasSettledRecords site m rs × HasFreeReads site without m × P (with_records m rs)
+-- the module is settled, and this holds of it as a candidate
+abbrev pub IsSettledAnd : Site → SiteModule → (Candidate → Type 0) → Type 0
+IsSettledAnd site m P =
+    (runs : FileRuns RequestReason) × EvaluatesTo site m (Ok runs) × (is_settled runs ≡ true) × P (candidate_of m runs)
 
--- An eligible module of the site uses the variable.
-pub record IsUserOf (site : Site) (without : List Text) (v : Text) (n : Module) : Type 0 where
-  pub eligible : IsEligible site without n
-  pub used : VariableUse
-  pub uses : Uses n.records v used
-
--- A module of the site, whose candidates are these where the modules that the names mean are withheld, stands so. Each
--- module stands in one of the seven ways: its evaluation is refused, or asks what doesn't keep its answer, or has a
--- record after which the start can't be back, or it is settled; and a settled one reads what an eligible one uses, or is
--- a candidate that is out of step, or is in step and clashes, or is certified.
-abbrev pub HasStanding : Site → List Text → List Module → SiteModule → Standing → Type 0
-HasStanding site without ms m Certified = IsCandidateAnd site without m (λ n. IsCertified ms n)
-HasStanding site without ms m (Asks first) =
+-- A module of the site, whose candidates these are, stands so. Each module stands in one of the six ways: its evaluation
+-- is refused, or asks what doesn't keep its answer, or has a record after which the start can't be back, or it is
+-- settled; and a settled one is out of step, or is in step and clashes, or is certified.
+abbrev pub HasStanding : Site → List Candidate → SiteModule → Standing → Type 0
+HasStanding site ms m Certified = IsSettledAnd site m (IsCertified ms)
+HasStanding site ms m (Asks first) =
     (runs : FileRuns RequestReason) × EvaluatesTo site m (Ok runs) × IsFirstUnkept runs first
-HasStanding site without ms m (OneWay first) =
+HasStanding site ms m (OneWay first) =
     (runs : FileRuns RequestReason) × EvaluatesTo site m (Ok runs) × (keep_answers runs ≡ true)
     × IsFirstOneWay runs.first.records first
-HasStanding site without ms m (ReadsUsed variable other) =
-    (rs : List Record) × HasSettledRecords site m rs × Reads site m variable × IsUserOf site without variable other
-HasStanding site without ms m (OutOfStep variable one other) =
-    IsCandidateAnd site without m (λ n. IsUsedTwice n.records variable one other)
-HasStanding site without ms m (Clashes variable own theirs other) =
-    IsCandidateAnd site without m (λ n. ClashesWith ms n variable own theirs other)
-HasStanding site without ms m (Refused reason) = EvaluatesTo site m (Err reason)
+HasStanding site ms m (OutOfStep variable one other) =
+    IsSettledAnd site m (λ c. IsUsedTwice (uses_of c) variable one other)
+HasStanding site ms m (Clashes variable own theirs other) =
+    IsSettledAnd site m (λ c. ClashesWith ms c variable own theirs other)
+HasStanding site ms m (Refused reason) = EvaluatesTo site m (Err reason)

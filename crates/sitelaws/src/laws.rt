@@ -1,7 +1,8 @@
 //! Laws of sites. Each function does nothing: its contract is the law.
 ghost use Rattle.sitelaws.specs.Laws.{StepsAreAdmitted, SessionsAreAdmitted, NamesListed, DirectoriesFound};
 ghost use Rattle.sitelaws.specs.Laws.{ModulesFound, SettledModulesFound, SettledRecordsAreAll, EachStands, OneStanding};
-ghost use Rattle.sitelaws.specs.Laws.{CertifiedStand, SiteSessionsReturn, AuditsHold, SiteCommandsReturn};
+ghost use Rattle.sitelaws.specs.Laws.{CertifiedStand, CertifiedReadFreely, SiteSessionsReturn, AuditsHold};
+ghost use Rattle.sitelaws.specs.Laws.{SiteCommandsReturn};
 ghost use Rattle.sitelaws.specs.Laws.{ChangesAgree, ChangesLeaveReads};
 
 /// Nothing that was loaded at the moment of an accepted load forbade it: neither a conflict that the loaded list records,
@@ -12,8 +13,7 @@ pub fn admissions()
 {}
 
 /// A walk over a site that has gone through each directory that it found has all directories of the site, and the modules
-/// that `avail` lists in them are those of the site. The settled ones among them are those whose evaluations say so, and
-/// the candidates those that read nothing which an eligible one uses, whichever modules are withheld.
+/// that `avail` lists in them are those of the site. The settled ones among them are those whose evaluations say so.
 pub fn walks()
     ensures names { NamesListed }
     ensures directories { DirectoriesFound }
@@ -32,12 +32,13 @@ pub fn settled_records()
     settled::laws::undone();
 }
 
-/// Each module of a site stands in one of the seven ways, and in no other. It stands as certified exactly where it is one
-/// of the certified modules among the candidates of the site.
+/// Each module of a site stands in one of the six ways, and in no other. It stands as certified exactly where it is one of
+/// the certified candidates. What a certified module reads no certified one uses that isn't kept apart from it (`free`).
 pub fn standings()
     ensures each { EachStands }
     ensures one { OneStanding }
     ensures certified { CertifiedStand }
+    ensures free { CertifiedReadFreely }
 {
     modulefile::files();
     sitecertificate::laws::certified();
@@ -48,8 +49,8 @@ pub fn standings()
 /// none that is loaded at the start: each environment is in order, and is the start with the live modules layered on it;
 /// where none is live it is the start, and the maps are equal.
 /// There is no premise about records: conflicts that are judged at each load keep apart what excludes each other. Of modules
-/// that aren't certified nothing is asked. So it is for any modules that are certified, however these were chosen: each is a
-/// settled one of the site, and none of them uses what one of them reads.
+/// that aren't certified nothing is asked. So it is for the certified ones of any candidates that are settled modules of the
+/// site, however these were chosen.
 pub fn sessions_return()
     ensures certificate { SiteSessionsReturn }
     ensures audits { AuditsHold }

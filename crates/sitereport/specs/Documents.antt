@@ -11,7 +11,7 @@ use Rattle.json.specs.Value.{items_of}
 use Rattle.sitecertificate.specs.declared.answers.Clash.{Clash}
 use Rattle.sitecertificate.specs.declared.uses.UsedVariable.{UsedVariable}
 use Rattle.sitecertificate.specs.declared.uses.VariableUse.{VariableUse}
-use Rattle.sitecertificate.specs.declared.uses.VariableUse.TheVariants.{Fixed, Absent, Pathed, Stacked}
+use Rattle.sitecertificate.specs.declared.uses.VariableUse.TheVariants.{Fixed, Absent, Pathed, Stacked, Read}
 use Rattle.modulefile.specs.declared.delimiter.Delimiter.{Delimiter}
 use Rattle.modules.specs.Messages.{message_of}
 use Rattle.sitecertificate.specs.declared.disagreement.Disagreement.{Disagreement}
@@ -22,7 +22,7 @@ use Rattle.siteaudit.specs.declared.auditing.AddedDirectory.{AddedDirectory}
 use Rattle.siteaudit.specs.declared.auditing.AuditedModule.{AuditedModule}
 use Rattle.siteaudit.specs.declared.auditing.UnknownNames.{UnknownNames}
 use Rattle.siteaudit.specs.declared.standing.Standing.{Standing}
-use Rattle.siteaudit.specs.declared.standing.Standing.TheVariants.{Certified, Asks, OneWay, ReadsUsed, OutOfStep}
+use Rattle.siteaudit.specs.declared.standing.Standing.TheVariants.{Certified, Asks, OneWay, OutOfStep}
 use Rattle.siteaudit.specs.declared.standing.Standing.TheVariants.{Withheld, Clashes, Refused}
 use Rattle.sitereport.specs.declared.readable.ReadableAudit.{ReadableAudit}
 use Rattle.sitereport.specs.declared.selection.Selection.{Selection}
@@ -74,6 +74,7 @@ use_fields (Fixed (Some value)) = (codes "use", string (codes "unset")) ∷ (cod
 use_fields Absent = (codes "use", string (codes "unset")) ∷ []
 use_fields (Pathed delim) = path_fields delim
 use_fields Stacked = (codes "use", string (codes "stack")) ∷ []
+use_fields Read = (codes "use", string (codes "read")) ∷ []
 
 -- the same as an object
 abbrev pub use_value : VariableUse → Json
@@ -147,8 +148,6 @@ abbrev pub standing_fields : List (String Global) → Standing → List Field
 standing_fields reads Certified = reads_fields reads
 standing_fields reads (Asks first) = (codes "question", string (question_words (question_view first))) ∷ []
 standing_fields reads (OneWay first) = (codes "record", string (record_words first)) ∷ []
-standing_fields reads (ReadsUsed used) =
-    (codes "variable", text_value used.variable) ∷ (codes "other", place_value used.user_name used.user_path) ∷ []
 standing_fields reads (OutOfStep variable one other) = two_uses_fields variable one other
 standing_fields reads Withheld = []
 standing_fields reads (Clashes c) = clash_fields c
@@ -241,7 +240,7 @@ count_fields others modules =
     (codes "certified", number (decimal (certified_count modules)))
     ∷ (codes "count", number (decimal (length modules + others))) ∷ []
 
--- what the certified modules use
+-- what the certified modules use and read
 abbrev pub certificate_field : List UsedVariable → Field
 certificate_field certificate = (codes "certificate", array_of (map used_value certificate))
 

@@ -44,9 +44,8 @@ sum_line word others modules = number_line (standing_count word modules + others
 abbrev pub sum_lines : ℕ → List AuditedModule → Text
 sum_lines refused modules =
     sum_line (codes "asks") 0 modules ++ (sum_line (codes "one-way") 0 modules
-    ++ (sum_line (codes "reads-used") 0 modules ++ (sum_line (codes "out-of-step") 0 modules
-    ++ (sum_line (codes "withheld") 0 modules ++ (sum_line (codes "clashes") 0 modules
-    ++ sum_line (codes "refused") refused modules)))))
+    ++ (sum_line (codes "out-of-step") 0 modules ++ (sum_line (codes "withheld") 0 modules
+    ++ (sum_line (codes "clashes") 0 modules ++ sum_line (codes "refused") refused modules))))
 
 -- the lines of the modules that the report names, and of what can't be read
 abbrev pub lines_of : Selection → ReadableAudit → Text

@@ -16,14 +16,13 @@ use Rattle.modulefile.specs.RecordViews.{record_view}
 use Rattle.modulefile.specs.Reports.{shown_words}
 use Rattle.modulerun.specs.Questions.{question_view}
 use Rattle.sitecertificate.specs.declared.uses.VariableUse.{VariableUse}
-use Rattle.sitecertificate.specs.declared.uses.VariableUse.TheVariants.{Fixed, Absent, Pathed, Stacked}
+use Rattle.sitecertificate.specs.declared.uses.VariableUse.TheVariants.{Fixed, Absent, Pathed, Stacked, Read}
 use Rattle.sitecertificate.specs.declared.answers.Clash.{Clash}
 use Rattle.modules.specs.Messages.{message_of}
-use Rattle.sitereads.specs.declared.readers.UsedRead.{UsedRead}
 use Rattle.siteaudit.specs.Audits.{is_certified}
 use Rattle.siteaudit.specs.declared.auditing.AuditedModule.{AuditedModule}
 use Rattle.siteaudit.specs.declared.standing.Standing.{Standing}
-use Rattle.siteaudit.specs.declared.standing.Standing.TheVariants.{Certified, Asks, OneWay, ReadsUsed, OutOfStep}
+use Rattle.siteaudit.specs.declared.standing.Standing.TheVariants.{Certified, Asks, OneWay, OutOfStep}
 use Rattle.siteaudit.specs.declared.standing.Standing.TheVariants.{Withheld, Clashes, Refused}
 use Rattle.sitereport.specs.declared.selection.Selection.{Selection}
 use Rattle.sitereport.specs.declared.selection.Selection.TheVariants.{Each, NotCertified}
@@ -78,7 +77,6 @@ abbrev pub standing_word : Standing → Text
 standing_word Certified = codes "certified"
 standing_word (Asks first) = codes "asks"
 standing_word (OneWay first) = codes "one-way"
-standing_word (ReadsUsed used) = codes "reads-used"
 standing_word (OutOfStep variable one other) = codes "out-of-step"
 standing_word Withheld = codes "withheld"
 standing_word (Clashes clash) = codes "clashes"
@@ -97,6 +95,7 @@ use_words (Fixed (Some value)) = codes "unset of '" ++ (string_bytes value ++ co
 use_words Absent = codes "unset"
 use_words (Pathed delim) = codes "path with '" ++ delim.character ∷ codes "'"
 use_words Stacked = codes "stack"
+use_words Read = codes "read"
 
 -- a record as `show` writes it
 abbrev pub record_words : Record → Text
@@ -112,12 +111,6 @@ clash_words c =
     string_bytes c.variable ++ (codes ": " ++ (use_words c.own ++ (codes " here, " ++ (use_words c.theirs
     ++ (codes " in " ++ (string_bytes c.other_name ++ (codes " (" ++ (string_bytes c.other_path
     ++ (codes "); used so by " ++ decimal c.alike)))))))))
-
--- the variable that a module reads, and the module that uses it
-abbrev pub used_read_words : UsedRead → Text
-used_read_words used =
-    string_bytes used.variable ++ (codes ": read here, used in " ++ (string_bytes used.user_name ++ (codes " ("
-    ++ (string_bytes used.user_path ++ codes ")"))))
 
 -- the names, with a comma and a space between two
 abbrev pub listed : List (String Global) → Text
@@ -140,7 +133,6 @@ abbrev pub reason_of : List (String Global) → Standing → Text
 reason_of reads Certified = reads_words reads
 reason_of reads (Asks first) = question_words (question_view first)
 reason_of reads (OneWay first) = record_words first
-reason_of reads (ReadsUsed used) = used_read_words used
 reason_of reads (OutOfStep variable one other) = two_uses (string_bytes variable) one other
 reason_of reads Withheld = codes "--without"
 reason_of reads (Clashes clash) = clash_words clash

@@ -99,10 +99,6 @@ fn write_standing(
             let words = record_words(alloc, first)?;
             write_text(writer, "record", words.as_str())
         }
-        Standing::ReadsUsed(used) => {
-            write_text(writer, "variable", used.variable.as_str())?;
-            write_other(writer, &used.user_name, &used.user_path)
-        }
         Standing::OutOfStep {
             variable,
             one,

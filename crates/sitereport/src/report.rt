@@ -130,7 +130,6 @@ fn push_sums(
 {
     push_sum(alloc, report, "asks", &[], modules)?;
     push_sum(alloc, report, "one-way", &[], modules)?;
-    push_sum(alloc, report, "reads-used", &[], modules)?;
     push_sum(alloc, report, "out-of-step", &[], modules)?;
     push_sum(alloc, report, "withheld", &[], modules)?;
     push_sum(alloc, report, "clashes", &[], modules)?;

@@ -35,7 +35,6 @@ fn is_certified(standing: &Standing) -> bool
         Standing::Certified => true,
         Standing::Asks(_)
         | Standing::OneWay(_)
-        | Standing::ReadsUsed(_)
         | Standing::OutOfStep { .. }
         | Standing::Withheld
         | Standing::Clashes(_)

@@ -82,6 +82,7 @@ fn write_use_fields(
         VariableUse::Absent => write_text(writer, "use", "unset"),
         VariableUse::Pathed(delim) => write_path_fields(alloc, writer, *delim),
         VariableUse::Stacked => write_text(writer, "use", "stack"),
+        VariableUse::Read => write_text(writer, "use", "read"),
     }
 }
 

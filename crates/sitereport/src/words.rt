@@ -9,7 +9,6 @@ use modulerun::Question;
 use requests::show_report;
 use siteaudit::{AuditedModule, Standing};
 use sitecertificate::{Clash, VariableUse};
-use sitereads::UsedRead;
 use std::alloc::{AllocError, Global};
 use std::slice;
 
@@ -21,7 +20,6 @@ pub(crate) fn standing_word(standing: &Standing) -> &'static str
         Standing::Certified => "certified",
         Standing::Asks(_) => "asks",
         Standing::OneWay(_) => "one-way",
-        Standing::ReadsUsed(_) => "reads-used",
         Standing::OutOfStep { .. } => "out-of-step",
         Standing::Withheld => "withheld",
         Standing::Clashes(_) => "clashes",
@@ -42,6 +40,7 @@ pub(crate) fn use_words(alloc: Global, used: &VariableUse) -> Result<String, All
             format!(in alloc; "path with '{character}'")
         }
         VariableUse::Stacked => String::from_str(alloc, "stack"),
+        VariableUse::Read => String::from_str(alloc, "read"),
     }
 }
 
@@ -92,16 +91,6 @@ pub(crate) fn question_words(alloc: Global, question: &Question) -> Result<Strin
         }
         Question::Variable(name, _value) => format!(in alloc; "$env({name})"),
     }
-}
-
-/// The variable that a module reads, and the module that uses it.
-fn used_read_words(alloc: Global, used: &UsedRead) -> Result<String, AllocError>
-    ensures { IfOk result (λ words. string_bytes words ≡ spec.used_read_words used.now) }
-{
-    let variable = &used.variable;
-    let name = &used.user_name;
-    let path = &used.user_path;
-    format!(in alloc; "{variable}: read here, used in {name} ({path})")
 }
 
 /// Adds a name behind a comma and a space.
@@ -161,7 +150,6 @@ pub(crate) fn reason_of(
         Standing::Certified => reads_words(alloc, reads),
         Standing::Asks(first) => question_words(alloc, first),
         Standing::OneWay(recorded) => record_words(alloc, recorded),
-        Standing::ReadsUsed(used) => used_read_words(alloc, used),
         Standing::OutOfStep {
             variable,
             one,

@@ -5,7 +5,7 @@ use Rattle.filetree.specs.Modulefiles.{directories}
 use Rattle.siteaudit.specs.Hanging.{settled_additions, is_settled_directory, additions_after}
 use Rattle.siteaudit.specs.Mentions.{known_in}
 use Rattle.siteaudit.proofs.DirectoryLemmas.{once}
-use Rattle.siteaudit.proofs.SettledFiles.{has_once}
+use Rattle.sitelaws.proofs.FreeReads.{has_once}
 use Rattle.siteaudit.proofs.hanging.hanging_directories.Goals as goal
 
 pub returns : goal.returns

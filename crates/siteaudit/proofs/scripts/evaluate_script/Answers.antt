@@ -1,10 +1,15 @@
-use Rattle.std.proofs.Common.{map, string_bytes, List, ◌++◌, ap, ◌∙◌, subst, String, Global}
+use Rattle.std.proofs.Common.{◌≡◌, true, map, string_bytes, List, ◌++◌, ap, ◌∙◌, subst, String, Global}
+use Rattle.std.specs.Prelude.{is_none, MatchOption}
 use Rattle.envvars.specs.Texts.{Text, texts_in}
 use Rattle.envvars.specs.Fields.{without_repeats}
 use Rattle.modulerun.specs.Questions.{questions_in}
 use Rattle.settled.specs.Resting.{variables_read}
 use Rattle.settled.specs.WayViews.{way_view}
 use Rattle.modulefile.specs.Answers.{FileContext}
+use Rattle.modulefile.specs.RecordViews.{record_view}
+use Rattle.sitecertificate.specs.Steps.{are_in_step}
+use Rattle.siteaudit.specs.Walks.{uses_told}
+use Rattle.siteaudit.specs.Findings.{AreUnlike}
 use Rattle.modulerun.specs.declared.question.Question.{Question}
 use Rattle.settled.specs.LoadedAnswers.{are_few}
 use Rattle.settled.specs.Ways.{Way, other_ways}
@@ -21,8 +26,11 @@ returns c =
     let reads = c.in_ok-push_reads.ensures ∙ ap (λ (xs : List (String Global)). map string_bytes xs ++ variables_read (questions_in first.asked.items)) c.new-reads.ensures.items in
     let shows = subst (λ (l : List Text). ShowsAll a.limits context s.text.now first (map way_view c.as_slice-2.result.now) l (texts_in c.run_others.new.reads) c.in_ok-alike.alike) reads c.in_ok-alike.ensures.shows in
     shows_script a.limits context s.text.now first c.in_ok-first.ensures.0 (map way_view c.as_slice-2.result.now) (texts_in c.run_others.new.reads) c.in_ok-alike.alike c.in_ok-few.few
-    (record { file = c.in_ok-file_of.field-0; reads = c.in_ok-once_each.field-0 })
+    (record { file = c.in_ok-file_of.field-0; reads = c.in_ok-reads.reads })
     c.in_ok-first.ensures.1 (ap (map way_view) c.as_slice-2.ensures.value ∙ (c.in_ok-ways.ensures ∙ ap (λ (qs : List Question). other_ways (questions_in qs)) c.as_slice.ensures.value))
     shows (c.in_ok-few.ensures ∙ ap (λ (qs : List Question). are_few (questions_in qs)) c.as_slice-3.ensures.value)
-    c.in_ok-file_of.ensures.records c.in_ok-file_of.ensures.unkept c.in_ok-file_of.ensures.unlike
-    (c.in_ok-once_each.ensures ∙ ap (λ (xs : List (String Global)). without_repeats (map string_bytes xs)) c.as_slice-4.ensures.value)
+    c.in_ok-file_of.ensures.records c.in_ok-file_of.ensures.unkept
+    (subst (λ (xs : List (String Global)). MatchOption c.in_ok-file_of.field-0.unlike
+    (are_in_step (uses_told (map record_view first.records.items) (is_none c.in_ok-file_of.field-0.unkept) (map string_bytes xs)) ≡ true)
+    (AreUnlike (uses_told (map record_view first.records.items) (is_none c.in_ok-file_of.field-0.unkept) (map string_bytes xs)))) c.as_slice-5.ensures.value c.in_ok-file_of.ensures.unlike)
+    (c.in_ok-reads.ensures ∙ ap (λ (xs : List (String Global)). without_repeats (map string_bytes xs)) c.as_slice-4.ensures.value)

@@ -1,13 +1,13 @@
 use Rattle.std.proofs.Common.{List, map, take}
-use Rattle.modulefile.specs.Moves.{Module}
+use Rattle.sitecertificate.specs.Candidates.{Candidate}
 use Rattle.sitecertificate.specs.Users.{AreUsersOf, uses_of_modules}
 use Rattle.sitecertificate.specs.Certificates.{staying}
 use Rattle.sitecertificate.specs.ClashAnswers.{AreAnswers}
 use Rattle.sitecertificate.specs.Tables.{users_at}
 use Rattle.sitecertificate.specs.Tallies.{HasCounts}
-use Rattle.sitecertificate.specs.UsingModules.{module_of}
+use Rattle.sitecertificate.specs.UsingModules.{candidate_of}
 use Rattle.sitecertificate.proofs.answers.answers_of.Given as goal
 
 abbrev pub invariant-loop-candidate : goal.invariant-loop-candidate
-invariant-loop-candidate l = (ms : List Module) → HasCounts l.tally (uses_of_modules ms) → AreUsersOf (users_at l.table) (uses_of_modules (staying ms))
-    → AreAnswers ms (map module_of (take l.candidate-index l.users)) l.found.items
+invariant-loop-candidate l = (ms : List Candidate) → HasCounts l.tally (uses_of_modules ms) → AreUsersOf (users_at l.table) (uses_of_modules (staying ms))
+    → AreAnswers ms (map candidate_of (take l.candidate-index l.users)) l.found.items

@@ -1,7 +1,7 @@
 use Rattle.std.proofs.Common.{◌≡◌, map, take}
-use Rattle.modules.specs.MoveViews.{module_view}
-use Rattle.sitecertificate.specs.UsingModules.{module_of}
+use Rattle.sitecertificate.specs.CandidateViews.{candidate_view}
+use Rattle.sitecertificate.specs.UsingModules.{candidate_of}
 use Rattle.sitecertificate.proofs.module_uses.using_modules.Given as goal
 
-abbrev pub invariant-loop-module : goal.invariant-loop-module
-invariant-loop-module l = map module_of l.users.items ≡ map module_view (take l.module-index l.modules)
+abbrev pub invariant-loop-candidate : goal.invariant-loop-candidate
+invariant-loop-candidate l = map candidate_of l.users.items ≡ map candidate_view (take l.candidate-index l.candidates)

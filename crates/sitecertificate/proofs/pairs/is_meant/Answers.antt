@@ -5,7 +5,7 @@ use Rattle.modulename.specs.ModuleName.{means}
 use Rattle.envvars.specs.Texts.{Text}
 use Rattle.std.specs.declared.string.String.{String}
 use Rattle.std.specs.declared.alloc.Global.{Global}
-use Rattle.requests.proofs.ListLemmas.{any_seen}
+use Rattle.sitecertificate.proofs.Seen.{any_seen}
 use Rattle.sitecertificate.proofs.pairs.is_meant.Goals as goal
 
 pub returns : goal.returns

@@ -4,7 +4,7 @@ use Rattle.modulename.specs.ModuleName.{means}
 use Rattle.envvars.specs.Texts.{Text}
 use Rattle.modulefile.specs.Records as records
 use Rattle.modulefile.specs.RecordViews.{record_view}
-use Rattle.requests.proofs.ListLemmas.{any_seen}
+use Rattle.sitecertificate.proofs.Seen.{any_seen}
 use Rattle.sitecertificate.proofs.UseLemmas.{any_conflict}
 use Rattle.sitecertificate.proofs.pairs.names_in_conflict.Goals as goal
 

@@ -1,13 +1,13 @@
 use Rattle.std.proofs.Common.{◌≡◌, List, map, take}
-use Rattle.modulefile.specs.Moves.{Module}
+use Rattle.sitecertificate.specs.Candidates.{Candidate}
 use Rattle.sitecertificate.specs.Users.{uses_of_modules}
 use Rattle.sitecertificate.specs.Tallies.{HasCounts}
 use Rattle.sitecertificate.specs.Ranked.{ranked_module, AreRanked}
-use Rattle.sitecertificate.specs.UsingModules.{module_of}
+use Rattle.sitecertificate.specs.UsingModules.{candidate_of}
 use Rattle.sitecertificate.proofs.ranks.with_rivals.Given as goal
 
 abbrev pub invariant-loop-candidate : goal.invariant-loop-candidate
 invariant-loop-candidate l = record {
-  modules : map ranked_module l.ranks.items ≡ map module_of (take l.candidate-index l.users);
-  rivals : (ms : List Module) → HasCounts l.tally (uses_of_modules ms) → AreRanked ms l.ranks.items;
+  modules : map ranked_module l.ranks.items ≡ map candidate_of (take l.candidate-index l.users);
+  rivals : (ms : List Candidate) → HasCounts l.tally (uses_of_modules ms) → AreRanked ms l.ranks.items;
 }

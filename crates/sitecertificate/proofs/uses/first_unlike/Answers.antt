@@ -5,7 +5,7 @@ use Rattle.reversal.specs.VariableUses as variable_uses
 use Rattle.sitecertificate.specs.RecordUses as uses
 use Rattle.sitecertificate.specs.declared.uses.UsedVariable.{UsedVariable}
 use Rattle.sitecertificate.specs.UseViews.{used_view}
-use Rattle.requests.proofs.ListLemmas.{find_seen}
+use Rattle.sitecertificate.proofs.Seen.{find_seen}
 use Rattle.sitecertificate.proofs.uses.first_unlike.Goals as goal
 
 pub returns : goal.returns

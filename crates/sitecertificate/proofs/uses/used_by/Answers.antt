@@ -2,7 +2,7 @@ use Rattle.std.proofs.Common.{map}
 use Rattle.modulefile.specs.RecordViews.{record_view}
 use Rattle.sitecertificate.specs.RecordUses as uses
 use Rattle.sitecertificate.specs.UseViews.{used_view}
-use Rattle.requests.proofs.ReportLemmas.{turn}
+use Rattle.sitecertificate.proofs.Seen.{turn}
 use Rattle.sitecertificate.proofs.UseLemmas.{used-append}
 use Rattle.sitecertificate.proofs.uses.used_by.Goals as goal
 

@@ -9,7 +9,7 @@ use Rattle.sitecertificate.proofs.families.Family.first_clash.Goals as goal
 pub returns-then-not-uses_clash : goal.returns-then-not-uses_clash
 returns-then-not-uses_clash c =
     family_passed_over (user_view c.args.seeker.now.user) c.args.self.now.root.now (use_view c.args.way.now) (map user_view c.args.self.now.users.items)
-    (sym c.excludes_family.ensures ∙ c.if-excludes_family.true)
+    (sym c.is_kept_apart.ensures ∙ c.if-is_kept_apart.true)
     (sym c.uses_clash.ensures ∙ c.if-not-uses_clash.true) c.args.self.now.rooted c.requires
 
 pub returns : goal.returns

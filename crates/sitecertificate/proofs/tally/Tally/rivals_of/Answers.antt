@@ -1,19 +1,17 @@
-use Rattle.std.proofs.Common.{sym, ◌∙◌, Some, None}
+use Rattle.std.proofs.Common.{sym, ◌∙◌, ◌-◌, Some, None}
 use Rattle.std.specs.List.{count_by}
+use Rattle.std.proofs.lemmas.Result.{IfOk-weaker}
+use Rattle.reversal.specs.VariableUses.{Untouched}
 use Rattle.sitecertificate.specs.UserViews.{user_view}
-use Rattle.sitecertificate.specs.Conflicts.{has_name}
-use Rattle.sitecertificate.specs.Tallies.{is_other_user}
-use Rattle.sitecertificate.proofs.TallyLemmas.{rivals_all, rivals_without}
+use Rattle.sitecertificate.specs.Tallies.{is_user}
+use Rattle.sitecertificate.proofs.TallyLemmas.{rivals_open, rivals_of_reader}
 use Rattle.sitecertificate.proofs.tally.Tally.rivals_of.Goals as goal
 
-pub returns-then-not-go_together : goal.returns-then-not-go_together
-returns-then-not-go_together c = λ us have.
-    rivals_all (user_view c.args.user) (has_name c.args.names.now) us c.in_ok-others.others c.requires (sym c.if-not-go_together.ensures)
-    (c.in_ok-others.ensures us have ∙ (λ i. count_by (is_other_user (c.variable-variable.ensures i) None (has_name c.args.names.now)) us))
+pub returns-then-is_read : goal.returns-then-is_read
+returns-then-is_read c = λ us have.
+    c.beside_readers.ensures us have
+    ∙ ((λ i. count_by (is_user (c.variable-variable.ensures i) None) us - count_by (is_user (c.variable-variable.ensures i) (Some Untouched)) us)
+    ∙ rivals_of_reader (user_view c.args.user) us (sym c.is_read.ensures ∙ c.if-is_read.true))
 
 pub returns : goal.returns
-returns c = λ us have.
-    c.saturating_sub.ensures
-    ∙ rivals_without (user_view c.args.user) (has_name c.args.names.now) us c.in_ok-others.others c.in_ok-alike.alike c.requires (sym c.if-not-go_together.ensures)
-    (c.in_ok-others.ensures us have ∙ (λ i. count_by (is_other_user (c.variable-variable.ensures i) None (has_name c.args.names.now)) us))
-    (c.in_ok-alike.ensures us have ∙ (λ i. count_by (is_other_user (c.variable-variable.ensures i) (Some (c.key_of.ensures i)) (has_name c.args.names.now)) us))
+returns c = IfOk-weaker c.open_rivals.result _ _ (λ number h us have. rivals_open (user_view c.args.user) us number (sym c.is_read.ensures ∙ c.if-is_read.false) (h us have)) c.open_rivals.ensures

@@ -6,7 +6,7 @@ use Rattle.std.specs.declared.alloc.Global.{Global}
 use Rattle.modulename.specs.ModuleName.{means}
 use Rattle.envvars.specs.Texts.{Text}
 use Rattle.requests.proofs.ListLemmas.{any_seen}
-use Rattle.siteaudit.proofs.eligible.is_withheld.Goals as goal
+use Rattle.siteaudit.proofs.withheld.is_withheld.Goals as goal
 
 pub returns : goal.returns
 returns c =
