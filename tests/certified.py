@@ -34,7 +34,7 @@ from tests.harness import same, true
 from tests.properties import SPELLINGS, examples, several
 from tests.sentence import Lost
 from tests.standings import MODULEPATH, SiteModule
-from tests.ways import OTHER, TYPES, Question
+from tests.ways import OTHER, TYPES, VARIABLE, Question
 
 # How many sites the model alone goes through until a clause that is left out loses something, at most.
 MOST_SITES = 20_000
@@ -208,6 +208,13 @@ CONFLICTS = st.sampled_from([[], ["c"], ["m/10", "d"], ["k"]])
 OLD = (*model.OLD, "m/1", "n")
 
 
+def held(name, use, owners, shell, site):
+    """The variables that a start has of one that is used in this way; of one that is read, that of the audit."""
+    if use == standings.READ:
+        return st.just({name: site.at_hand[name]} if name in site.at_hand else {})
+    return sentence.held(name, use, owners, shell, site.tree.dirs)
+
+
 @st.composite
 def starts(draw, site, shell):
     """An environment that agrees with a use of most variables of the certificate, and mostly has the values of the
@@ -221,7 +228,7 @@ def starts(draw, site, shell):
     for name in [*sentence.variables(shell), MODULEPATH]:
         its = [use for used, use in site.uses if used == name]
         if its and draw(st.integers(0, 3)):
-            env.update(draw(sentence.held(name, draw(st.sampled_from(its)), owners, shell, site.tree.dirs)))
+            env.update(draw(held(name, draw(st.sampled_from(its)), owners, shell, site)))
         else:
             env.update(draw(hands.anything(name, shell, site.tree.dirs)))
     return sentence.in_a_shell(env, shell)
@@ -289,7 +296,7 @@ def sessions(draw, shell, top, product="", folders=("one", "two", "three", "four
     sure += [name.rpartition("/")[0] or name for name in sure]
     names = st.sampled_from(sure * 12 + site.tree.names() + sentence.ODD_NAMES)
     commands = [sentence.commands(names, not model.loaded_in(start)) for _ in range(2)]
-    changes = hands.hands(dict(site.uses), sentence.variables(shell))
+    changes = hands.hands({name: use for name, use in site.uses if use != standings.READ}, sentence.variables(shell))
     words = draw(several(st.one_of(*commands, changes), 40))
     called = sentence.callings(shell) if called is None else called
     return Session(site, product, shell, site.tree, start, words, draw(sentence.ENDS), draw(called))
@@ -320,27 +327,44 @@ def use_of(value):
         return ("fixed", value.get("value"))
     if kind == "unset":
         return standings.ABSENT
-    return ("path", value["delimiter"]) if kind == "path" else ("stack",)
+    return ("path", value["delimiter"]) if kind == "path" else {"stack": ("stack",), "read": standings.READ}[kind]
 
 
 def uses_in(values):
-    return {(value["variable"], use_of(value)) for value in values if value["use"] != "loaded"}
+    return [(value["variable"], use_of(value)) for value in values if value["use"] != "loaded"]
 
 
 def standing_in(value):
-    """A module of the document: its place, its standing and its further ones, with what a certified one reads, and which
-    of the variables that it reads another module uses."""
+    """A module of the document: its place, its standing and its further ones, and what a certified one reads."""
     stands = [value, *value.get("further", [])]
-    used = [(one["variable"], one["other"]["name"], one["other"]["path"]) for one in stands if one["standing"] == "reads-used"]
-    return value["name"], value["path"], [one["standing"] for one in stands], value.get("reads", []), used
+    return value["name"], value["path"], [one["standing"] for one in stands], value.get("reads", [])
 
 
 def standing_by(module, modules):
-    """The same by the model, which has the modules in the order of the document."""
+    """The same by the model."""
     stands = [standings.standing_of(module, modules), *standings.further_of(module, modules)]
-    used = [standings.used_read(module, modules)] if "reads-used" in stands else []
-    reads = list(module.reads) if stands == ["certified"] else []
-    return module.name, module.path, stands, reads, [(name, other.name, other.path) for name, other in used]
+    return module.name, module.path, stands, list(module.reads) if stands == ["certified"] else []
+
+
+def clashes_in(value):
+    """The clashes of a module of the document: the other's place, the variable and both uses, how many use it so."""
+    found = [one for one in [value, *value.get("further", [])] if one["standing"] == "clashes"]
+    places = [(one["other"]["name"], one["other"]["path"]) for one in found]
+    return [(place, (one["variable"], *map(use_of, one["uses"])), one["alike"]) for place, one in zip(places, found)]
+
+
+def is_clash(module, place, pair, alike, site):
+    """So it is by the model, which has the other among its certified ones."""
+    others = [other for other in site.certified if (other.name, other.path) == place]
+    name, _, theirs = pair
+    known = [clash for other in others for clash in standings.clashes_of(module, other)]
+    return pair in known and alike == standings.users_alike(site.modules, name, theirs)
+
+
+def wrong_clashes(found, modules, site):
+    """The clashes of a document that aren't any by the model, which has the modules in its order."""
+    clashes = [(one, *clash) for one, value in zip(modules, found["modules"]) for clash in clashes_in(value)]
+    return [(one.name, *clash) for one, *clash in clashes if not is_clash(one, *clash, site)]
 
 
 def in_order_of(found, modules):
@@ -354,7 +378,8 @@ def differs(found, site):
     modules = in_order_of(found, site.modules)
     pairs = {
         "the modules": (list(map(standing_in, found["modules"])), [standing_by(one, modules) for one in modules]),
-        "the certificate": (uses_in(found["certificate"]), set(site.uses)),
+        "the clashes": (wrong_clashes(found, modules, site), []),
+        "the certificate": (uses_in(found["certificate"]), standings.certificate(modules)),
         "the missing directories": (found["missing_directories"], standings.missing(site.directories, os.path.isdir)),
         "the directories that hang": (
             [(one["name"], one["path"], one["directory"]) for one in found["hanging_directories"]],
@@ -368,7 +393,7 @@ def differs(found, site):
 
 def disagrees(found, site, env):
     """In what a document says otherwise than the model whether an environment agrees with its certificate, or none."""
-    said = uses_in(found["disagreements"])
+    said = set(uses_in(found["disagreements"]))
     its = judged(site, env)
     wanted = {use for use in uses_in(found["certificate"]) if not standings.agrees_with_use(its, *use)}
     return None if said == wanted else f"the disagreements: {said!r}, by the model {wanted!r}"
@@ -454,7 +479,7 @@ class Case:
         self.commands = [words.split() for words in commands]
 
 
-ADDS, SETS = ("append-path", ":", "P", ["/q"]), ("setenv", "V", "x")
+ADDS, SETS, PUSHES = ("append-path", ":", "P", ["/q"]), ("setenv", "V", "x"), ("pushenv", "V", "x")
 NONE = ("nothing",)
 TO_AND_FRO = ["sh load n", "sh unload n"]
 
@@ -519,23 +544,23 @@ CASES = {
         ["sh load n", "sh load w_1", "sh unload n"],
     ),
     "that what another way reads counts": Case(
-        {"n": [("by way", "unloads", ("reads", "V", "is there", ADDS, NONE), NONE)], "w_1": [SETS]},
-        "reads-used",
+        {"n": [("by way", "unloads", ("reads", "V", "is there", ADDS, NONE), NONE)], "m/1": [PUSHES]},
+        "clashes",
         {"P": "/q"},
-        ["sh load n", "sh load w_1", "sh unload n"],
+        ["sh load n", "sh load m/1", "sh unload n"],
     ),
     # Where the other is loaded, the conflict isn't there.
     "that a reader's conflicts don't free it": Case(
         {
             "n": [
-                ("reads", "V", "is", "", ("conflict", ["w_1"]), NONE),
+                ("reads", "V", "is", "", ("conflict", ["m/1"]), NONE),
                 ("reads", "V", "is", "x", ADDS, NONE),
             ],
-            "w_1": [SETS],
+            "m/1": [PUSHES],
         },
-        "reads-used",
+        "clashes",
         {},
-        ["sh load w_1", "sh load n", "sh unload w_1", "sh unload n"],
+        ["sh load m/1", "sh load n", "sh unload m/1", "sh unload n"],
     ),
 }
 
@@ -624,27 +649,38 @@ def test_modules_that_ask_for_their_way(programs, product, tmp_path, shell):
 # Which of those that clash are certified.
 
 
-def site_module(name, *records):
-    return SiteModule(name, f"/m/{name}", standings.in_all_ways(records))
+def site_module(name, *records, reads=()):
+    asked = [Question(VARIABLE, variable) for variable in reads]
+    return SiteModule(name, f"/m/{name}", standings.in_all_ways(records, asked))
 
 
 LIB = [site_module(f"lib/{number:03}", ("prepend-path", ":", "PYTHONPATH", ["/x"])) for number in range(200)]
 LEGACY = site_module("legacy/1", ("setenv", "PYTHONPATH", "/y"))
 GCC = [site_module(f"gcc/{number}", ("conflict", ["gcc"]), ("setenv", "CC", "gcc")) for number in range(9, 14)]
 AOCC = site_module("aocc/1", ("setenv", "CC", "clang"))
-CROWDS = [(LIB, LEGACY), (GCC, AOCC)]
+# It excludes all versions of gcc, but where CC has another value than in the audit it may not.
+FLAGS = site_module("flags/1", ("conflict", ["gcc"]), reads=["CC"])
+CROWDS = [(LIB, LEGACY), (GCC, AOCC), (GCC, FLAGS)]
+
+
+def fault_of(sure, modules):
+    """What is wrong where these modules of a site are certified, or none."""
+    candidates = standings.candidates(modules)
+    if not all(module in candidates for module in sure):
+        return "one is certified that can't be"
+    if any(standings.clashes_of(one, other) for one in sure for other in sure):
+        return "two certified modules clash"
+    others = [module for module in candidates if module not in sure]
+    if not all(any(standings.clashes_of(module, other) for other in sure) for module in others):
+        return "one more could be certified"
+    return None
 
 
 def choice_of(modules):
     """What is wrong of the choice among modules that clash, or none."""
-    sure = standings.certified(modules)
-    others = [module for module in standings.judged_together(modules) if module not in sure]
-    if any(standings.clashes_of(one, other) for one in sure for other in sure):
-        return "two certified modules clash"
-    if not all(any(standings.clashes_of(module, other) for other in sure) for module in others):
-        return "one more could be certified"
-    turned = standings.certified(modules[::-1])
-    return None if sorted(map(id, turned)) == sorted(map(id, sure)) else "the order of the files makes a difference"
+    sure, turned = standings.certified(modules), standings.certified(modules[::-1])
+    is_same = sorted(map(id, turned)) == sorted(map(id, sure))
+    return fault_of(sure, modules) or (None if is_same else "the order of the files makes a difference")
 
 
 def crowd_lost(crowd, odd):
@@ -668,7 +704,7 @@ def test_as_many_as_can_be_are_certified(site):
 
 def test_those_that_most_get_on_with_stay():
     same(choice_lost(), None, "what is lost")
-    same([len(standings.certified([*crowd, odd])) for crowd, odd in CROWDS], [200, 5], "how many are certified")
+    same([len(standings.certified([*crowd, odd])) for crowd, odd in CROWDS], [200, 5, 5], "how many are certified")
 
 
 @pytest.mark.parametrize("clause", standings.CHOICES)

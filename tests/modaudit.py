@@ -181,13 +181,13 @@ ROWS = {
             "/m/a/1": "getenv LOADEDMODULES\n",
             "/m/b/1": "getenv _LMFILES_\n",
             "/m/c/1": "info exists env(__MODULES_ELSE)\n",
-            "/m/d/1": "getenv MODULEPATH\ngetenv _MODULES_ELSE\n",
+            "/m/d/1": "getenv _MODULES_ELSE\n",
         },
         [
             ("a/1", "asks", "getenv LOADEDMODULES"),
             ("b/1", "asks", "getenv _LMFILES_"),
             ("c/1", "asks", "$env(__MODULES_ELSE)"),
-            ("d/1", "certified", "reads MODULEPATH, _MODULES_ELSE"),
+            ("d/1", "certified", "reads _MODULES_ELSE"),
         ],
     ),
     # The way is asked for, and what an unload undoes is the same: messages, values, ends of paths.
@@ -346,18 +346,21 @@ ROWS = {
     ),
     "a variable that is read at the unload alone, and used elsewhere": (
         {"/m/a/1": "if {[module-info mode unload]} {getenv W}\nsetenv V x\n", "/m/b/1": "setenv W x\n"},
-        [("a/1", "reads-used", "W: read here, used in b/1 (/m/b/1)"), ("b/1", "certified", "")],
+        [("a/1", "certified", "reads W"), ("b/1", "clashes", "W: set here, read in a/1 (/m/a/1); used so by 1")],
     ),
     "a variable that is read in fish alone, and used elsewhere": (
         {"/m/a/1": "if {[module-info shelltype fish]} {getenv P}\n", "/m/b/1": "append-path P /b\n"},
-        [("a/1", "reads-used", "P: read here, used in b/1 (/m/b/1)"), ("b/1", "certified", "")],
+        [
+            ("a/1", "certified", "reads P"),
+            ("b/1", "clashes", "P: path with ':' here, read in a/1 (/m/a/1); used so by 1"),
+        ],
     ),
     "a reader whose own conflict goes with what it reads": (
         {
             "/m/a/1": "if {[getenv A] eq {}} {conflict b}\nif {[getenv A] eq {x}} {append-path P /q}\n",
             "/m/b/1": "setenv A x\n",
         },
-        [("a/1", "reads-used", "A: read here, used in b/1 (/m/b/1)"), ("b/1", "certified", "")],
+        [("a/1", "certified", "reads A"), ("b/1", "clashes", "A: set here, read in a/1 (/m/a/1); used so by 1")],
     ),
     "a variable that is read": ({"/m/a/1": "setenv V /s/[getenv USER]\n"}, [("a/1", "certified", "reads USER")]),
     "variables that are read, each once": (
@@ -380,37 +383,103 @@ ROWS = {
         {"/m/a/1": "prepend-path P $env(V)\n"},
         [("a/1", "refused", 'can\'t read "env(V)": no such variable (line 2)')],
     ),
-    "a variable that is read and used elsewhere": (
-        {"/m/a/1": "getenv V\n", "/m/b/1": "setenv V x\n"},
-        [("a/1", "reads-used", "V: read here, used in b/1 (/m/b/1)"), ("b/1", "certified", "")],
+    # What is read is one more use: it goes together with other reads alone, and a reader's own conflicts exclude nothing.
+    "a variable that is read and set elsewhere": (
+        {"/m/a/1": "setenv V x\n", "/m/b/1": "getenv V\n"},
+        [("a/1", "clashes", "V: set here, read in b/1 (/m/b/1); used so by 1"), ("b/1", "certified", "reads V")],
     ),
-    "each use is one": (
+    "a path that a later one reads": (
+        {"/m/a/1": "append-path V x\n", "/m/b/1": "getenv V\n"},
+        [("a/1", "certified", ""), ("b/1", "clashes", "V: read here, path with ':' in a/1 (/m/a/1); used so by 1")],
+    ),
+    "a path that an earlier one reads": (
+        {"/m/a/1": "getenv V\n", "/m/b/1": "append-path V x\n"},
+        [
+            ("a/1", "certified", "reads V"),
+            ("b/1", "clashes", "V: path with ':' here, read in a/1 (/m/a/1); used so by 1"),
+        ],
+    ),
+    "each use clashes with a read": (
         {
             "/m/a/1": "getenv A\n",
             "/m/b/1": "getenv B\n",
             "/m/c/1": "getenv C\n",
             "/m/c/2": "getenv D\n",
-            "/m/d/1": "append-path -d , A x\npushenv B x\nunsetenv C x\nunsetenv D\n",
+            "/m/d/1": "append-path -d , A x\n",
+            "/m/d/2": "pushenv B x\n",
+            "/m/d/3": "unsetenv C x\n",
+            "/m/d/4": "unsetenv D\n",
         },
         [
-            ("a/1", "reads-used", "A: read here, used in d/1 (/m/d/1)"),
-            ("b/1", "reads-used", "B: read here, used in d/1 (/m/d/1)"),
-            ("c/1", "reads-used", "C: read here, used in d/1 (/m/d/1)"),
-            ("c/2", "reads-used", "D: read here, used in d/1 (/m/d/1)"),
-            ("d/1", "certified", ""),
+            ("a/1", "certified", "reads A"),
+            ("b/1", "certified", "reads B"),
+            ("c/1", "certified", "reads C"),
+            ("c/2", "certified", "reads D"),
+            ("d/1", "clashes", "A: path with ',' here, read in a/1 (/m/a/1); used so by 1"),
+            ("d/2", "clashes", "B: stack here, read in b/1 (/m/b/1); used so by 1"),
+            ("d/3", "clashes", "C: unset of 'x' here, read in c/1 (/m/c/1); used so by 1"),
+            ("d/4", "clashes", "D: unset here, read in c/2 (/m/c/2); used so by 1"),
         ],
-        ["# environment: C isn't 'x'"],
     ),
-    "no conflict makes a read free": (
+    "a reader that is in conflict with the user": (
+        {"/m/b/1": "append-path V x\n", "/m/c/1": "conflict b\ngetenv V\n"},
+        [("b/1", "certified", ""), ("c/1", "clashes", "V: read here, path with ':' in b/1 (/m/b/1); used so by 1")],
+    ),
+    "a user that is in conflict with the reader": (
+        {"/m/a/1": "getenv V\n", "/m/b/1": "conflict a\nappend-path V x\n"},
+        [("a/1", "certified", "reads V"), ("b/1", "certified", "")],
+    ),
+    "users that are in conflict with the reader": (
         {
             "/m/a/1": "conflict a b\ngetenv V\n",
             "/m/a/2": "conflict a\nsetenv V x\n",
             "/m/b/1": "conflict a\nsetenv V x\n",
         },
+        [("a/1", "certified", "reads V"), ("a/2", "certified", ""), ("b/1", "certified", "")],
+    ),
+    "a reader that is in conflict with its own versions and with others": (
+        {
+            "/m/a/1": "conflict a b\ngetenv V\n",
+            "/m/a/2": "conflict b\nsetenv V x\n",
+            "/m/b/1": "setenv V x\n",
+        },
         [
-            ("a/1", "reads-used", "V: read here, used in a/2 (/m/a/2)"),
-            ("a/2", "certified", ""),
+            ("a/1", "certified", "reads V"),
+            ("a/2", "clashes", "V: set here, read in a/1 (/m/a/1); used so by 1"),
+            ("b/1", "clashes", "V: set here, read in a/1 (/m/a/1); used so by 1"),
+        ],
+    ),
+    # Who stays of readers and users: those that most get on with.
+    "one that pushes, and two readers": (
+        {"/m/a/1": "pushenv V x\n", "/m/b/1": "getenv V\n", "/m/c/1": "conflict b\ngetenv V\n"},
+        [
+            ("a/1", "clashes", "V: stack here, read in b/1 (/m/b/1); used so by 2"),
+            ("b/1", "certified", "reads V"),
+            ("c/1", "certified", "reads V"),
+        ],
+    ),
+    "one that reads a path, and two that add to it": (
+        {"/m/a/1": "getenv P\n", "/m/b/1": "append-path P /b\n", "/m/c/1": "prepend-path P /c\n"},
+        [
+            ("a/1", "clashes", "P: read here, path with ':' in b/1 (/m/b/1); used so by 2"),
             ("b/1", "certified", ""),
+            ("c/1", "certified", ""),
+        ],
+    ),
+    "one that reads, and two that set where they exclude each other": (
+        {"/m/a/1": "getenv V\n", "/m/b/1": "conflict b\nsetenv V x\n", "/m/b/2": "conflict b\nsetenv V y\n"},
+        [
+            ("a/1", "clashes", "V: read here, set in b/1 (/m/b/1); used so by 2"),
+            ("b/1", "certified", ""),
+            ("b/2", "certified", ""),
+        ],
+    ),
+    "one that reads, and two that set": (
+        {"/m/a/1": "setenv V x\n", "/m/a/2": "setenv V y\n", "/m/b/1": "getenv V\n"},
+        [
+            ("a/1", "clashes", "V: set here, read in b/1 (/m/b/1); used so by 1"),
+            ("a/2", "clashes", "V: set here, read in b/1 (/m/b/1); used so by 1"),
+            ("b/1", "certified", "reads V"),
         ],
     ),
     "the first variable that is read, and the first module": (
@@ -421,7 +490,7 @@ ROWS = {
             "/m/c/2": "setenv V x\n",
         },
         [
-            ("a/1", "reads-used", "V: read here, used in c/1 (/m/c/1)"),
+            ("a/1", "clashes", "V: read here, set in c/1 (/m/c/1); used so by 2"),
             ("b/1", "certified", ""),
             ("c/1", "certified", ""),
             ("c/2", "clashes", "V: set here, set in c/1 (/m/c/1); used so by 2"),
@@ -430,58 +499,106 @@ ROWS = {
     "what modules use that aren't settled": (
         {"/m/a/1": "getenv V\n", "/m/b/1": "setenv V x\nis-loaded\n", "/m/c/1": "setenv V x\nremove-path W y\n"},
         [("a/1", "certified", "reads V"), ("b/1", "asks", "is-loaded"), ("c/1", "one-way", "remove-path W y")],
-    ),
-    "what modules use that are out of step": (
-        {"/m/a/1": "getenv V\ngetenv MODULEPATH\n", "/m/b/1": "setenv V x\npushenv V y\n", "/m/c/1": "setenv MODULEPATH /n\n"},
         [
-            ("a/1", "certified", "reads V, MODULEPATH"),
-            ("b/1", "out-of-step", "V: set, and stack"),
+            FURTHER.format("b/1", "asks", "clashes: V: set here, read in a/1 (/m/a/1); used so by 1"),
+            FURTHER.format("c/1", "one-way", "clashes: V: set here, read in a/1 (/m/a/1); used so by 1"),
+        ],
+    ),
+    "what a module uses that is out of step": (
+        {"/m/a/1": "getenv V\n", "/m/b/1": "setenv V x\npushenv V y\n"},
+        [("a/1", "certified", "reads V"), ("b/1", "out-of-step", "V: set, and stack")],
+        [FURTHER.format("b/1", "out-of-step", "clashes: V: set here, read in a/1 (/m/a/1); used so by 1")],
+    ),
+    "what a module reads that is out of step": (
+        {"/m/a/1": "append-path V x\n", "/m/b/1": "getenv V\nsetenv W x\npushenv W y\n", "/m/c/1": "getenv V\n"},
+        [
+            ("a/1", "certified", ""),
+            ("b/1", "out-of-step", "W: set, and stack"),
+            ("c/1", "clashes", "V: read here, path with ':' in a/1 (/m/a/1); used so by 1"),
+        ],
+        [FURTHER.format("b/1", "out-of-step", "clashes: V: read here, path with ':' in a/1 (/m/a/1); used so by 1")],
+    ),
+    "a MODULEPATH that is read": (
+        {"/m/a/1": "getenv MODULEPATH\n", "/m/c/1": "setenv MODULEPATH /n\n"},
+        [
+            ("a/1", "certified", "reads MODULEPATH"),
             ("c/1", "out-of-step", "MODULEPATH: set, and path with ':'"),
         ],
+        [FURTHER.format("c/1", "out-of-step", "clashes: MODULEPATH: set here, read in a/1 (/m/a/1); used so by 1")],
     ),
-    "the first variable, and the first module, that is out of step": (
+    "a MODULEPATH that is read, and two that add to it": (
         {
-            "/m/a/1": "getenv U\ngetenv V\n",
-            "/m/b/1": "setenv U x\npushenv U y\n",
-            "/m/c/1": "setenv V x\nsetenv W x\npushenv W y\n",
-            "/m/c/2": "setenv V x\n",
+            "/m/a/1": "getenv MODULEPATH\n",
+            "/m/b/1": "append-path MODULEPATH /n\n",
+            "/n/c/1": "append-path MODULEPATH /m\n",
         },
         [
-            ("a/1", "reads-used", "V: read here, used in c/2 (/m/c/2)"),
-            ("b/1", "out-of-step", "U: set, and stack"),
-            ("c/1", "out-of-step", "W: set, and stack"),
-            ("c/2", "certified", ""),
+            ("a/1", "clashes", "MODULEPATH: read here, path with ':' in b/1 (/m/b/1); used so by 2"),
+            ("b/1", "certified", ""),
+            ("c/1", "certified", ""),
         ],
-        [FURTHER.format("c/1", "out-of-step", "clashes: V: set here, set in c/2 (/m/c/2); used so by 1")],
     ),
+    "a file that unsets a variable, and reads it at the unload": (
+        {"/m/a/1": "if {[module-info mode load]} {unsetenv V} else {getenv V}\n"},
+        [("a/1", "out-of-step", "V: unset, and read")],
+    ),
+    # Of readers and users that can't be certified together some are: none stands aside for one that does so itself.
     "what a module uses that clashes": (
-        {"/m/a/1": "getenv V\n", "/m/b/1": "setenv W x\n", "/m/c/1": "setenv V x\nsetenv W y\n"},
+        {"/m/a/1": "getenv V\n", "/m/b/1": "setenv W x\n", "/m/c/1": "setenv W y\nsetenv V x\n"},
         [
-            ("a/1", "reads-used", "V: read here, used in c/1 (/m/c/1)"),
+            ("a/1", "certified", "reads V"),
             ("b/1", "certified", ""),
             ("c/1", "clashes", "W: set here, set in b/1 (/m/b/1); used so by 2"),
         ],
     ),
+    "what two modules use that clash, and that come before their reader": (
+        {
+            "/m/b/1": "append-path W x\n",
+            "/m/b/2": "append-path X x\n",
+            "/m/c/1": "pushenv W x\nappend-path V x\n",
+            "/m/d/1": "pushenv X x\nappend-path V x\n",
+            "/m/e/1": "getenv V\n",
+        },
+        [
+            ("b/1", "certified", ""),
+            ("b/2", "certified", ""),
+            ("c/1", "clashes", "W: stack here, path with ':' in b/1 (/m/b/1); used so by 1"),
+            ("d/1", "clashes", "X: stack here, path with ':' in b/2 (/m/b/2); used so by 1"),
+            ("e/1", "certified", "reads V"),
+        ],
+    ),
     "two that read what the other uses, of which one is out of step": (
         {"/m/a/1": "getenv V\nsetenv W x\n", "/m/b/1": "getenv W\nsetenv V x\npushenv V y\n"},
-        [("a/1", "certified", "reads V"), ("b/1", "reads-used", "W: read here, used in a/1 (/m/a/1)")],
-        [FURTHER.format("b/1", "reads-used", "out-of-step: V: set, and stack")],
+        [("a/1", "certified", "reads V"), ("b/1", "out-of-step", "V: set, and stack")],
+        [FURTHER.format("b/1", "out-of-step", "clashes: V: set here, read in a/1 (/m/a/1); used so by 1")],
     ),
     "two that read what the other uses": (
         {"/m/a/1": "getenv V\nsetenv W x\n", "/m/b/1": "getenv W\nsetenv V x\n"},
+        [("a/1", "certified", "reads V"), ("b/1", "clashes", "V: set here, read in a/1 (/m/a/1); used so by 1")],
+    ),
+    "three that read what the next one uses": (
+        {"/m/a/1": "getenv V\nsetenv W x\n", "/m/b/1": "getenv X\nsetenv V x\n", "/m/c/1": "getenv W\nsetenv X x\n"},
         [
-            ("a/1", "reads-used", "V: read here, used in b/1 (/m/b/1)"),
-            ("b/1", "reads-used", "W: read here, used in a/1 (/m/a/1)"),
+            ("a/1", "certified", "reads V"),
+            ("b/1", "clashes", "V: set here, read in a/1 (/m/a/1); used so by 1"),
+            ("c/1", "clashes", "W: read here, set in a/1 (/m/a/1); used so by 1"),
         ],
     ),
-    "one whose reads aren't free keeps no other from being certified": (
+    "a reader of one that reads what another one uses": (
+        {"/m/a/1": "getenv V\n", "/m/b/1": "getenv W\nsetenv V x\n", "/m/c/1": "setenv W x\n"},
+        [
+            ("a/1", "certified", "reads V"),
+            ("b/1", "clashes", "V: set here, read in a/1 (/m/a/1); used so by 1"),
+            ("c/1", "certified", ""),
+        ],
+    ),
+    "one that sets a variable and reads what another one sets": (
         {"/m/a/1": "getenv V\nsetenv W x\n", "/m/b/1": "setenv V x\n", "/m/c/1": "setenv W y\n"},
         [
-            ("a/1", "reads-used", "V: read here, used in b/1 (/m/b/1)"),
+            ("a/1", "clashes", "W: set here, set in c/1 (/m/c/1); used so by 2"),
             ("b/1", "certified", ""),
             ("c/1", "certified", ""),
         ],
-        [FURTHER.format("a/1", "reads-used", "clashes: W: set here, set in c/1 (/m/c/1); used so by 1")],
     ),
     "a variable that is read, and two uses": (
         {"/m/a/1": "getenv W\nsetenv V x\npushenv V y\n", "/m/b/1": "getenv X\nunsetenv X2 x\n"},
@@ -718,7 +835,7 @@ ROWS = {
     ),
     "a directory that a module adds which reads what is used there": (
         {"/m/a/1": "append-path MODULEPATH /n\ngetenv V\n", "/n/b/1": "setenv V y\n"},
-        [("a/1", "reads-used", "V: read here, used in b/1 (/n/b/1)"), ("b/1", "certified", "")],
+        [("a/1", "certified", "reads V"), ("b/1", "clashes", "V: set here, read in a/1 (/m/a/1); used so by 1")],
     ),
     "a directory that is added where a variable isn't set": (
         {
@@ -751,7 +868,7 @@ def place_of(name, files):
 
 
 # The standings of which a report has the sums, in its order (modaudit(1), How modules stand).
-OTHERS = ("asks", "one-way", "reads-used", "out-of-step", "withheld", "clashes", "refused")
+OTHERS = ("asks", "one-way", "out-of-step", "withheld", "clashes", "refused")
 
 
 def counts_of(words):
@@ -784,6 +901,23 @@ def test_quiet_leaves_certified_modules_out(folder, files, rows, remarks):
     Site(folder, files).says([line for line in lines if "\tcertified\t" not in line], "--quiet")
 
 
+def standing_so(rows, standing):
+    return [name for name, word, _ in rows if word == standing]
+
+
+CLASHING = {name: row[:2] for name, row in ROWS.items() if standing_so(row[1], "clashes")}
+
+
+@pytest.mark.parametrize("files, rows", CLASHING.values(), ids=CLASHING)
+def test_none_that_stands_aside_could_be_certified(folder, files, rows):
+    """Where the others that stand aside are withheld, each of them isn't certified beside all that are."""
+    site, sure, aside = Site(folder, files), standing_so(rows, "certified"), standing_so(rows, "clashes")
+    for name in aside:
+        words = [word for other in aside if other != name for word in ("--without", other)]
+        stand = {module["name"]: module["standing"] for module in site.document(*words)["modules"]}
+        true(any(stand[one] != "certified" for one in [*sure, name]), f"{name} isn't certified beside {sure}: {stand}")
+
+
 @pytest.mark.parametrize("row", losses.ROWS.values(), ids=losses.ROWS)
 def test_what_is_lost_stands_so(folder, row):
     """Each module of the sessions that lose something (`losses.py`) stands as it is said there."""
@@ -806,6 +940,8 @@ def test_two_files_of_one_name(folder):
     Site(folder, files, "/m:/n").says(lines)
     lines = ["a/1\tcertified\t\t/m/a/1", "a/1\tcertified\t\t/n/a/1", "# 2 certified of 2"]
     Site(folder, {"/n/a/1": "setenv V y\n"}, "/m:/n").says(lines)
+    lines = ["a/1\tcertified\treads V\t/m/a/1", "a/1\tcertified\t\t/n/a/1", "# 2 certified of 2"]
+    Site(folder, {"/m/a/1": "getenv V\n", "/n/a/1": "append-path V x\n"}, "/m:/n").says(lines)
 
 
 # What happens here: the load and the unload of each module that isn't certified, in the environment of the audit.
@@ -928,6 +1064,10 @@ def test_what_happens_in_the_directories_of_the_command(folder):
 # Modules that are withheld by hand.
 
 
+# Who uses one variable beside those that are withheld, and how.
+USES_OF_V = (("c", "stack"), ("d", "read"))
+
+
 def test_modules_that_are_withheld(folder):
     """Of those that would be judged together those are withheld that a name means; the others are judged without them,
     and what asks or is refused stands as it does with them."""
@@ -941,23 +1081,26 @@ def test_modules_that_are_withheld(folder):
         "/m/f/1": "nope\n",
     }
     site = Site(folder, files)
-    reads = "reads-used\tV: read here, used in {0} (/m/{0})\t/m/d/1"
     besides = ["e/1\tout-of-step\tE: set, and stack\t/m/e/1", 'f/1\trefused\tinvalid command name "nope" (line 2)\t/m/f/1']
     first = "ask/1\tasks\tis-loaded\t/m/ask/1"
     lines = [first, "b/1\tcertified\t\t/m/b/1", "b/2\tcertified\t\t/m/b/2"]
-    lines += ["c/1\tclashes\tV: stack here, set in b/1 (/m/b/1); used so by 2\t/m/c/1", "d/1\t" + reads.format("b/1"), *besides]
-    sums = ["# 1 asks", "# 1 reads-used", "# 1 out-of-step"]
-    site.says([*lines, "# 2 certified of 7", *sums, "# 1 clashes", "# 1 refused"])
+    lines += ["c/1\tclashes\tV: stack here, set in b/1 (/m/b/1); used so by 2\t/m/c/1"]
+    lines += ["d/1\tclashes\tV: read here, set in b/1 (/m/b/1); used so by 2\t/m/d/1", *besides]
+    sums = ["# 1 asks", "# 1 out-of-step"]
+    site.says([*lines, "# 2 certified of 7", *sums, "# 2 clashes", "# 1 refused"])
     left = [f"b/{number}\twithheld\t--without\t/m/b/{number}" for number in (1, 2)]
     for words in (("--without", "b"), ("--without", "b/1", "--without", "b/2"), ("--quiet", "--without", "b", "--")):
         kept = [] if "--quiet" in words else ["c/1\tcertified\t\t/m/c/1"]
-        beside = [*kept, "d/1\t" + reads.format("c/1"), *besides]
-        site.says([first, *left, *beside, "# 1 certified of 7", *sums, "# 2 withheld", "# 1 refused"], *words)
-    clash = "c/1\tclashes\tV: stack here, set in b/2 (/m/b/2); used so by 1\t/m/c/1"
-    one = [first, left[0], "b/2\tcertified\t\t/m/b/2", clash, "d/1\t" + reads.format("b/2"), *besides]
-    site.says([*one, "# 1 certified of 7", *sums, "# 1 withheld", "# 1 clashes", "# 1 refused"], "--without", "b/1")
+        beside = [*kept, "d/1\tclashes\tV: read here, stack in c/1 (/m/c/1); used so by 1\t/m/d/1", *besides]
+        aside = ["# 2 withheld", "# 1 clashes", "# 1 refused"]
+        site.says([first, *left, *beside, "# 1 certified of 7", *sums, *aside], *words)
+    one = [first, left[0], "b/2\tcertified\t\t/m/b/2"]
+    clash = "{0}/1\tclashes\tV: {1} here, set in b/2 (/m/b/2); used so by 1\t/m/{0}/1"
+    one += [clash.format(name, use) for name, use in USES_OF_V]
+    aside = ["# 1 withheld", "# 2 clashes", "# 1 refused"]
+    site.says([*one, *besides, "# 1 certified of 7", *sums, *aside], "--without", "b/1")
     for words in (("--without", "bb"), ("--without", "b/"), ("--without", ""), ("--without", "--json"), ("--without", "a")):
-        site.says([*lines, "# 2 certified of 7", *sums, "# 1 clashes", "# 1 refused"], *words)
+        site.says([*lines, "# 2 certified of 7", *sums, "# 2 clashes", "# 1 refused"], *words)
     found = site.document("--without", "b")
     same([module["standing"] for module in found["modules"][1:3]], ["withheld"] * 2, "the document")
     same(found["certificate"], [{"variable": "V", "use": "stack"}], "the certificate")
@@ -966,49 +1109,43 @@ def test_modules_that_are_withheld(folder):
     site.refuses("Not a directory: '--without'", "--", "--without", "b")
 
 
-# Modules that read what withheld ones use: modulefiles, the names of what is withheld, and standings and remarks. So two
-# readers of each other can be certified one by one.
-SCRATCH = {"/m/mytmp/1": "setenv MYTMP [getenv SCRATCH /tmp]/tmp\n", "/m/scratch/1": "setenv SCRATCH /scratch/u\n"}
+# Modules that read what withheld ones use: modulefiles, the names of what is withheld, and standings and remarks. So of
+# two readers of each other either can be certified.
+SCRATCH = {"/m/scratch/1": "setenv SCRATCH /scratch/u\n", "/m/tmp/1": "setenv MYTMP [getenv SCRATCH /tmp]/tmp\n"}
 EACH_OTHER = {"/m/a/1": "getenv V\nsetenv W x\n", "/m/b/1": "getenv W\nsetenv V x\n"}
 CHAIN = {"/m/a/1": "getenv V\n", "/m/b/1": "getenv W\nsetenv V x\n", "/m/c/1": "setenv W x\n"}
 ASKS_TOO = {"/m/a/1": "is-loaded\ngetenv V\n", "/m/b/1": "setenv V x\n"}
-READS_V = ("a/1", "reads-used", "V: read here, used in b/1 (/m/b/1)")
+READS_SCRATCH = ("tmp/1", "clashes", "SCRATCH: read here, set in scratch/1 (/m/scratch/1); used so by 1")
 READERS = {
-    "nothing is withheld": (
-        (SCRATCH, []),
-        [("mytmp/1", "reads-used", "SCRATCH: read here, used in scratch/1 (/m/scratch/1)"), ("scratch/1", "certified", "")],
-    ),
+    "nothing is withheld": ((SCRATCH, []), [("scratch/1", "certified", ""), READS_SCRATCH]),
     "the user is withheld": (
         (SCRATCH, ["scratch"]),
-        [("mytmp/1", "certified", "reads SCRATCH"), ("scratch/1", "withheld", "--without")],
+        [("scratch/1", "withheld", "--without"), ("tmp/1", "certified", "reads SCRATCH")],
     ),
     "the reader is withheld": (
-        (SCRATCH, ["mytmp"]),
-        [("mytmp/1", "reads-used", "SCRATCH: read here, used in scratch/1 (/m/scratch/1)"), ("scratch/1", "certified", "")],
+        (SCRATCH, ["tmp"]),
+        [("scratch/1", "certified", ""), ("tmp/1", "withheld", "--without")],
     ),
     "both are withheld": (
-        (SCRATCH, ["mytmp", "scratch"]),
-        [("mytmp/1", "withheld", "--without"), ("scratch/1", "withheld", "--without")],
+        (SCRATCH, ["scratch", "tmp"]),
+        [("scratch/1", "withheld", "--without"), ("tmp/1", "withheld", "--without")],
     ),
-    "another is withheld": (
-        (SCRATCH, ["scratch/2"]),
-        [("mytmp/1", "reads-used", "SCRATCH: read here, used in scratch/1 (/m/scratch/1)"), ("scratch/1", "certified", "")],
-    ),
+    "another is withheld": ((SCRATCH, ["scratch/2"]), [("scratch/1", "certified", ""), READS_SCRATCH]),
     "the first of two users is withheld": (
         ({**SCRATCH, "/m/work/1": "unsetenv SCRATCH\n"}, ["scratch"]),
         [
-            ("mytmp/1", "reads-used", "SCRATCH: read here, used in work/1 (/m/work/1)"),
             ("scratch/1", "withheld", "--without"),
+            ("tmp/1", "clashes", "SCRATCH: read here, unset in work/1 (/m/work/1); used so by 1"),
             ("work/1", "certified", ""),
         ],
     ),
     "one of two that read what the other uses is withheld": (
         (EACH_OTHER, ["b"]),
-        [("a/1", "certified", "reads V"), ("b/1", "reads-used", "W: read here, used in a/1 (/m/a/1)")],
+        [("a/1", "certified", "reads V"), ("b/1", "withheld", "--without")],
     ),
     "the other of them is withheld": (
         (EACH_OTHER, ["a"]),
-        [READS_V, ("b/1", "certified", "reads W")],
+        [("a/1", "withheld", "--without"), ("b/1", "certified", "reads W")],
     ),
     "both of them are withheld": (
         (EACH_OTHER, ["a", "b"]),
@@ -1016,20 +1153,28 @@ READERS = {
     ),
     "the user of a user is withheld": (
         (CHAIN, ["c"]),
-        [READS_V, ("b/1", "certified", "reads W"), ("c/1", "withheld", "--without")],
+        [
+            ("a/1", "certified", "reads V"),
+            ("b/1", "clashes", "V: set here, read in a/1 (/m/a/1); used so by 1"),
+            ("c/1", "withheld", "--without"),
+        ],
     ),
     "the user in the middle is withheld": (
         (CHAIN, ["b"]),
+        [("a/1", "certified", "reads V"), ("b/1", "withheld", "--without"), ("c/1", "certified", "")],
+    ),
+    "the reader of the user in the middle is withheld": (
+        (CHAIN, ["a"]),
         [
-            ("a/1", "certified", "reads V"),
-            ("b/1", "reads-used", "W: read here, used in c/1 (/m/c/1)"),
-            ("c/1", "certified", ""),
+            ("a/1", "withheld", "--without"),
+            ("b/1", "certified", "reads W"),
+            ("c/1", "clashes", "W: set here, read in b/1 (/m/b/1); used so by 1"),
         ],
     ),
     "nothing is withheld, and the reader asks too": (
         (ASKS_TOO, []),
         [("a/1", "asks", "is-loaded"), ("b/1", "certified", "")],
-        [FURTHER.format("a/1", "asks", "reads-used: V: read here, used in b/1 (/m/b/1)")],
+        [FURTHER.format("a/1", "asks", "clashes: V: read here, set in b/1 (/m/b/1); used so by 1")],
     ),
     "the user is withheld, and the reader asks too": (
         (ASKS_TOO, ["b"]),
@@ -1077,7 +1222,7 @@ def test_remarks_on_directories_behind_modules_that_are_not_settled(folder):
 
 # What speaks against a module one after the other: its modulefile, how it stands, and how further, where `z/1` is certified
 # and uses R and C. The last has all of them.
-READS_R = "reads-used: R: read here, used in z/1 (/m/z/1)"
+READS_R = "clashes: R: read here, set in z/1 (/m/z/1); used so by 1"
 SETS_C = "clashes: C: set here, set in z/1 (/m/z/1); used so by 1"
 TWO_OF_D = "out-of-step: D: set, and stack"
 FURTHER_ROWS = {
@@ -1088,18 +1233,24 @@ FURTHER_ROWS = {
     "a/5": ("is-loaded\nsetenv C y\n", "asks: is-loaded", [SETS_C]),
     "a/6": ("is-loaded\nconflict z\nsetenv C y\n", "asks: is-loaded", []),
     "a/7": ("is-loaded\nif {[module-info mode unload]} {remove-path P x} else {append-path P x}\n", "asks: is-loaded", []),
+    "a/8": ("is-loaded\nconflict z\ngetenv R\n", "asks: is-loaded", [READS_R]),
+    "a/9": ("is-loaded\nsetenv D x\ngetenv D\n", "asks: is-loaded", []),
     "b/1": ("getenv R\nremove-path P x\n", "one-way: remove-path P x", [READS_R]),
     "b/2": ("setenv D x\nremove-path P x\npushenv D y\n", "one-way: remove-path P x", [TWO_OF_D]),
     "b/3": ("remove-path P x\nsetenv C y\n", "one-way: remove-path P x", [SETS_C]),
     "b/4": ("remove-path C x\nremove-path P x\n", "one-way: remove-path C x", []),
-    "c/1": ("getenv R\nsetenv D x\npushenv D y\n", READS_R, [TWO_OF_D]),
-    "c/2": ("getenv R\nsetenv C y\n", READS_R, [SETS_C]),
+    "c/1": ("getenv R\nsetenv D x\npushenv D y\n", TWO_OF_D, [READS_R]),
+    "c/2": (
+        "if {[module-info mode load]} {unsetenv D} else {getenv D}\nsetenv C y\n",
+        "out-of-step: D: unset, and read",
+        [SETS_C],
+    ),
     "d/1": ("setenv C y\npushenv C z\n", "out-of-step: C: set, and stack", [SETS_C]),
     "d/2": ("setenv D x\npushenv D y\npushenv C y\n", TWO_OF_D, [SETS_C.replace("set here", "stack here")]),
     "e/1": (
         "pushenv D y\nremove-path P x\nsetenv C y\ngetenv R\nsetenv D x\nis-loaded\n",
         "asks: is-loaded",
-        ["one-way: remove-path P x", READS_R, "out-of-step: D: stack, and set", SETS_C],
+        ["one-way: remove-path P x", "out-of-step: D: stack, and set", SETS_C],
     ),
 }
 
@@ -1130,7 +1281,6 @@ def test_further_standings_in_the_document(folder):
     other = {"name": "z/1", "path": os.fsdecode(real(folder, "/m/z/1"))}
     wanted = [
         {"standing": "one-way", "record": "remove-path P x"},
-        {"standing": "reads-used", "variable": "R", "other": other},
         {"standing": "out-of-step", "variable": "D", "uses": [{"use": "stack"}, {"use": "set"}]},
         {"standing": "clashes", "variable": "C", "uses": [{"use": "set"}] * 2, "other": other, "alike": 1},
     ]
@@ -1499,7 +1649,7 @@ def test_sums_by_standing(folder):
         "/m/e/1": "nope\n",
         "/m/f/1": "getenv W\n",
     }
-    others = ["# 2 asks", "# 1 one-way", "# 1 reads-used", "# 1 out-of-step", "# 1 clashes", "# 1 refused"]
+    others = ["# 2 asks", "# 1 one-way", "# 1 out-of-step", "# 2 clashes", "# 1 refused"]
     done = Site(folder, files).run("--quiet")
     sums = [line for line in done.stdout.decode().splitlines() if line.startswith("#")]
     same(sums, ["# 1 certified of 8", *others], "the sums")
@@ -1558,9 +1708,11 @@ def test_the_document_says_the_same(folder):
             {"name": "h/1", "standing": "certified", "reads": ["HOME", "USER"]},
             {
                 "name": "i/1",
-                "standing": "reads-used",
+                "standing": "clashes",
                 "variable": "E",
-                "other": {"name": "e/1", "path": f"{there}/e/1"},
+                "uses": [{"use": "read"}, {"use": "stack"}],
+                "other": {"name": "f/1", "path": f"{there}/f/1"},
+                "alike": 1,
                 "here": RETURNS,
             },
         ],
@@ -1574,6 +1726,8 @@ def test_the_document_says_the_same(folder):
             {"variable": "P", "use": "path", "delimiter": ","},
             {"variable": "S", "use": "stack"},
             {"variable": "E", "use": "stack"},
+            {"variable": "HOME", "use": "read"},
+            {"variable": "USER", "use": "read"},
         ],
         "missing_directories": [],
         "no_modulefiles": [],
@@ -1600,6 +1754,20 @@ def test_the_document_says_the_same(folder):
     same((done.returncode, done.stderr), (1, b""), "the status")
     site.clear()
     same(Site(folder, {"/m/a/1": ""}).run("--json").returncode, 0, "the status where each module is certified")
+
+
+def test_the_certificate_has_what_certified_modules_read(folder):
+    """Behind what the records of each use, and each use once."""
+    files = {
+        "/m/a/1": "getenv B\nsetenv V x\ngetenv A\ngetenv B\n",
+        "/m/b/1": "getenv A\nif {[module-info mode unload]} {getenv C}\npushenv S y\n",
+        "/m/c/1": "getenv D\nsetenv A x\n",
+        "/m/d/1": "getenv E\nis-loaded\n",
+    }
+    found = Site(folder, files).document()
+    same([module["standing"] for module in found["modules"]], ["certified"] * 2 + ["clashes", "asks"], "how they stand")
+    uses = [("V", "set"), ("B", "read"), ("A", "read"), ("S", "stack"), ("C", "read")]
+    same(found["certificate"], [{"variable": name, "use": use} for name, use in uses], "the certificate")
 
 
 # Arguments.
@@ -1873,6 +2041,20 @@ def test_random_sites_by_the_model(program, tmp_path, data):
     session = certified.begun(data.draw(certified.sessions("sh", sentence.emptied(tmp_path / "top"))))
     session.tree.write()
     certified.audited(program, session)
+
+
+@examples(300)
+@given(data=st.data())
+def test_as_many_as_can_be_are_certified(program, tmp_path, data):
+    """Of random sites, by the clashes of the model alone: whoever of those that can be certified isn't clashes with one
+    that is, and no two that are clash."""
+    top = sentence.emptied(tmp_path / "top")
+    site = data.draw(certified.sites("sh", (f"{top}/tree/one", f"{top}/tree/two")))
+    site.tree.write()
+    found = certified.audit_of(program, site, site.at_hand)["modules"]
+    places = {(module["name"], module["path"]) for module in found if module["standing"] == "certified"}
+    sure = [module for module in site.modules if (module.name, module.path) in places]
+    same(certified.fault_of(sure, site.modules), None, "what is wrong of those that are certified")
 
 
 # Large sites.

@@ -27,7 +27,7 @@ COUNTS = re.compile(
 )
 
 # What is said of a module, besides what comes of it, and that.
-TOLD = {"reads", "asks", "used", "why", "needs", "where", "beside", "does", "ported"}
+TOLD = {"reads", "asks", "why", "needs", "where", "beside", "does", "ported"}
 OUTCOMES = {"left", "at load", "at unload"}
 
 # What the head of a site says of its translation. Of each of these, and of the samples together as they stand, this
@@ -179,8 +179,7 @@ def test_what_is_said_of_a_module(written, file):
     same(len(outcomes), int(file.standing != "certified"), f"how many outcomes there are: {outcomes}")
     if file.standing in ("outside", "refused"):
         same(outcomes, {"at load"}, "the outcome of a refused evaluation")
-    for word, standing in (("asks", "asks"), ("used", "reads-used")):
-        same(len(file.each(word)), int(file.standing == standing), f"how often {word} stands there")
+    same(len(file.each("asks")), int(file.standing == "asks"), "how many questions there are")
 
 
 # A site as it is laid out.
@@ -263,15 +262,14 @@ def site(built, tmp_path_factory):
 
 
 def said_of(module):
-    """The standing of a module in the document, and what it reads, asks, or reads of what another one uses."""
-    used = f"{module['variable']} in {module['other']['name']}" if module["standing"] == "reads-used" else ""
-    return module["standing"], ", ".join(module.get("reads", [])), module.get("question", ""), used
+    """The standing of a module in the document, and what it reads or asks."""
+    return module["standing"], ", ".join(module.get("reads", [])), module.get("question", "")
 
 
 def wanted_of(file):
     """The same by what is written."""
     standing = "refused" if file.standing == "outside" else file.standing
-    return standing, *map(file.only, ("reads", "asks", "used"))
+    return standing, *map(file.only, ("reads", "asks"))
 
 
 @each_site

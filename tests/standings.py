@@ -6,6 +6,7 @@ the prover reads nor with the programs. `runs.py` has the edits of environments.
 A module's file is a function of the way in which it is evaluated (`ways.py`), in the environment of the audit. It may
 be withheld by hand. A use of a variable is what `runs.py` calls a way: ("fixed", None) where a module sets it, ("fixed",
 value) where it unsets this value, ("absent",) where it unsets it without a value, ("path", delimiter), or ("stack",).
+What it reads is one more use, ("read",).
 """
 
 from tests import runs as model
@@ -13,7 +14,7 @@ from tests.ways import FIRST, LOADED, MODE, SHELL, VARIABLE, Ran, are_few, asked
 
 MODULEPATH = "MODULEPATH"
 COLONS = ("path", ":")
-ABSENT, SET = ("absent",), ("fixed", None)
+ABSENT, SET, READ = ("absent",), ("fixed", None), ("read",)
 
 # What shells change by themselves.
 OF_SHELLS = set(
@@ -58,6 +59,7 @@ RARE = (
 CHOICES = {
     "the rivals": "those that most get on with stay",
     "the versions that conflicts exclude": "those that most get on with stay",
+    "the readers among these": "those that most get on with stay",
     "the names": "the order of the files makes no difference",
 }
 
@@ -121,8 +123,14 @@ def use_of(record):
     return None
 
 
+def used_by(records):
+    return [use for use in map(use_of, filter(can_return, records)) if use]
+
+
 def uses_of(module):
-    return [use for use in map(use_of, filter(can_return, module.records)) if use]
+    """What its records use, and then what it reads."""
+    reads = [] if is_without("that nobody uses what is read") else module.reads
+    return used_by(module.records) + [(name, READ) for name in reads]
 
 
 def is_of_tool(name):
@@ -201,12 +209,14 @@ def is_settled(module):
 
 
 def steps_out(module):
-    """Each variable that a module uses in two ways, with both, and MODULEPATH where it isn't a path with colons."""
+    """Each variable that a module uses in two ways, with both, and MODULEPATH where records use it otherwise than as a
+    path with colons. What one reads that asks doesn't count."""
     if is_without("two uses in one module"):
         return []
-    uses = uses_of(module)
+    own = used_by(module.records)
+    uses = own if is_without("that a reader's own records don't name it") or asks(module) else uses_of(module)
     twice = [(name, one, other) for name, one in uses for its, other in uses if name == its and one != other]
-    return twice + [(name, one, COLONS) for name, one in uses if name == MODULEPATH and one != COLONS]
+    return twice + [(name, one, COLONS) for name, one in own if name == MODULEPATH and one != COLONS]
 
 
 # Two modules.
@@ -226,16 +236,21 @@ def names_in_conflict(one, other):
     return any(means(name, other.name) for name in names_of_conflicts(one.records))
 
 
-def exclude(one, other):
-    """They are never loaded at once."""
+def have_one_name(one, other):
+    """So they are never loaded at once."""
     if is_without("that versions of one name may be loaded at once"):
         if one.name.rpartition("/")[0] == other.name.rpartition("/")[0] != "":
             return True
-    return one.name == other.name or names_in_conflict(one, other) or names_in_conflict(other, one)
+    return one.name == other.name
+
+
+def excludes_by(one, other, use):
+    """A conflict of the first means the second, and counts: those of one that reads the variable may be others elsewhere."""
+    return (use != READ or is_without("that a reader's conflicts don't free it")) and names_in_conflict(one, other)
 
 
 def go_together(one, other):
-    return one == other and one[0] in ("path", "stack", "absent")
+    return one == other and one[0] in ("path", "stack", "absent", "read")
 
 
 def agree_at_start(one, other):
@@ -244,41 +259,31 @@ def agree_at_start(one, other):
     return one == other or (one[0], other[0]) != ("fixed", "fixed")
 
 
+def are_apart(one, other, own, its):
+    """They are never loaded at once, whatever the variable is that they use so."""
+    return have_one_name(one, other) or excludes_by(one, other, own) or excludes_by(other, one, its)
+
+
 def clashes_of(one, other):
     """Each variable that two modules clash in, with both uses."""
     if is_without("clashes") or is_same(one, other):
         return []
     pairs = [(name, own, its) for name, own in uses_of(one) for theirs, its in uses_of(other) if name == theirs]
-    is_fine = exclude(one, other)
-    return [it for it in pairs if not (is_fine or go_together(*it[1:])) or not agree_at_start(*it[1:])]
+    pairs = [pair for pair in pairs if not go_together(*pair[1:])]
+    return [pair for pair in pairs if not are_apart(one, other, *pair[1:]) or not agree_at_start(*pair[1:])]
 
 
 def is_same(one, other):
     return (one.name, one.path) == (other.name, other.path)
 
 
-def uses(module, name):
-    return any(name == used for used, _ in uses_of(module))
-
-
-def is_eligible(module):
+def is_candidate(module):
     """It may be certified: it is settled and in step, and isn't withheld."""
     return is_settled(module) and not steps_out(module) and not module.is_withheld
 
 
-def used_read(module, modules):
-    """The first variable that a module reads and another eligible one uses, and the first such one, or none."""
-    if is_without("that nobody uses what is read"):
-        return None
-    others = [other for other in modules if is_eligible(other) and not is_same(module, other)]
-    if is_without("that a reader's conflicts don't free it"):
-        others = [other for other in others if not exclude(module, other)]
-    return next(((name, other) for name in module.reads for other in others if uses(other, name)), None)
-
-
 def candidates(modules):
-    """The settled modules that read nothing which another eligible one uses."""
-    return [module for module in modules if is_settled(module) and not used_read(module, modules)]
+    return [module for module in modules if is_candidate(module)]
 
 
 # Which of the candidates are certified, where some clash.
@@ -295,14 +300,24 @@ def excludes_versions(one, other):
     return first_part(other.name) in names_of_conflicts(one.records)
 
 
+def is_rival(one, other, own, its):
+    """The other's use doesn't go together with a module's own, which reads, or doesn't exclude all its versions."""
+    is_read = own == READ and not is_without("the readers among these")
+    return not go_together(own, its) and (is_read or not excludes_versions(one, other))
+
+
 def rivals(module, modules):
-    """How many uses there are of its variables by these modules that don't go together with its own."""
+    """How many uses there are of its variables by these modules that are rivals of its own."""
     if is_without("the rivals"):
         return 0
-    others = [other for other in modules if not excludes_versions(module, other)]
-    uses = [use for other in others for use in dict.fromkeys(uses_of(other))]
-    pairs = [(own, its) for name, own in dict.fromkeys(uses_of(module)) for theirs, its in uses if name == theirs]
-    return sum(not go_together(*pair) for pair in pairs)
+    users = [(other, *use) for other in modules for use in dict.fromkeys(uses_of(other))]
+    pairs = [(use, user) for use in dict.fromkeys(uses_of(module)) for user in users]
+    return sum(is_rival(module, other, own, its) for (name, own), (other, theirs, its) in pairs if name == theirs)
+
+
+def users_alike(modules, name, use):
+    """How many of the candidates use the variable so."""
+    return sum((name, use) in uses_of(module) for module in candidates(modules))
 
 
 def in_rank(modules):
@@ -313,15 +328,10 @@ def in_rank(modules):
     return sorted(modules, key=lambda module: (rivals(module, modules), places[module]))
 
 
-def judged_together(modules):
-    """The candidates that may be certified."""
-    return [module for module in candidates(modules) if is_eligible(module)]
-
-
 def certified(modules):
-    """In their rank, each of those that are judged together that clashes with no certified one before it."""
+    """In their rank, each of the candidates that clashes with no certified one before it."""
     sure = []
-    for module in in_rank(judged_together(modules)):
+    for module in in_rank(candidates(modules)):
         if not any(clashes_of(module, other) for other in sure):
             sure.append(module)
     return [module for module in modules if module in sure]
@@ -392,8 +402,6 @@ def standing_of(module, modules):
         return "asks"
     if not is_settled(module):
         return "one-way"
-    if used_read(module, modules):
-        return "reads-used"
     if steps_out(module):
         return "out-of-step"
     if module.is_withheld:
@@ -401,12 +409,11 @@ def standing_of(module, modules):
     return "certified" if module in certified(modules) else "clashes"
 
 
-def stands_by_itself(module, modules):
+def stands_by_itself(module):
     """In which ways an accepted module stands whatever others do, by the records of its first evaluation."""
     ways = {
         "asks": asks(module),
         "one-way": not all(map(can_return, module.records)),
-        "reads-used": used_read(module, modules),
         "out-of-step": steps_out(module),
     }
     return [word for word, stands in ways.items() if stands]
@@ -414,7 +421,7 @@ def stands_by_itself(module, modules):
 
 def further_of(module, modules):
     """How a module of a site stands further, in one word each: behind the first of these ways, and by a clash."""
-    ways = [] if module.first.fault is not None else stands_by_itself(module, modules)
+    ways = [] if module.first.fault is not None else stands_by_itself(module)
     if not ways:
         return []
     clashes = any(clashes_of(module, other) for other in certified(modules))
@@ -422,7 +429,7 @@ def further_of(module, modules):
 
 
 def certificate(modules):
-    """What the certified modules use, each use once."""
+    """What the certified modules use and read, each use once."""
     return list(dict.fromkeys(use for module in certified(modules) for use in uses_of(module)))
 
 
@@ -430,7 +437,9 @@ def certificate(modules):
 
 
 def agrees_with_use(env, name, use):
-    """An environment whose loaded texts are in order agrees with a use."""
+    """An environment whose loaded texts are in order agrees with a use. Of what is read nothing is asked here."""
+    if use == READ:
+        return True
     if use[0] in ("fixed", "absent"):
         return model.has_its_value(env, name, use)
     return model.in_order({name: use}, env)
