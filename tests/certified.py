@@ -461,8 +461,14 @@ def loss_of(session):
 def test_each_clause_is_needed(clause, monkeypatch, note):
     monkeypatch.setattr(standings, "WITHOUT", clause)
     dense = sessions("sh", "/t", folders=("one",), called=sentence.callings())
-    found = find(dense, loss_of, settings=settings(max_examples=MOST_SITES, phases=[Phase.generate]))
-    note(f"without it {loss_of(found)}")
+    losses = []
+
+    def loses(session):
+        losses.append(loss_of(session))
+        return losses[-1]
+
+    find(dense, loses, settings=settings(max_examples=MOST_SITES, phases=[Phase.generate]))
+    note(f"without it {losses[-1]}")
 
 
 # What clauses about questions are there for, by hand: without its clause the first module of a case is certified, and
@@ -698,7 +704,7 @@ def choice_lost():
 
 @examples(300)
 @given(sites("sh", ("/t/one", "/t/two")))
-def test_as_many_as_can_be_are_certified(site):
+def test_none_more_can_be_certified(site):
     same(choice_of(site.modules), None, "what is wrong of the choice")
 
 

@@ -2045,7 +2045,7 @@ def test_random_sites_by_the_model(program, tmp_path, data):
 
 @examples(300)
 @given(data=st.data())
-def test_as_many_as_can_be_are_certified(program, tmp_path, data):
+def test_none_more_can_be_certified(program, tmp_path, data):
     """Of random sites, by the clashes of the model alone: whoever of those that can be certified isn't clashes with one
     that is, and no two that are clash."""
     top = sentence.emptied(tmp_path / "top")

@@ -23,7 +23,7 @@ use Rattle.siteaudit.specs.declared.auditing.AuditedModule.{AuditedModule}
 use Rattle.siteaudit.specs.declared.walk.EvaluatedFile.{EvaluatedFile}
 use Rattle.siteaudit.specs.Audits.{AreOwnStandings, StandsFurther, HasFurther, HaveFurther}
 use Rattle.siteaudit.specs.Walks.{IsOutcome, IsOfRuns, AreEvaluations}
-use Rattle.siteaudit.specs.SettledRuns.{evaluated_file, read_by}
+use Rattle.siteaudit.specs.SettledRuns.{evaluated_file, reads_seen}
 use Rattle.siteaudit.specs.Findings.{IsFindingBy, IsFindingOf, IsFinding, own_standing, candidate_with, aside_of, Shown, judged_of}
 use Rattle.siteaudit.specs.Findings.{aside_in, IsShown, first_answer, answers_left, further_with, beside_left, AreModulesWith}
 use Rattle.siteaudit.proofs.Evaluations.{same_file}
@@ -119,5 +119,5 @@ all_further without ms ((e, finding) ∷ shown) ((m, out) ∷ outs) answers besi
       subst (λ (n : SiteModule). HasFurther ms (n, out) x.further.items) (sym (same_file e (m, out) one))
           (one_further ms (evaluated_file e) e.outcome (texts_in e.reads) out finding withheld x.further.items (flat_map aside_in shown) beside one.outcome one.reads right b k.further),
       all_further without ms shown outs (answers_left (own_standing withheld finding) answers) (beside_left (own_standing withheld finding) beside) modules more rest
-          (more_beside ms (flat_map aside_in shown) (evaluated_file e) (read_by e) finding withheld beside b) ks,
+          (more_beside ms (flat_map aside_in shown) (evaluated_file e) (reads_seen e) finding withheld beside b) ks,
     )

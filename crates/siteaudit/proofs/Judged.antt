@@ -42,7 +42,7 @@ use Rattle.siteaudit.specs.declared.standing.ModuleFinding.{ModuleFinding}
 use Rattle.siteaudit.specs.declared.standing.ModuleFinding.TheVariants.{Refused, Stands, InStep}
 use Rattle.siteaudit.specs.Audits.{remaining, StandsAs, audited_file, AllStand, is_certified, certified_files}
 use Rattle.siteaudit.specs.Audits.{listed, out_of_step}
-use Rattle.siteaudit.specs.SettledRuns.{evaluated_file, read_by}
+use Rattle.siteaudit.specs.SettledRuns.{evaluated_file, reads_seen}
 use Rattle.siteaudit.specs.declared.walk.EvaluatedFile.{EvaluatedFile}
 use Rattle.siteaudit.specs.declared.walk.Evaluation.{Evaluation}
 use Rattle.siteaudit.specs.Findings.{IsFindingOf, IsFinding, own_standing, candidate_with, steps_of}
@@ -240,7 +240,7 @@ steps_are without [] [] e h = refl
 steps_are without [] (o ∷ outs) e h = absurd e
 steps_are without (s ∷ shown) [] e h = absurd e
 steps_are without ((e, finding) ∷ shown) ((m, out) ∷ outs) (one, more) (right, rest) =
-    ap (λ (l : List Candidate). steps_of without (evaluated_file e) (read_by e) finding ++ l) (steps_are without shown outs more rest)
+    ap (λ (l : List Candidate). steps_of without (evaluated_file e) (reads_seen e) finding ++ l) (steps_are without shown outs more rest)
     ∙ (step_one without (evaluated_file e) e.outcome (texts_in e.reads) out finding (settled_among outs) one.outcome one.reads right
     ∙ ap (λ (k : SiteModule). stepping without (cons_option (settled_of (k, out)) (settled_among outs))) (sym (same_file e (m, out) one)))
 
@@ -391,7 +391,7 @@ all_stand site without all ((e, finding) ∷ shown) ((m, out) ∷ outs) answers 
       subst (λ (n : SiteModule). StandsAs site without ms n x.standing) (sym (file_with without (e, finding) answers beside x k))
           (subst (StandsAs site without ms (evaluated_file e)) (sym k.standing) stands),
       all_stand site without all shown outs (answers_left standing answers) (beside_left standing beside) modules more rest
-          (more_answers without (in_step_of ms) (flat_map (steps_in without) shown) (evaluated_file e) (read_by e) finding answers a)
+          (more_answers without (in_step_of ms) (flat_map (steps_in without) shown) (evaluated_file e) (reads_seen e) finding answers a)
           (λ o b. each o (inr b)) ks,
     )
 
@@ -476,7 +476,7 @@ certified_files_are without all ((e, Stands first further records) ∷ shown) an
     ∙ certified_files_are without all shown answers (later_answers beside) modules rest a ks
 certified_files_are without all ((e, InStep records) ∷ shown) answers beside (x ∷ modules) (right, rest) a (k, ks) =
     let withheld : Bool = is_withheld without (string_bytes e.name) in
-    by_left x e (candidate_with (evaluated_file e) (map record_view records.items) (read_by e)) withheld (flat_map (steps_in without) shown) answers all modules
+    by_left x e (candidate_with (evaluated_file e) (map record_view records.items) (reads_seen e)) withheld (flat_map (steps_in without) shown) answers all modules
     (file_with without (e, InStep records) answers beside x k) refl k.standing a
     (certified_files_are without all shown (answers_left (own_standing withheld (InStep records)) answers) (beside_left (own_standing withheld (InStep records)) beside) modules rest
-    (more_answers without all (flat_map (steps_in without) shown) (evaluated_file e) (read_by e) (InStep records) answers a) ks)
+    (more_answers without all (flat_map (steps_in without) shown) (evaluated_file e) (reads_seen e) (InStep records) answers a) ks)

@@ -36,8 +36,6 @@ use Rattle.modulerun.specs.declared.question.Question.{Question}
 use Rattle.sitecertificate.specs.Steps.{are_in_step}
 use Rattle.reversal.specs.VariableUses.{UsedVariable}
 use Rattle.siteaudit.specs.Walks.{uses_told, uses_in, AreUsedTwice}
-use Rattle.siteaudit.specs.Findings.{AreUnlike}
-use Rattle.siteaudit.specs.declared.unlike.UnlikeUses.{UnlikeUses}
 use Rattle.siteaudit.specs.WalkParts.{ComesTo, ScriptRuns, ScriptRunsIn, ShowsOne, ShowsAll, ShowsScript}
 use Rattle.siteaudit.specs.declared.scripts.FileEvaluation.{FileEvaluation}
 
@@ -120,11 +118,6 @@ shows_err limits context text first way before o refusal comes is kept =
 
 -- the whole script
 
-used_twice : (ps : List UsedVariable) (unlike : Option UnlikeUses) → MatchOption unlike (are_in_step ps ≡ true) (AreUnlike ps)
-    → MatchOption unlike (are_in_step ps ≡ true) (AreUsedTwice ps)
-used_twice ps None h = h
-used_twice ps (Some unlike) h = record { first = h.first; used = h.used; second = h.second; differ = h.differ }
-
 -- a question that doesn't keep its answer is found where not all do
 none_found : {X : Type 0} (q : X → Bool) (xs : List X) → is_none (find (λ x. not (q x)) xs) ≡ list_all q xs
 none_found q [] = refl
@@ -149,7 +142,7 @@ pub shows_script : (limits : Limits) (context : Way → FileContext) (text : Tex
     → shown.file.records ≡ first.records
     → option_map question_view shown.file.unkept ≡ find (λ q. not (keeps_answer (few && alike) (map record_view first.records.items) q)) (questions_in first.asked.items)
     → MatchOption shown.file.unlike (are_in_step (uses_told (map record_view first.records.items) (is_none shown.file.unkept) (texts_in shown.reads)) ≡ true)
-    (AreUnlike (uses_told (map record_view first.records.items) (is_none shown.file.unkept) (texts_in shown.reads)))
+    (AreUsedTwice (uses_told (map record_view first.records.items) (is_none shown.file.unkept) (texts_in shown.reads)))
     → texts_in shown.reads ≡ without_repeats all → ShowsScript limits context text (Ok shown)
 shows_script limits context text first e ways all alike few shown ran same shows known records unkept unlike reads =
     let runs : FileRuns RequestReason = record { first = ran_view first e; others = shows.outcomes } in
@@ -163,7 +156,7 @@ shows_script limits context text first e ways all alike few shown ran same shows
         unkept = kept;
         unlike = subst (λ (ps : List UsedVariable). MatchOption shown.file.unlike (are_in_step ps ≡ true) (AreUsedTwice ps))
             (uses_same runs shown.file.unkept (map record_view first.records.items) (texts_in shown.reads) kept refl read)
-            (used_twice (uses_told (map record_view first.records.items) (is_none shown.file.unkept) (texts_in shown.reads)) shown.file.unlike unlike);
+            unlike;
       },
       read,
       ran,

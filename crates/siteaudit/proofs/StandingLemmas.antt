@@ -15,7 +15,7 @@ use Rattle.sitecertificate.specs.RecordUses.{IsAmong, modulepath, is_read, same_
 use Rattle.sitecertificate.specs.UseViews.{use_view, used_view}
 use Rattle.sitecertificate.proofs.UsedLemmas.{by_test}
 use Rattle.siteaudit.specs.declared.unlike.UnlikeUses.{UnlikeUses}
-use Rattle.siteaudit.specs.Findings.{AreUnlike}
+use Rattle.siteaudit.specs.Walks.{AreUsedTwice}
 use Rattle.siteaudit.proofs.AmongLemmas.{taken}
 
 -- ---- the first that fails a test
@@ -113,7 +113,7 @@ unlike_parts false true s h = (refl, refl, h)
 unlike_parts false false s h = absurd (false≢true (sym h))
 
 pub are_unlike : (ps : List UsedVariable) (p q : UsedVariable) (unlike : UnlikeUses) → IsAmong p ps → IsAmong q (directories ∷ ps) → use_alike p q ≡ false
-    → string_bytes unlike.variable ≡ p.0 → use_view unlike.one ≡ p.1 → use_view unlike.other ≡ q.1 → AreUnlike ps unlike
+    → string_bytes unlike.variable ≡ p.0 → use_view unlike.one ≡ p.1 → use_view unlike.other ≡ q.1 → AreUsedTwice ps unlike
 are_unlike ps p q unlike a b h v x y =
     let u = unlike_parts (is_read p.1) (bytes_eq p.0 q.0) (same_use p.1 q.1) h in
     let name : p.0 ≡ q.0 = same_text p.0 q.0 u.1 in

@@ -1,21 +1,18 @@
 -- What each module of a site shows by itself, and what the answers about clashes make of it: for this crate's own
 -- contracts alone.
-use Rattle.std.specs.Prelude.{◌≡◌, Bool, false, not, if◌then◌else◌, List, [], ◌∷◌, ◌++◌, map, flat_map, find}
+use Rattle.std.specs.Prelude.{◌≡◌, Bool, not, if◌then◌else◌, List, [], ◌∷◌, ◌++◌, map, flat_map, find}
 use Rattle.std.specs.Prelude.{Option, Some, None, Result, Ok, Err, string_bytes}
 use Rattle.std.specs.List.{AllByRecursion}
 use Rattle.std.specs.Option.{option_map}
 use Rattle.envvars.specs.Texts.{Text}
-use Rattle.envvars.specs.Fields.{colon}
 use Rattle.modulefile.specs.RecordViews.{record_view}
 use Rattle.modulerun.specs.declared.question.Question.{Question}
 use Rattle.modulefile.specs.Records.{Record}
 use Rattle.modulefile.specs.declared.records.Record as code
-use Rattle.reversal.specs.VariableUses.{Pathed, can_return, UsedVariable}
+use Rattle.reversal.specs.VariableUses.{can_return, UsedVariable}
 use Rattle.modules.specs.declared.refusal.Refusal.{Refusal}
-use Rattle.sitecertificate.specs.RecordUses.{IsAmong, modulepath, is_read, same_use}
 use Rattle.sitecertificate.specs.Candidates.{Candidate, uses_of_all}
 use Rattle.sitecertificate.specs.CandidateViews.{candidate_view}
-use Rattle.sitecertificate.specs.UseViews.{use_view}
 use Rattle.sitelaws.specs.Sites.{SiteModule, is_withheld}
 use Rattle.sitecertificate.specs.declared.answers.Clash.{Clash}
 use Rattle.sitecertificate.specs.ClashAnswers.{AreAnswers, without_clashes}
@@ -23,7 +20,7 @@ use Rattle.sitecertificate.specs.EachOnce.{each_once}
 use Rattle.siteaudit.specs.declared.walk.EvaluatedFile.{EvaluatedFile}
 use Rattle.siteaudit.specs.declared.walk.Evaluation.{Evaluation}
 use Rattle.siteaudit.specs.Audits.{listed, out_of_step}
-use Rattle.siteaudit.specs.SettledRuns.{evaluated_file, read_by}
+use Rattle.siteaudit.specs.SettledRuns.{evaluated_file, reads_seen}
 use Rattle.siteaudit.specs.declared.unlike.UnlikeUses.{UnlikeUses}
 use Rattle.siteaudit.specs.declared.standing.Standing.{Standing}
 use Rattle.siteaudit.specs.declared.standing.Standing.TheVariants as ways
@@ -37,14 +34,6 @@ use Rattle.siteaudit.specs.declared.judgement.JudgedSite.{JudgedSite}
 use Rattle.siteaudit.specs.declared.auditing.AuditedModule.{AuditedModule}
 
 -- ---- one module
-
--- two of these uses are of one variable and differ, of which the second may be a read, or that of MODULEPATH as a path
--- with colons
-pub record AreUnlike (ps : List UsedVariable) (unlike : UnlikeUses) : Type 0 where
-  pub first : IsAmong (string_bytes unlike.variable, use_view unlike.one) ps
-  pub used : is_read (use_view unlike.one) ≡ false
-  pub second : IsAmong (string_bytes unlike.variable, use_view unlike.other) ((modulepath, Pathed colon) ∷ ps)
-  pub differ : same_use (use_view unlike.one) (use_view unlike.other) ≡ false
 
 -- Whatever others do, a module stands in these ways, in their order: by the first of its questions that doesn't keep its
 -- answer, by its records, and by two of its uses that differ.
@@ -112,11 +101,11 @@ judged_of without (e, finding) =
 
 -- the module, where other modules decide how it stands
 abbrev pub steps_in : List Text → Shown → List Candidate
-steps_in without (e, finding) = steps_of without (evaluated_file e) (read_by e) finding
+steps_in without (e, finding) = steps_of without (evaluated_file e) (reads_seen e) finding
 
 -- the module, where it stands by itself
 abbrev pub aside_in : Shown → List Candidate
-aside_in (e, finding) = aside_of (evaluated_file e) (read_by e) finding
+aside_in (e, finding) = aside_of (evaluated_file e) (reads_seen e) finding
 
 -- what the evaluation shows is right
 abbrev pub IsShown : Shown → Type 0

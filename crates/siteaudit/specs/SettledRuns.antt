@@ -37,5 +37,5 @@ abbrev pub evaluated_file : Evaluation → SiteModule
 evaluated_file e = record { name = string_bytes e.name; path = string_bytes e.path }
 
 -- the variables that its evaluations read
-abbrev pub read_by : Evaluation → List Text
-read_by e = texts_in e.reads
+abbrev pub reads_seen : Evaluation → List Text
+reads_seen e = texts_in e.reads

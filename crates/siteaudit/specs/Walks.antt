@@ -19,8 +19,8 @@ use Rattle.requests.specs.Reasons.{RequestReason, refused_edit}
 use Rattle.modules.specs.Answers.{cause_of}
 use Rattle.modules.specs.declared.refusal.Refusal.{Refusal}
 use Rattle.reversal.specs.VariableUses.{UsedVariable}
-use Rattle.sitecertificate.specs.RecordUses.{IsAmong, used_by}
-use Rattle.sitecertificate.specs.Candidates.{read_of}
+use Rattle.sitecertificate.specs.RecordUses.{IsAmong}
+use Rattle.sitecertificate.specs.Candidates.{uses_with}
 use Rattle.sitecertificate.specs.Steps.{are_in_step}
 use Rattle.sitecertificate.specs.UseViews.{use_view}
 use Rattle.sitelaws.specs.Sites.{Site, Evaluated, EvaluatesTo, first_directories, added_directories}
@@ -56,13 +56,10 @@ pub record IsWalk (site : Site) (dirs : List Text) (outcomes : List Evaluated) :
 
 -- ---- what the code has for them
 
--- what a module with these records and these reads uses
-abbrev pub uses_by : List Record → List Text → List UsedVariable
-uses_by rs reads = used_by rs ++ map read_of reads
-
--- The same, without the reads where a question doesn't keep its answer: what a file reads and uses is such a question.
+-- What a module with these records and these reads uses, without the reads where a question doesn't keep its answer: what
+-- a file reads and uses is such a question.
 abbrev pub uses_told : List Record → Bool → List Text → List UsedVariable
-uses_told rs kept reads = uses_by rs (if kept then reads else [])
+uses_told rs kept reads = uses_with rs (if kept then reads else [])
 
 -- so for these evaluations
 abbrev pub uses_in : FileRuns RequestReason → List UsedVariable

@@ -39,8 +39,8 @@ pub struct AuditedModule {
     pub reads: Vec<String>,
     /// How it stands.
     pub standing: Standing,
-    /// How it stands further, by the records of its first evaluation: what else would keep it from being certified, in the
-    /// order of the standings, and then a clash with a certified module.
+    /// How it stands further, by the records of its first evaluation and what its file reads: what else would keep it
+    /// from being certified, in the order of the standings, and then a clash with a certified module.
     pub further: Vec<Standing>,
 }
 

@@ -36,7 +36,7 @@ pub(crate) enum OwnStanding {
 pub(crate) struct JudgedModule {
     name: String,
     path: String,
-    /// The variables that its evaluation reads, each once.
+    /// The variables that its evaluations read, each once.
     reads: Vec<String>,
     /// How it stands.
     standing: OwnStanding,

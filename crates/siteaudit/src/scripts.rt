@@ -11,8 +11,7 @@ ghost use Rattle.settled.specs.Ways as spec;
 ghost use Rattle.settled.specs.Ways.{keeps_answer};
 ghost use Rattle.settled.specs.WayViews.{way_view};
 ghost use Rattle.sitecertificate.specs.Steps.{are_in_step};
-ghost use Rattle.siteaudit.specs.Walks.{uses_told};
-ghost use Rattle.siteaudit.specs.Findings.{AreUnlike};
+ghost use Rattle.siteaudit.specs.Walks.{uses_told, AreUsedTwice};
 ghost use Rattle.siteaudit.specs.WalkParts.{site_context, ComesTo, GivesUp, ScriptRuns, ShowsOne, ShowsAll, ShowsScript};
 
 use crate::files::SiteSettings;
@@ -153,7 +152,7 @@ fn file_of(
     ensures unlike { IfOk result (λ file. MatchOption file.unlike
         (are_in_step (uses_told (map record_view ran.records.items) (is_none file.unkept)
         (map string_bytes reads.now)) ≡ true)
-        (AreUnlike (uses_told (map record_view ran.records.items) (is_none file.unkept)
+        (AreUsedTwice (uses_told (map record_view ran.records.items) (is_none file.unkept)
         (map string_bytes reads.now)))) }
 {
     let place = first_unkept(alloc, alike, &ran)?;

@@ -7,8 +7,8 @@ ghost use Rattle.reversal.specs.VariableUses as variable_uses;
 ghost use Rattle.sitecertificate.specs.RecordUses.{use_alike, modulepath};
 ghost use Rattle.sitecertificate.specs.Steps.{are_in_step};
 ghost use Rattle.sitecertificate.specs.UseViews.{use_view, used_view};
-ghost use Rattle.siteaudit.specs.Walks.{uses_by};
-ghost use Rattle.siteaudit.specs.Findings.{AreUnlike};
+ghost use Rattle.sitecertificate.specs.Candidates.{uses_with};
+ghost use Rattle.siteaudit.specs.Walks.{AreUsedTwice};
 
 use modulefile::{Delimiter, Record};
 use sitecertificate::{UsedVariable, VariableUse, first_unlike, uses_of};
@@ -71,7 +71,7 @@ fn unlike_of(
 /// where the uses are in step.
 fn unlike_uses(alloc: Global, used: &[UsedVariable]) -> Result<Option<UnlikeUses>, AllocError>
     ensures { IfOk result (λ found. MatchOption found (are_in_step (map used_view used.now) ≡ true)
-        (AreUnlike (map used_view used.now))) }
+        (AreUsedTwice (map used_view used.now))) }
 {
     let directories = [directories_use(alloc)?];
     for one in used {
@@ -89,8 +89,8 @@ pub(crate) fn unlike_in(
     reads: &[String],
 ) -> Result<Option<UnlikeUses>, AllocError>
     ensures { IfOk result (λ found. MatchOption found
-        (are_in_step (uses_by (map record_view records.now) (map string_bytes reads.now)) ≡ true)
-        (AreUnlike (uses_by (map record_view records.now) (map string_bytes reads.now)))) }
+        (are_in_step (uses_with (map record_view records.now) (map string_bytes reads.now)) ≡ true)
+        (AreUsedTwice (uses_with (map record_view records.now) (map string_bytes reads.now)))) }
 {
     let used = uses_of(alloc, records, reads)?;
     unlike_uses(alloc, used.as_slice())

@@ -19,7 +19,7 @@ use Rattle.sitecertificate.specs.Certificates.{clashes_before, staying}
 use Rattle.sitecertificate.specs.Ranked.{ranked_module, ranked_order, AreRanked, clashes_among, with_next, taken}
 use Rattle.sitecertificate.specs.declared.ranks.Ranked.{Ranked}
 use Rattle.sitecertificate.specs.declared.module_uses.UsingModule.{UsingModule}
-use Rattle.sitecertificate.specs.UsingModules.{candidate_of}
+use Rattle.sitecertificate.specs.UsingModules.{candidate_in}
 use Rattle.sitecertificate.proofs.UsedLemmas.{by_test, by_cases, among_left, among_right, among_either}
 use Rattle.sitecertificate.proofs.Exact.{any_some}
 use Rattle.sitecertificate.proofs.Members.{fails_each}
@@ -161,11 +161,11 @@ ranks_in_order ms rs h s = far_order ms rs h (sorted_far (λ (r s : Ranked). is_
 -- ---- as the code has them
 
 pub ranks_turn : (old new : List Ranked) (users : List UsingModule) (i : ℕ) (x : UsingModule) (r : Ranked) → i < length users → x ≡ get_or users i x
-    → new ≡ old ++ r ∷ [] → r.candidate.now ≡ x → map ranked_module old ≡ map candidate_of (take i users) → map ranked_module new ≡ map candidate_of (take (i + 1) users)
+    → new ≡ old ++ r ∷ [] → r.candidate.now ≡ x → map ranked_module old ≡ map candidate_in (take i users) → map ranked_module new ≡ map candidate_in (take (i + 1) users)
 ranks_turn old new users i x r l is e q h =
     ap (map ranked_module) e
     ∙ (map-append ranked_module old (r ∷ [])
-    ∙ ((λ k. h k ++ candidate_of (q k) ∷ []) ∙ sym (map_more candidate_of users i x l is)))
+    ∙ ((λ k. h k ++ candidate_in (q k) ∷ []) ∙ sym (map_more candidate_in users i x l is)))
 
 pub ranked_turn : (ms : List Candidate) (old new : List Ranked) (r : Ranked) → new ≡ old ++ r ∷ [] → AreRanked ms old → r.rivals ≡ rivals ms (ranked_module r) → AreRanked ms new
 ranked_turn ms old new r e h k x a = by_cases (among_either x old (r ∷ []) (subst (IsAmong x) e a))

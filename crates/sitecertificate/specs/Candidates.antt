@@ -17,13 +17,17 @@ pub record Candidate : Type 0 where
 abbrev pub as_module : Candidate → Module
 as_module m = record { name = m.name; path = m.path; records = m.records }
 
--- A read is one more use of the variable, which is left as it is.
+-- A read is one more use of the variable: no record's, so that the variable is left untouched.
 abbrev pub read_of : Text → UsedVariable
 read_of v = (v, Untouched)
 
--- what the candidate uses: what its records do, and then what it reads
+-- what a module with these records and these reads uses: what its records do, and then what it reads
+abbrev pub uses_with : List Record → List Text → List UsedVariable
+uses_with rs reads = used_by rs ++ map read_of reads
+
+-- so for the candidate
 abbrev pub uses_of : Candidate → List UsedVariable
-uses_of m = used_by m.records ++ map read_of m.reads
+uses_of m = uses_with m.records m.reads
 
 -- what the candidates use
 abbrev pub uses_of_all : List Candidate → List UsedVariable

@@ -244,7 +244,7 @@ ReaderOfOneName =
     BothAreCertified (reading (variable ∷ []) (first_module []))
     (in_directory (codes "/n/") (codes "m/1") (add_front ∷ []))
 
--- Of three those stay that read: with the one that sets the variable neither of them gets on.
+-- Of three those stay that read: with the one that adds to the variable neither of them gets on.
 abbrev pub TwoReaders : Type 0
 TwoReaders =
     certified (reading (variable ∷ []) (first_module []) ∷ reading (variable ∷ []) (second_module [])

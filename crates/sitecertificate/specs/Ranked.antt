@@ -8,12 +8,12 @@ use Rattle.sitecertificate.specs.RecordUses.{IsAmong}
 use Rattle.sitecertificate.specs.Candidates.{Candidate}
 use Rattle.sitecertificate.specs.Clashes.{is_other, do_clash}
 use Rattle.sitecertificate.specs.Ranks.{rivals}
-use Rattle.sitecertificate.specs.UsingModules.{candidate_of}
+use Rattle.sitecertificate.specs.UsingModules.{candidate_in}
 use Rattle.sitecertificate.specs.declared.ranks.Ranked.{Ranked}
 
 -- the module
 abbrev pub ranked_module : Ranked → Candidate
-ranked_module r = candidate_of r.candidate.now
+ranked_module r = candidate_in r.candidate.now
 
 -- their order, by the numbers that they have
 abbrev pub ranked_order : Ranked → Ranked → Ordering

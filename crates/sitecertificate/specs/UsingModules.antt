@@ -4,5 +4,5 @@ use Rattle.sitecertificate.specs.CandidateViews.{candidate_view}
 use Rattle.sitecertificate.specs.declared.module_uses.UsingModule.{UsingModule}
 
 -- the candidate
-abbrev pub candidate_of : UsingModule → Candidate
-candidate_of using = candidate_view using.owner.now
+abbrev pub candidate_in : UsingModule → Candidate
+candidate_in using = candidate_view using.owner.now

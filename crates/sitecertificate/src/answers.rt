@@ -13,7 +13,7 @@ ghost use Rattle.sitecertificate.specs.Users.{AreUsersOf, uses_of_modules};
 ghost use Rattle.sitecertificate.specs.UserViews.{user_view};
 ghost use Rattle.sitecertificate.specs.Tables.{users_at};
 ghost use Rattle.sitecertificate.specs.Tallies.{HasCounts};
-ghost use Rattle.sitecertificate.specs.UsingModules.{candidate_of};
+ghost use Rattle.sitecertificate.specs.UsingModules.{candidate_in};
 
 use crate::candidate::Candidate;
 use crate::conflicts::conflict_names;
@@ -81,7 +81,7 @@ fn clash_of<'a>(
 ) -> Result<Option<Clash>, AllocError>
     ensures { IfOk result (λ answer. (ms : List candidates.Candidate) → HasCounts tally.now (uses_of_modules ms)
         → AreUsersOf (users_at table.now) (uses_of_modules (staying ms))
-        → IsAnswer ms (candidate_of candidate.entry.now) answer) }
+        → IsAnswer ms (candidate_in candidate.entry.now) answer) }
 {
     let conflicts = conflict_names(alloc, candidate.owner.records.as_slice())?;
     match table.clash_of(candidate, &conflicts) {
@@ -99,7 +99,7 @@ fn answers_of<'a>(
 ) -> Result<Vec<Option<Clash>>, AllocError>
     ensures { IfOk result (λ found. (ms : List candidates.Candidate) → HasCounts tally.now (uses_of_modules ms)
         → AreUsersOf (users_at table.now) (uses_of_modules (staying ms))
-        → AreAnswers ms (map candidate_of users.entry.now) found.items) }
+        → AreAnswers ms (map candidate_in users.entry.now) found.items) }
 {
     let mut found = Vec::new(alloc);
     for candidate in users {
@@ -127,11 +127,11 @@ fn clashes_of<'a>(
     others: &'a [UsingModule<'a>],
 ) -> Result<FoundClashes, AllocError>
     ensures answers { IfOk result (λ found.
-        AreAnswers (map candidate_of users.entry.now) (map candidate_of users.entry.now) found.answers.items) }
+        AreAnswers (map candidate_in users.entry.now) (map candidate_in users.entry.now) found.answers.items) }
     ensures uses { IfOk result (λ found. map used_view found.unclashed_uses.items
-        ≡ each_once (uses_of_all (without_clashes (map candidate_of users.entry.now) found.answers.items))) }
+        ≡ each_once (uses_of_all (without_clashes (map candidate_in users.entry.now) found.answers.items))) }
     ensures beside { IfOk result (λ found.
-        AreAnswers (map candidate_of users.entry.now) (map candidate_of others.entry.now) found.beside.items) }
+        AreAnswers (map candidate_in users.entry.now) (map candidate_in others.entry.now) found.beside.items) }
 {
     let tally = Tally::of(alloc, users)?;
     let ranks = ranks(alloc, &tally, users)?;
@@ -146,8 +146,8 @@ fn clashes_of<'a>(
     })
 }
 
-/// Of candidates that clash those that stay, as many as can be: the others have a clash with one of these. What those
-/// that stay use and read. And of other modules, which have no part in who stays, a clash with one that does.
+/// Of candidates that clash those that stay, so many that none more can: the others have a clash with one of these.
+/// What those that stay use and read. And of other modules, which have no part in who stays, a clash with one that does.
 ///
 /// The only error is want of memory.
 pub fn clashes(

@@ -7,7 +7,7 @@ ghost use Rattle.sitecertificate.specs.UseViews.{used_view};
 ghost use Rattle.sitecertificate.specs.ClashAnswers.{without_clash, without_clashes};
 ghost use Rattle.sitecertificate.specs.EachOnce.{same_used, each_once};
 ghost use Rattle.sitecertificate.specs.UseKeys.{HasUses};
-ghost use Rattle.sitecertificate.specs.UsingModules.{candidate_of};
+ghost use Rattle.sitecertificate.specs.UsingModules.{candidate_in};
 
 use crate::answers::Clash;
 use crate::keys::{UsedKey, used_key};
@@ -76,7 +76,7 @@ impl<'a> UsesOnce<'a> {
         answer: &Option<Clash>,
     ) -> Result<(), AllocError>
         ensures { OnOk result ((ps : List variable_uses.UsedVariable) → HasUses self.old ps → HasUses self.new
-            (insert_all same_used ps (uses_of_all (without_clash (candidate_of candidate.entry.now) answer.now)))) }
+            (insert_all same_used ps (uses_of_all (without_clash (candidate_in candidate.entry.now) answer.now)))) }
     {
         match answer {
             None => self.add_all(alloc, candidate.used.as_slice()),
@@ -105,7 +105,7 @@ pub(crate) fn unclashed_uses<'a>(
     answers: &[Option<Clash>],
 ) -> Result<Vec<UsedVariable>, AllocError>
     ensures { IfOk result (λ found. map used_view found.items
-        ≡ each_once (uses_of_all (without_clashes (map candidate_of users.entry.now) answers.now))) }
+        ≡ each_once (uses_of_all (without_clashes (map candidate_in users.entry.now) answers.now))) }
 {
     let mut once = UsesOnce::new(alloc);
     for (candidate, answer) in users.iter().zip(answers) {

@@ -6,7 +6,7 @@ ghost use Rattle.sitecertificate.specs.Candidates as candidates;
 ghost use Rattle.sitecertificate.specs.Users.{uses_of_modules};
 ghost use Rattle.sitecertificate.specs.Tallies.{HasCounts};
 ghost use Rattle.sitecertificate.specs.Ranked.{ranked_module, ranked_order, AreRanked};
-ghost use Rattle.sitecertificate.specs.UsingModules.{candidate_of};
+ghost use Rattle.sitecertificate.specs.UsingModules.{candidate_in};
 
 use crate::module_uses::UsingModule;
 use crate::tally::Tally;
@@ -42,7 +42,7 @@ fn with_rivals<'a>(
     tally: &Tally<'a>,
     users: &'a [UsingModule<'a>],
 ) -> Result<Vec<Ranked<'a>>, AllocError>
-    ensures modules { IfOk result (λ ranks. map ranked_module ranks.items ≡ map candidate_of users.entry.now) }
+    ensures modules { IfOk result (λ ranks. map ranked_module ranks.items ≡ map candidate_in users.entry.now) }
     ensures rivals { IfOk result (λ ranks. (ms : List candidates.Candidate) → HasCounts tally.now (uses_of_modules ms)
         → AreRanked ms ranks.items) }
 {
@@ -69,7 +69,7 @@ pub(crate) fn ranks<'a>(
     users: &'a [UsingModule<'a>],
 ) -> Result<Vec<Ranked<'a>>, AllocError>
     ensures same { IfOk result (λ ranks.
-        IsPermutation (map candidate_of users.entry.now) (map ranked_module ranks.items)) }
+        IsPermutation (map candidate_in users.entry.now) (map ranked_module ranks.items)) }
     ensures rivals { IfOk result (λ ranks. (ms : List candidates.Candidate) → HasCounts tally.now (uses_of_modules ms)
         → AreRanked ms ranks.items) }
     ensures sorted { IfOk result (λ ranks. IsSortedBy (λ r s. is_lt (ranked_order r s)) ranks.items) }

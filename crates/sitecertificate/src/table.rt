@@ -1,4 +1,5 @@
-//! The table of variables: who uses each and how, so that a clash is found without comparing all pairs of modules.
+//! The table of variables: who uses each and how, so that a clash is found without comparing all pairs of modules. It
+//! compares those that are kept apart by the conflicts of the ones in the table.
 ghost use Rattle.std.specs.Prelude.{◌≡◌, [], map, IfOk, OnOk};
 ghost use Rattle.std.specs.Option.{option_map};
 ghost use Rattle.envvars.specs.Texts.{Text, has};
@@ -9,7 +10,7 @@ ghost use Rattle.sitecertificate.specs.Users.{uses_of_modules};
 ghost use Rattle.sitecertificate.specs.UserViews.{user_view, users_view};
 ghost use Rattle.sitecertificate.specs.Conflicts.{has_name};
 ghost use Rattle.sitecertificate.specs.Tables.{users_at};
-ghost use Rattle.sitecertificate.specs.UsingModules.{candidate_of};
+ghost use Rattle.sitecertificate.specs.UsingModules.{candidate_in};
 ghost use Rattle.sitecertificate.specs.Ranked.{ranked_module, taken};
 
 use crate::conflicts::{Names, Seeker, conflict_names};
@@ -64,7 +65,7 @@ impl<'a> VariableTable<'a> {
         candidate: &'a UsingModule<'a>,
     ) -> Result<(), AllocError>
         ensures { OnOk result (EntersAll (users_at self.old) (users_at self.new)
-            (uses_of_module (candidate_of candidate.entry.now))) }
+            (uses_of_module (candidate_in candidate.entry.now))) }
     {
         for used in &candidate.used {
             let owner = candidate.owner;
@@ -90,8 +91,8 @@ impl<'a> VariableTable<'a> {
         conflicts: &Names<'a>,
     ) -> Option<ClashingUsers<'a>>
         requires { (name : Text) → has_name conflicts.now name
-            ≡ has name (conflict_names (candidate_of candidate.now).records) }
-        ensures { IsFoundOf (users_at self.now) (uses_of_module (candidate_of candidate.entry.now))
+            ≡ has name (conflict_names (candidate_in candidate.now).records) }
+        ensures { IsFoundOf (users_at self.now) (uses_of_module (candidate_in candidate.entry.now))
             (option_map users_view result) }
     {
         for used in &candidate.used {
@@ -116,7 +117,7 @@ impl<'a> VariableTable<'a> {
         alloc: Global,
         candidate: &'a UsingModule<'a>,
     ) -> Result<(), AllocError>
-        ensures { OnOk result (TakesNext (users_at self.old) (users_at self.new) (candidate_of candidate.entry.now)) }
+        ensures { OnOk result (TakesNext (users_at self.old) (users_at self.new) (candidate_in candidate.entry.now)) }
     {
         let conflicts = conflict_names(alloc, candidate.owner.records.as_slice())?;
         match self.clash_of(candidate, &conflicts) {

@@ -13,7 +13,7 @@ ghost use Rattle.sitecertificate.specs.UseKeys.{key_view};
 ghost use Rattle.sitecertificate.specs.Conflicts.{has_name};
 ghost use Rattle.sitecertificate.specs.Tallies.{counted_at, HasCounts, CountsMore, CountsOne};
 ghost use Rattle.sitecertificate.specs.Tallies.{is_user, is_excluded_user, is_other_user, is_open_rival};
-ghost use Rattle.sitecertificate.specs.UsingModules.{candidate_of};
+ghost use Rattle.sitecertificate.specs.UsingModules.{candidate_in};
 
 use crate::conflicts::{Names, conflict_names};
 use crate::keys::{UseKey, key_of};
@@ -106,7 +106,7 @@ impl<'a> Tally<'a> {
 
     /// Counts what a module uses.
     fn enter_module(&mut self, candidate: &'a UsingModule<'a>) -> Result<(), AllocError>
-        ensures { OnOk result (CountsMore self.old self.new (uses_of_module (candidate_of candidate.entry.now))) }
+        ensures { OnOk result (CountsMore self.old self.new (uses_of_module (candidate_in candidate.entry.now))) }
     {
         for used in &candidate.used {
             let owner = candidate.owner;
@@ -117,7 +117,7 @@ impl<'a> Tally<'a> {
 
     /// The tally of what the modules use.
     pub(crate) fn of(alloc: Global, users: &'a [UsingModule<'a>]) -> Result<Tally<'a>, AllocError>
-        ensures { IfOk result (λ tally. HasCounts tally (uses_of_modules (map candidate_of users.entry.now))) }
+        ensures { IfOk result (λ tally. HasCounts tally (uses_of_modules (map candidate_in users.entry.now))) }
     {
         let mut tally = Tally::new(alloc);
         for candidate in users {
@@ -226,7 +226,7 @@ impl<'a> Tally<'a> {
         candidate: &'u UsingModule<'u>,
     ) -> Result<usize, AllocError>
         ensures { IfOk result (λ number. (ms : List candidates.Candidate) → HasCounts self.now (uses_of_modules ms)
-            → number ≡ rivals ms (candidate_of candidate.entry.now)) }
+            → number ≡ rivals ms (candidate_in candidate.entry.now)) }
     {
         let names = conflict_names(alloc, candidate.owner.records.as_slice())?;
         let mut number = 0_usize;

@@ -4,7 +4,7 @@ ghost use Rattle.std.specs.Option.{option_map};
 ghost use Rattle.modulefile.specs.RecordViews.{record_view};
 ghost use Rattle.reversal.specs.VariableUses as variable_uses;
 ghost use Rattle.sitecertificate.specs.RecordUses as uses;
-ghost use Rattle.sitecertificate.specs.Candidates.{read_of};
+ghost use Rattle.sitecertificate.specs.Candidates.{read_of, uses_with};
 ghost use Rattle.sitecertificate.specs.Clashes as clashes;
 ghost use Rattle.sitecertificate.specs.UseViews.{use_view, used_view};
 
@@ -143,7 +143,7 @@ pub fn uses_of(
     reads: &[String],
 ) -> Result<Vec<UsedVariable>, AllocError>
     ensures { IfOk result (λ used. map used_view used.items
-        ≡ uses.used_by (map record_view records.now) ++ map read_of (map string_bytes reads.now)) }
+        ≡ uses_with (map record_view records.now) (map string_bytes reads.now)) }
 {
     let mut used = used_by(alloc, records)?;
     push_reads(alloc, &mut used, reads)?;

@@ -32,8 +32,9 @@ pub fn settled_records()
     settled::laws::undone();
 }
 
-/// Each module of a site stands in one of the six ways, and in no other. It stands as certified exactly where it is one of
-/// the certified candidates. What a certified module reads no certified one uses that isn't kept apart from it (`free`).
+/// Beside all settled modules of a site each of its modules stands in one of the six ways, and beside whatever
+/// candidates in no other. It stands as certified exactly where it is one of the certified candidates. What a certified
+/// module reads is used by no records of a certified one that isn't kept apart from it (`free`).
 pub fn standings()
     ensures each { EachStands }
     ensures one { OneStanding }

@@ -8,8 +8,7 @@ use Rattle.settled.specs.WayViews.{way_view}
 use Rattle.modulefile.specs.Answers.{FileContext}
 use Rattle.modulefile.specs.RecordViews.{record_view}
 use Rattle.sitecertificate.specs.Steps.{are_in_step}
-use Rattle.siteaudit.specs.Walks.{uses_told}
-use Rattle.siteaudit.specs.Findings.{AreUnlike}
+use Rattle.siteaudit.specs.Walks.{uses_told, AreUsedTwice}
 use Rattle.modulerun.specs.declared.question.Question.{Question}
 use Rattle.settled.specs.LoadedAnswers.{are_few}
 use Rattle.settled.specs.Ways.{Way, other_ways}
@@ -32,5 +31,5 @@ returns c =
     c.in_ok-file_of.ensures.records c.in_ok-file_of.ensures.unkept
     (subst (λ (xs : List (String Global)). MatchOption c.in_ok-file_of.field-0.unlike
     (are_in_step (uses_told (map record_view first.records.items) (is_none c.in_ok-file_of.field-0.unkept) (map string_bytes xs)) ≡ true)
-    (AreUnlike (uses_told (map record_view first.records.items) (is_none c.in_ok-file_of.field-0.unkept) (map string_bytes xs)))) c.as_slice-5.ensures.value c.in_ok-file_of.ensures.unlike)
+    (AreUsedTwice (uses_told (map record_view first.records.items) (is_none c.in_ok-file_of.field-0.unkept) (map string_bytes xs)))) c.as_slice-5.ensures.value c.in_ok-file_of.ensures.unlike)
     (c.in_ok-reads.ensures ∙ ap (λ (xs : List (String Global)). without_repeats (map string_bytes xs)) c.as_slice-4.ensures.value)

@@ -1,17 +1,17 @@
 use Rattle.sitecertificate.specs.Certificates.{staying}
 use Rattle.sitecertificate.specs.UserViews.{user_view}
 use Rattle.sitecertificate.specs.Tables.{users_at}
-use Rattle.sitecertificate.specs.UsingModules.{candidate_of}
+use Rattle.sitecertificate.specs.UsingModules.{candidate_in}
 use Rattle.sitecertificate.proofs.AnswerLemmas.{is_clash, clashes_with_none}
 use Rattle.sitecertificate.proofs.answers.clash_of.Goals as goal
 
 pub returns-in-Some : goal.returns-in-Some
 returns-in-Some c = λ ms have all. (
-  is_clash (users_at c.args.table.now) (candidate_of c.args.candidate.now) (user_view c.in-Some.users.own)
+  is_clash (users_at c.args.table.now) (candidate_in c.args.candidate.now) (user_view c.in-Some.users.own)
       (user_view c.in-Some.users.other) c.in_ok-clash_between-in-Some.field-0
       c.in_ok-clash_between-in-Some.ensures.clash c.in-Some.ensures (staying ms) all,
   c.in_ok-clash_between-in-Some.ensures.alike ms have,
 )
 
 pub returns : goal.returns
-returns c = λ ms have all. clashes_with_none (users_at c.args.table.now) (candidate_of c.args.candidate.now) c.in-None.ensures (staying ms) all
+returns c = λ ms have all. clashes_with_none (users_at c.args.table.now) (candidate_in c.args.candidate.now) c.in-None.ensures (staying ms) all

@@ -6,7 +6,7 @@ use Rattle.indexmap.specs.IndexSet.{insert_all}
 use Rattle.sitecertificate.specs.Candidates.{uses_of_all}
 use Rattle.sitecertificate.specs.ClashAnswers.{without_clash}
 use Rattle.sitecertificate.specs.EachOnce.{same_used}
-use Rattle.sitecertificate.specs.UsingModules.{candidate_of}
+use Rattle.sitecertificate.specs.UsingModules.{candidate_in}
 use Rattle.sitecertificate.proofs.OnceLemmas.{unclashed, inserted_once, unclashed_turn, unclashed_end}
 use Rattle.sitecertificate.proofs.once.unclashed_uses.Goals as goal
 
@@ -17,7 +17,7 @@ loop-candidate-init c =
     let answers : iter_rest (zip_second it) ≡ c.args.answers.now = search rules in (
       [],
       c.new-once.ensures,
-      (λ i. insert_all same_used [] (unclashed (map candidate_of (users i)) (answers i))) ∙ inserted_once (unclashed (map candidate_of c.args.users.now) c.args.answers.now),
+      (λ i. insert_all same_used [] (unclashed (map candidate_in (users i)) (answers i))) ∙ inserted_once (unclashed (map candidate_in c.args.users.now) c.args.answers.now),
     )
 
 pub loop-candidate-preserved : goal.loop-candidate-preserved
@@ -26,9 +26,9 @@ loop-candidate-preserved c =
     let new = c.next.new.self in
     let z = Zip-more old new c.next.result (c.in-Some.candidate, c.in-Some.answer) c.in-Some.is c.next.ensures.steps in
     let i = c.loop-candidate.invariant in (
-      insert_all same_used i.0 (uses_of_all (without_clash (candidate_of c.in-Some.candidate.now) c.in-Some.answer.now)),
+      insert_all same_used i.0 (uses_of_all (without_clash (candidate_in c.in-Some.candidate.now) c.in-Some.answer.now)),
       c.in_ok-add_unclashed.ensures i.0 i.1,
-      unclashed_turn candidate_of i.0 _ (iter_rest (zip_first old)) (iter_rest (zip_first new))
+      unclashed_turn candidate_in i.0 _ (iter_rest (zip_first old)) (iter_rest (zip_first new))
           (iter_rest (zip_second old)) (iter_rest (zip_second new)) c.in-Some.candidate.now c.in-Some.answer.now z.0 z.1
           i.2,
     )
@@ -37,4 +37,4 @@ pub returns : goal.returns
 returns c =
     let it = c.loop-candidate.candidate-iterator in
     let i = c.loop-candidate.invariant in
-    i.1.0 ∙ unclashed_end candidate_of i.0 _ (iter_rest (zip_first it)) (iter_rest (zip_second it)) (either_empty_from_Zip it c.next.new.self c.next.result c.in-None.is c.next.ensures.steps) i.2
+    i.1.0 ∙ unclashed_end candidate_in i.0 _ (iter_rest (zip_first it)) (iter_rest (zip_second it)) (either_empty_from_Zip it c.next.new.self c.next.result c.in-None.is c.next.ensures.steps) i.2

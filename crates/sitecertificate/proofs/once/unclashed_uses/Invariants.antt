@@ -5,7 +5,7 @@ use Rattle.indexmap.specs.IndexSet.{insert_all}
 use Rattle.reversal.specs.VariableUses.{UsedVariable}
 use Rattle.sitecertificate.specs.EachOnce.{same_used, each_once}
 use Rattle.sitecertificate.specs.UseKeys.{HasUses}
-use Rattle.sitecertificate.specs.UsingModules.{candidate_of}
+use Rattle.sitecertificate.specs.UsingModules.{candidate_in}
 use Rattle.sitecertificate.proofs.OnceLemmas.{unclashed}
 use Rattle.sitecertificate.proofs.once.unclashed_uses.Given as goal
 
@@ -13,5 +13,5 @@ use Rattle.sitecertificate.proofs.once.unclashed_uses.Given as goal
 abbrev pub invariant-loop-candidate : goal.invariant-loop-candidate
 invariant-loop-candidate l =
     (ps : List UsedVariable) × HasUses l.once ps
-    × (insert_all same_used ps (unclashed (map candidate_of (iter_rest (zip_first l.candidate-iterator))) (iter_rest (zip_second l.candidate-iterator)))
-    ≡ each_once (unclashed (map candidate_of l.users) l.answers))
+    × (insert_all same_used ps (unclashed (map candidate_in (iter_rest (zip_first l.candidate-iterator))) (iter_rest (zip_second l.candidate-iterator)))
+    ≡ each_once (unclashed (map candidate_in l.users) l.answers))

@@ -7,13 +7,13 @@ use Rattle.sitecertificate.specs.UseViews.{used_view}
 use Rattle.sitecertificate.specs.ClashAnswers.{without_clash}
 use Rattle.sitecertificate.specs.EachOnce.{same_used}
 use Rattle.sitecertificate.specs.UseKeys.{HasUses}
-use Rattle.sitecertificate.specs.UsingModules.{candidate_of}
+use Rattle.sitecertificate.specs.UsingModules.{candidate_in}
 use Rattle.sitecertificate.proofs.OnceLemmas.{inserted_again}
 use Rattle.sitecertificate.proofs.once.UsesOnce.add_unclashed.Goals as goal
 
 pub returns-in-None : goal.returns-in-None
 returns-in-None c =
-    let m = candidate_of c.args.candidate.now in
+    let m = candidate_in c.args.candidate.now in
     on_ok_weaker c.add_all.result
     (λ (h : (ps : List UsedVariable) → HasUses c.args.self.now ps → HasUses c.add_all.new.self (insert_all same_used ps (map used_view c.as_slice.result.now))). λ ps have.
     subst (HasUses c.add_all.new.self)
