@@ -82,7 +82,7 @@ tried='' failed=''
 scratch=${TMPDIR:-/tmp}/modulecmd.$$
 if test -z "${DESTDIR-}" && (umask 077 && mkdir -- "$scratch"); then
     trap 'rm -rf -- "$scratch"' EXIT
-    trap 'exit 1' HUP INT TERM
+    trap 'exit 1' HUP INT PIPE TERM
     mkdir -- "$scratch/modulefiles"
     printf '%s\n' '#%Module' 'setenv MODULE_INSTALLED yes' > "$scratch/modulefiles/installed"
     try_shell sh sh
@@ -106,4 +106,8 @@ What start-up files take it up (as root; where a folder isn't there, that shell 
   ln -s '$prefix/init/fish' /etc/fish/conf.d/modulecmd.fish        # fish
   echo ". '$prefix/init/zsh'" >> /etc/zshrc                        # zsh (Debian: /etc/zsh/zshrc)
   echo ". '$prefix/init/bash'" >> /etc/bash.bashrc                 # Debian: bash without login
+To try it now in this shell, with the modulefiles of the example:
+  . '$prefix/init/sh'                              # csh, tcsh: source '$prefix/init/csh'; fish: source '$prefix/init/fish'
+  module use '$prefix/share/examples'
+  module avail
 END

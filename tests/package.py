@@ -47,6 +47,9 @@ LIBRARY = re.compile(r"(/\S+) \(0x")
 PROGRAMS = ("modulecmd", "module")
 NEEDED = ("VERSION", "init/sh", "init/zsh", "libexec/ml.csh", "init/pager", "man/module.1", "etc/modulespath", "bin/module")
 
+# The manual pages.
+PAGES = sorted(os.listdir(os.path.join(TOP, "man")))
+
 # The utilities that install.sh and the init files take.
 FEW = "cat chmod cmp dirname env ln mkdir mv rm rmdir sed sh".split()
 
@@ -399,6 +402,27 @@ def test_an_install_says_in_which_shells_a_load_went_wrong(folder, packages):
     same(status, 1, f"the status, where is said: {err}")
 
 
+def test_an_install_whose_output_nobody_reads_to_its_end_leaves_no_scratch_folder(folder, packages):
+    place = folder.path.decode()
+    prefix, scratch = os.path.join(place, "prefix"), os.path.join(place, "scratch")
+    os.mkdir(scratch)
+    with packages.unpacked(packages.version) as archive:
+        script = os.path.join(archive, "install.sh")
+        line = f"sh '{script}' '{prefix}' 2> /dev/null | head -n 1 > /dev/null"
+        goes_well(["/bin/sh", "-c", line], env={**os.environ, "TMPDIR": scratch})
+    same(os.listdir(scratch), [], "what is left in the folder for scratch")
+
+
+def test_an_install_ends_with_what_shows_a_first_module(folder, packages):
+    prefix = os.path.join(folder.path.decode(), "a prefix")
+    with packages.unpacked(packages.version) as archive:
+        said = goes_well(["sh", os.path.join(archive, "install.sh"), prefix])
+    last = [line.split("  # ")[0].strip() for line in said.splitlines()[-3:]]
+    same(last[0], f". '{prefix}/init/sh'", "the first of the last lines")
+    out = goes_well(["sh", "-c", "; ".join(last) + ' 2> /dev/null; module load gcc && echo "$CC"'])
+    same(out, "gcc\n", "what a shell that runs the last lines can load")
+
+
 def test_an_install_under_a_closed_umask_is_open_to_all(folder, packages):
     prefix = os.path.join(folder.path.decode(), "new", "prefix")
     with packages.unpacked(packages.version) as archive:
@@ -601,6 +625,15 @@ def test_shells_log_in_by_the_rpm(packages, machine):
         machine.log_in(*LOGINS)
         machine.write("/etc/csh.cshrc", CSHRC)
         os.remove(f"{machine.root}/etc/zsh/zshrc")
+
+
+@needs_root
+@needs_rpm
+def test_man_finds_the_pages_of_the_rpm(packages, machine):
+    with machine.has_rpm(packages.rpm(packages.version)):
+        for page in PAGES:
+            path = f"{machine.root}/usr/share/man/man{page[-1]}/{page}"
+            true(os.path.isfile(path), f"{page} stands where man looks for it")
 
 
 @needs_root

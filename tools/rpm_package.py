@@ -10,6 +10,7 @@ import link
 
 PREFIX = "/usr/lib/modulecmd"
 DOC = "/usr/share/doc/modulecmd"
+MAN = "/usr/share/man"
 LINKS = {
     f"{PREFIX}/etc": "/etc/modulecmd",
     "/usr/bin/modaudit": "../lib/modulecmd/bin/modaudit",
@@ -95,7 +96,7 @@ def lay_out(folder, root):
         shutil.copy(own if os.path.exists(own) else os.path.join(folder, "docs", name), f"{root}{DOC}")
     shutil.rmtree(f"{root}{PREFIX}/share/doc")
     shutil.copytree(f"{folder}/LICENSES", f"{root}{PREFIX}/LICENSES")
-    for place, aim in LINKS.items():
+    for place, aim in [*LINKS.items(), *manual_pages(root)]:
         os.makedirs(os.path.dirname(root + place), exist_ok=True)
         os.symlink(aim, root + place)
     for folder, end, file in STARTS:
@@ -105,6 +106,14 @@ def lay_out(folder, root):
             os.symlink(aim, root + place)
 
 
+def manual_pages(root):
+    """The links by which `man` finds the pages of the prefix, each with what it leads to."""
+    own = f"{root}{PREFIX}/share/man"
+    for section in sorted(os.listdir(own)):
+        for page in sorted(os.listdir(f"{own}/{section}")):
+            yield f"{MAN}/{section}/{page}", f"../../../lib/modulecmd/share/man/{section}/{page}"
+
+
 def kind_of(path):
     """What rpm is to know of a file: which of them are the site's, are read, or are made by the alternatives."""
     name = os.path.basename(path)
@@ -112,7 +121,7 @@ def kind_of(path):
         return "%config(noreplace) "
     if path.startswith("/etc/alternatives/") or name.startswith("modules."):
         return "%ghost "
-    return "%doc " if path.startswith(DOC) else ""
+    return "%doc " if path.startswith((DOC, MAN)) else ""
 
 
 def file_lines(root):

@@ -197,6 +197,19 @@ def test_shows_more_than_a_screen_by_a_pager(real, shell, modules, start):
     at.settle(0.2)
 
 
+@at_terminals
+@pytest.mark.usefixtures("modules")
+def test_shows_a_long_report_whole_where_no_pager_can(real, shell, start):
+    """A pager that isn't there shows nothing, and on a terminal that can only print, a pager waits at its first line."""
+    real.starts_with(PAGER="nosuchpager")
+    at = start(real)
+    at.shows("/bin/stty rows 5 columns 34", b"\n")
+    at.shows("module avail", b"nosuchpager", b"gcc/9            mpi/1\r\n", b"gcc/11           top\r\n")
+    no_pager = shell.says.unsets.format("PAGER")
+    for line in (shell.says.sets.format("TERM", "dumb"), shell.says.unsets.format("TERM")):
+        at.shows(f"{no_pager}; {line}; module avail", b"gcc/9            mpi/1\r\n", b"gcc/12\r\n")
+
+
 @in_tcsh
 @pytest.mark.usefixtures("modules")
 def test_does_what_is_typed_behind_a_pager_that_was_suspended(real, start):
