@@ -17,7 +17,6 @@ ghost use Rattle.modules.specs.Answers.{GivesOrRefuses, StepAnswersOverTree, is_
 ghost use Rattle.descriptions.specs.Helps.{DescribesFound, Helps, HelpsFound, joined, with_call};
 ghost use Rattle.descriptions.specs.Views.{RunsText, context_for, help_view, lacks_by, loaded_names};
 
-use crate::all_names::modulepath;
 use crate::written::push_all;
 use envloaded::{loaded, names_of};
 use envvars::fields::owned;
@@ -27,7 +26,7 @@ use lookup::EvaluatedDefaultFiles;
 use modulefile::Mode;
 use modulerun::{FileContext, FileRun, RunFault, run_file};
 use modules::Refusal;
-use requests::whatis_report;
+use requests::{modulepath, whatis_report};
 use search::{LocatedModule, locate};
 use shelltext::Shell;
 use std::alloc::{AllocError, Global};
