@@ -679,6 +679,18 @@ def test_json(folder):
     same((done.stderr, done.returncode), (b"", 1), "standard error and status")
 
 
+def test_the_directories_above_are_made(folder):
+    """Those of the directory that is written, where they aren't there; none in the tree that is read, and none where
+    something else is in their place."""
+    old, new = tree(folder, {"a/1": COOKIE})
+    ends(folder, [old, os.path.join(new, b"x/y")], "", "", 0)
+    same(contents(new), {"x/y/a/1": COOKIE.encode()}, "what is written")
+    ends(folder, [old, os.path.join(old, b"x/y")], "", "ERROR: In the directory that is read\n", 2)
+    same(os.listdir(old), [b"a"], "what is read")
+    folder.file("file", "kept\n")
+    ends(folder, [old, os.path.join(folder.at("file"), b"x/y")], "", "ERROR: Can't be written\n", 2)
+
+
 def test_what_is_there_stays(folder):
     """A directory with files isn't written to, and neither is one in the tree that is read."""
     old, new = tree(folder, {"a/1": COOKIE})

@@ -43,6 +43,7 @@ SUITES = (
     "commands.py",
     "sites.py",
     "documents.py",
+    "public_names.py",
     "sentence.py",
     "certified.py",
     "hands.py",

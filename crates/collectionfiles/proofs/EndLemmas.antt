@@ -10,15 +10,15 @@ use Rattle.envvars.specs.Environment.{Environment}
 use Rattle.collections.specs.Lines.{Kept}
 use Rattle.collections.specs.Collections.{CollectionReason, max_length, read, too_long, no_text, something, with_lines, nothing}
 use Rattle.collections.specs.Saved.{IsSaved}
-use Rattle.collectionfiles.specs.Entries.{Entries, bytes_at, end_of, file, in_folder}
-use Rattle.collectionfiles.specs.Calls.{AddsFolders, Puts}
+use Rattle.collectionfiles.specs.Entries.{Entry, Entries, bytes_at, end_of, file, in_folder}
+use Rattle.collectionfiles.specs.Calls.{AddsFolders, AddsSome, MakesFolder, Puts, is_on_way, or_folder}
 use Rattle.collectionfiles.specs.Faults.{FileReason, no_collection, no_file, reason_of}
 use Rattle.collectionfiles.specs.Found.{kept_at, kept_in, said_of, short, shown_at}
 use Rattle.collectionfiles.specs.Places.{Folders, folders_for, in_folders}
 use Rattle.collectionfiles.specs.Ends.{at_free, free_end, is_free}
 use Rattle.collectionfiles.specs.Failures.{Failure, unread, unwritten, left, unsaved, IsSave, IsWrite, failure_by, failure_of, new_path}
 use Rattle.collectionfiles.specs.Prepared.{IsUnprepared}
-use Rattle.collectionfiles.specs.Saves.{Ends, IsNotSaved, Leaves, LeavesBy, Writes, WritesAt, WritesInFolder}
+use Rattle.collectionfiles.specs.Saves.{Ends, IsNotSaved, Leaves, LeavesBy, MakesOwn, Writes, WritesAt, WritesInFolder}
 use Rattle.collectionfiles.specs.Saves.{IsSavedAt, left_at, left_by, own_end, own_kept}
 use Rattle.collectionfiles.specs.declared.fault.FileFault.{FileFault}
 use Rattle.collectionfiles.specs.declared.unwritten.Unwritten.{Unwritten}
@@ -54,16 +54,26 @@ pub unwritten_at : (path : Text) (number : ℕ) (fault : FileFault) (a : Entries
 unwritten_at path number fault a h =
     some_as (failure_of fault) (λ f. f ≡ unwritten path) (IsWrite path number a) (λ f e. subst (IsWrite path number a) (sym e) (inl refl)) h
 
+some_at : (t : Bool) (path p : Text) (old new : Entry) → is_on_way path p ≡ t → new ≡ (if t then or_folder old else old)
+    → (new ≡ old) ⊎ ((is_on_way path p ≡ true) × (new ≡ or_folder old))
+some_at true path p old new e h = inr (e, h)
+some_at false path p old new e h = inl h
+
+-- all of the folders are some of them
+some_added : (path : Text) (a b : Entries) → AddsFolders path a b → AddsSome path a b
+some_added path a b h = λ p. some_at (is_on_way path p) path p (a p) (b p) refl (h p)
+
 -- a write, once the folder is made
-pub in_made_folder : (folder path text : Text) (number : ℕ) (r : Result (Unit {0}) FileFault) (a m b : Entries) → AddsFolders a m
+pub in_made_folder : (folder path text : Text) (number : ℕ) (r : Result (Unit {0}) FileFault) (a m b : Entries) → AddsFolders folder a m
     → Writes path number text r m b → WritesInFolder folder path number text r a b
 in_made_folder folder path text number (Ok u) a m b added w = (m, added, w)
 in_made_folder folder path text number (Err fault) a m b added w =
-    (m, added, w.0, w.1, some_as (failure_of fault) (IsWrite path number m) (λ f. (f ≡ unwritten folder) ⊎ IsWrite path number m f) (λ f h. inr h) w.2)
+    (m, some_added folder a m added, w.0, w.1, some_as (failure_of fault) (IsWrite path number m) (λ f. (f ≡ unwritten folder) ⊎ IsWrite path number m f) (λ f h. inr h) w.2)
 
--- no folder is added
-pub none_added : (a : Entries) → AddsFolders a a
-none_added a = λ p. inl refl
+-- a save that is refused may have made no folder
+pub none_made : (folders : Result Folders FileReason) (fault : FileFault) (a : Entries) → MakesOwn folders (Err fault) a a
+none_made (Ok folders) fault a = λ p. inl refl
+none_made (Err reason) fault a = λ p. refl
 
 -- a result that is an error by a true test is no value
 no_value : (t : Bool) {A R : Type 0} (r : R) (x : Result A R) (a : A) → (if t then Err r else x) ≡ Ok a → t ≡ false
@@ -140,12 +150,19 @@ module _ (env : Environment) (name path : Text) (folders : Folders) (found : fol
     failed_as a (unsaved wrong) (inl e) = cc
     failed_as a (unsaved wrong) (inr h) = absurd h
 
+    made_own : (r : Result (Unit {0}) FileFault) (a m : Entries) → MakesFolder folder r a m
+        → MakesOwn (folders_for env name) r a m
+    made_own r a m h =
+        subst (λ (f : Result Folders FileReason). MakesOwn f r a m) (sym found)
+        (subst (λ (t : Text). MakesFolder t r a m) is_own h)
+
     pub ended : (text : Text) → IsSaved kept text → is_utf8 text ≡ true → (r : Result (Unit {0}) FileFault) (a b : Entries)
-        → WritesInFolder folder path number text r a b → (m : Entries) × AddsFolders a m × Ends env name number kept r m b
-    ended text saved utf8 (Ok u) a b w = (w.0, w.1, is_saved text kept saved utf8 w.0 b w.2)
+        → WritesInFolder folder path number text r a b
+        → (m : Entries) × MakesOwn (folders_for env name) r a m × Ends env name number kept r m b
+    ended text saved utf8 (Ok u) a b w = (w.0, made_own (Ok u) a w.0 w.1, is_saved text kept saved utf8 w.0 b w.2)
     ended text saved utf8 (Err fault) a b w = (
       w.0,
-      w.1,
+      made_own (Err fault) a w.0 w.1,
       record {
         reason = reason_as (reason_of fault) w.0 w.2;
         left = w.3;

@@ -1,8 +1,10 @@
 -- What calls of a system tell of the entries at paths, and what they do to them (POSIX XSH: lstat, readlink, read,
 -- readdir, mkdir, open with O_EXCL, write, rename, unlink).
-use Rattle.std.specs.Prelude.{◌≡◌, ◌⊎◌, bytes_eq, if◌then◌else◌, Result, Ok, Err}
+use Rattle.std.specs.Prelude.{◌≡◌, ◌⊎◌, [], ◌∷◌, ◌++◌, Bool, true, not, ◌&&◌, ◌||◌, bytes_eq, nat_eq, if◌then◌else◌}
+use Rattle.std.specs.Prelude.{Result, Ok, Err}
+use Rattle.std.specs.List.{starts_with}
 use Rattle.envvars.specs.Texts.{Text}
-use Rattle.collectionfiles.specs.Entries.{Entry, Entries, nothing, file, folder}
+use Rattle.collectionfiles.specs.Entries.{Entry, Entries, nothing, file, folder, link, other, slash}
 use Rattle.collectionfiles.specs.declared.storage.StorageFault.{StorageFault}
 use Rattle.collectionfiles.specs.declared.storage.CreationFault.{CreationFault}
 use Rattle.collectionfiles.specs.declared.storage.CreationFault.TheVariants.{NotMade, Unfinished}
@@ -56,6 +58,27 @@ Moves from to old new = (p : Text) → new p ≡ with_at (with_at old from nothi
 abbrev pub Clears : Text → Entries → Entries → Type 0
 Clears path old new = Puts path nothing old new
 
--- Folders are where nothing was.
-abbrev pub AddsFolders : Entries → Entries → Type 0
-AddsFolders old new = (p : Text) → (new p ≡ old p) ⊎ ((old p ≡ nothing) × (new p ≡ folder))
+-- A path is on the way to another one: it is this, or what stands before one of its slashes, unless that is empty.
+abbrev pub is_on_way : Text → Text → Bool
+is_on_way path p = not (bytes_eq p []) && (bytes_eq p path || starts_with nat_eq path (p ++ slash ∷ []))
+
+-- a folder where nothing was
+abbrev pub or_folder : Entry → Entry
+or_folder nothing = folder
+or_folder (file bytes) = file bytes
+or_folder folder = folder
+or_folder (link target) = link target
+or_folder other = other
+
+-- Folders are where nothing was, at the path and on the way to it, and nothing else differs.
+abbrev pub AddsFolders : Text → Entries → Entries → Type 0
+AddsFolders path old new = (p : Text) → new p ≡ (if is_on_way path p then or_folder (old p) else old p)
+
+-- some of these folders are there, or none
+abbrev pub AddsSome : Text → Entries → Entries → Type 0
+AddsSome path old new = (p : Text) → (new p ≡ old p) ⊎ ((is_on_way path p ≡ true) × (new p ≡ or_folder (old p)))
+
+-- what a call that makes a folder has done; one that fails has made some of those on the way, or none
+abbrev pub MakesFolder : {F : Type 0} → Text → Result (Unit {0}) F → Entries → Entries → Type 0
+MakesFolder path (Ok u) old new = AddsFolders path old new
+MakesFolder path (Err fault) old new = AddsSome path old new

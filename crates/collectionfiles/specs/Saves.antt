@@ -6,7 +6,7 @@ use Rattle.envvars.specs.Environment.{Environment}
 use Rattle.collections.specs.Lines.{Kept}
 use Rattle.collections.specs.Saved.{IsSaved}
 use Rattle.collectionfiles.specs.Entries.{Entries, nothing, file, in_folder}
-use Rattle.collectionfiles.specs.Calls.{AddsFolders, AreSame, Clears, Makes, Moves, Puts}
+use Rattle.collectionfiles.specs.Calls.{AddsFolders, AddsSome, AreSame, Clears, Makes, MakesFolder, Moves, Puts}
 use Rattle.collectionfiles.specs.Places.{Folders, folders_for, in_folders}
 use Rattle.collectionfiles.specs.Ends.{free_end}
 use Rattle.collectionfiles.specs.Failures.{IsSave, IsWrite, failure_by, failure_of, unwritten}
@@ -95,9 +95,9 @@ Writes path number text (Err fault) old new =
 -- the same, once this folder is made, or couldn't be
 abbrev pub WritesInFolder : Text → Text → ℕ → Text → Result (Unit {0}) FileFault → Entries → Entries → Type 0
 WritesInFolder folder path number text (Ok u) old new =
-    (middle : Entries) × AddsFolders old middle × Writes path number text (Ok u) middle new
+    (middle : Entries) × AddsFolders folder old middle × Writes path number text (Ok u) middle new
 WritesInFolder folder path number text (Err fault) old new =
-    (middle : Entries) × AddsFolders old middle
+    (middle : Entries) × AddsSome folder old middle
     × IfSome (reason_of fault) (λ reason. free_end middle path ≡ Err reason) × LeavesBy fault middle new
     × IfSome (failure_of fault) (λ f. (f ≡ unwritten folder) ⊎ IsWrite path number middle f)
 
@@ -131,7 +131,13 @@ abbrev pub Ends : Environment → Text → ℕ → Kept → Result (Unit {0}) Fi
 Ends env name number kept (Ok u) old new = IsSavedAt env name kept old new
 Ends env name number kept (Err fault) old new = IsNotSaved env name number kept fault old new
 
+-- The user's folder and those on the way to it are there; where the save is refused, some of them may have been made, and
+-- none where no folders are for the name.
+abbrev pub MakesOwn : Result Folders FileReason → Result (Unit {0}) FileFault → Entries → Entries → Type 0
+MakesOwn (Ok folders) result old new = MakesFolder folders.own result old new
+MakesOwn (Err reason) result old new = AreSame old new
+
 -- what saving has done: folders where nothing was, and then this; the new file is named by the number
 abbrev pub Saves : Environment → Text → ℕ → Kept → Result (Unit {0}) FileFault → Entries → Entries → Type 0
 Saves env name number kept result old new =
-    (middle : Entries) × AddsFolders old middle × Ends env name number kept result middle new
+    (middle : Entries) × MakesOwn (folders_for env name) result old middle × Ends env name number kept result middle new

@@ -4,7 +4,7 @@ ghost use Rattle.message.specs.Answers.{Gives};
 ghost use Rattle.collections.specs.Saved.{IsSaved};
 ghost use Rattle.collections.specs.Views.{kept_view};
 ghost use Rattle.collectionfiles.specs.Entries.{file};
-ghost use Rattle.collectionfiles.specs.Calls.{AddsFolders, Changes, InEach, Narrows};
+ghost use Rattle.collectionfiles.specs.Calls.{Changes, InEach, MakesFolder, Narrows};
 ghost use Rattle.collectionfiles.specs.Ends as ends;
 ghost use Rattle.collectionfiles.specs.Failures as failures;
 ghost use Rattle.collectionfiles.specs.Failures.{failure_of, unwritten};
@@ -239,9 +239,9 @@ fn prepare(
     })
 }
 
-/// Makes the folder.
+/// Makes the folder, and those on the way to it, where they aren't there.
 fn make<S: Storage>(alloc: Global, storage: &mut S, folder: &str) -> Result<(), FileFault>
-    ensures made { Changes (S.agrees storage.old) (S.agrees storage.new) AddsFolders }
+    ensures made { Changes (S.agrees storage.old) (S.agrees storage.new) (MakesFolder folder.now result) }
     ensures fault { IfErr result (λ fault. reason_of fault ≡ None) }
     ensures failure { IfErr result (λ fault. IfSome (failure_of fault) (λ f. f ≡ unwritten folder.now)) }
 {
@@ -276,7 +276,8 @@ fn write_prepared<S: Storage>(
 
 /// Saves a collection as the user's of this name: its file, to which links lead on, is given the text by way of a new
 /// file beside it, `.new.` with the number, which should be no other process's. Afterwards it is read as the collection,
-/// and no other file differs; or none differs at all.
+/// and no other file differs; or none differs at all. The user's folder and those on the way to it are made where nothing
+/// was, and no others.
 ///
 /// The errors: `BadName`, no collection can have this name; `NoHome`, no variable says where it would lie; `Unsaved`, no
 /// file can keep the collection; `NoFile`, a folder, a pipe or too many links are where the file should be; `Writing`,

@@ -3,7 +3,7 @@ ghost use Rattle.std.specs.Prelude.{◌≡◌, true, IfOk, take};
 ghost use Rattle.envvars.specs.Texts.{Text, has, texts_in};
 ghost use Rattle.collectionfiles.specs.Entries.{Entries, file, in_folder, is_there};
 ghost use Rattle.collectionfiles.specs.Names.{is_collection_name};
-ghost use Rattle.collectionfiles.specs.Calls.{AddsFolders, Changes, Clears, Creates, Does, InEach, Moves, Narrows};
+ghost use Rattle.collectionfiles.specs.Calls.{Changes, Clears, Creates, Does, InEach, MakesFolder, Moves, Narrows};
 ghost use Rattle.collectionfiles.specs.Seen.{IsSeen};
 ghost use Rattle.collectionfiles.specs.declared.storage.StorageFault.TheVariants.{OutOfMemory};
 
@@ -96,9 +96,9 @@ pub trait Storage {
 
     /// Makes the folder of this path, and those on the way, where they aren't there.
     ///
-    /// It fails where the system does; some folders may then be made.
+    /// It fails where the system does; some of them may then be made.
     fn make_folder(&mut self, path: &str) -> Result<(), StorageFault>
-        ensures { Changes (agrees self.old) (agrees self.new) AddsFolders };
+        ensures { Changes (agrees self.old) (agrees self.new) (MakesFolder path.now result) };
 
     /// Makes a file where nothing is at the path, not even a link (open(2) with O_EXCL), and writes these bytes.
     ///

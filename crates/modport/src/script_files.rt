@@ -3,7 +3,7 @@
 use crate::fault::PortFault;
 use crate::texts::joined;
 use aliases::ShellScript;
-use modulepath::absolute_path;
+use processinput::absolute_path;
 use std::alloc::Global;
 use std::env::VarError;
 use std::fs::OpenOptions;

@@ -17,6 +17,7 @@ use std::alloc::{AllocError, Global};
 use std::fs::{Metadata, Permissions};
 use std::io::Write;
 use std::os::unix::fs::symlink;
+use std::path::Path;
 use std::{fs, mem};
 
 /// The most directories that are walked.
@@ -99,18 +100,41 @@ pub(crate) fn name_below(alloc: Global, above: &str, name: &str) -> Result<Strin
     joined(alloc, above, name)
 }
 
-/// Makes the directory that is written, or takes an empty one.
-fn begin(rt: &HostRuntime, from: &str, to: &str) -> Result<(), PortFault> {
-    if fs::create_dir(rt, to).is_err() && !names_in(rt, to)?.is_empty() {
-        return Err(PortFault::NotEmpty);
-    }
-    let (Ok(from), Ok(to)) = (fs::canonicalize(rt, from), fs::canonicalize(rt, to)) else {
+/// Whether a path leads into the directory that is read: the first one that is there of it and of those above it does.
+fn is_inside(rt: &HostRuntime, from: &str, to: &str) -> Result<bool, PortFault> {
+    let Ok(from) = fs::canonicalize(rt, from) else {
         return Err(PortFault::Unreadable);
     };
-    if to.as_path().starts_with(from.as_path()) {
+    for place in Path::new(to).ancestors() {
+        let place = if place.as_str().is_empty() {
+            "."
+        } else {
+            place.as_str()
+        };
+        if let Ok(place) = fs::canonicalize(rt, place) {
+            return Ok(place.as_path().starts_with(from.as_path()));
+        }
+    }
+    Ok(false)
+}
+
+/// Makes the directory that is written, and those above it, where they aren't there, or takes an empty one.
+fn begin(rt: &HostRuntime, from: &str, to: &str) -> Result<(), PortFault> {
+    if fs::metadata(rt, to).is_ok() && !names_in(rt, to)?.is_empty() {
+        return Err(PortFault::NotEmpty);
+    }
+    if is_inside(rt, from, to)? {
         return Err(PortFault::Inside);
     }
-    Ok(())
+    if fs::create_dir_all(rt, to).is_err() {
+        return Err(PortFault::Unwritable);
+    }
+    // Two points behind a directory that wasn't there can lead elsewhere now.
+    if is_inside(rt, from, to)? {
+        Err(PortFault::Inside)
+    } else {
+        Ok(())
+    }
 }
 
 /// The home of a file of this module, where this is the folder for its scripts.

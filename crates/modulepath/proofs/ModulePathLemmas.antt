@@ -7,7 +7,7 @@ use Rattle.std.specs.Option.{option_map, option_map_or}
 use Rattle.envvars.specs.Texts.{Text, has, slice_texts}
 use Rattle.envvars.specs.Fields.{without_repeats}
 use Rattle.envvars.proofs.FieldLemmas.{has-without_repeats}
-use Rattle.modulepath.specs.AbsolutePaths.{absolute_path}
+use Rattle.processinput.specs.AbsolutePaths.{absolute_path}
 use Rattle.envpaths.specs.declared.adding.End.{End}
 use Rattle.modulepath.specs.ModulePaths.{at_end, names_one, unused, used}
 

@@ -9,7 +9,7 @@ use Rattle.envvars.specs.Fields.{elements_in, text_of_elements, without, without
 use Rattle.envvars.proofs.EditLemmas.{both_true, and_both, not_is}
 use Rattle.envpaths.specs.declared.adding.End.{End}
 use Rattle.envpaths.specs.declared.adding.End.TheVariants.{Front, Back}
-use Rattle.modulepath.specs.AbsolutePaths.{absolute_path, is_absolute, led_along, path_of}
+use Rattle.processinput.specs.AbsolutePaths.{absolute_path, is_absolute, led_along, path_of}
 use Rattle.modulepath.specs.ModulePaths.{directories_in, unused, names_one, used}
 use Rattle.modulepath.specs.Faults.{PathReason, no_name, no_working_directory, has_colon}
 use Rattle.modulepath.specs.Words.{held, holdable, before, each}

@@ -1,4 +1,3 @@
-pub mod AbsolutePaths
 pub mod ModulePaths
 pub mod Faults
 pub mod Words

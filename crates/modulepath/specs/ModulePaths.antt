@@ -6,7 +6,7 @@ use Rattle.envvars.specs.Texts.{Text, has}
 use Rattle.envvars.specs.Fields.{elements_in, without_repeats}
 use Rattle.envpaths.specs.declared.adding.End.{End}
 use Rattle.envpaths.specs.declared.adding.End.TheVariants.{Front, Back}
-use Rattle.modulepath.specs.AbsolutePaths.{absolute_path}
+use Rattle.processinput.specs.AbsolutePaths.{absolute_path}
 
 -- the name of the variable
 abbrev pub modulepath : Text

@@ -4,7 +4,7 @@ use Rattle.std.specs.List.{list_any}
 use Rattle.std.specs.Option.{ok_or}
 use Rattle.envvars.specs.Texts.{Text}
 use Rattle.envvars.specs.Fields.{colon}
-use Rattle.modulepath.specs.AbsolutePaths.{absolute_path}
+use Rattle.processinput.specs.AbsolutePaths.{absolute_path}
 use Rattle.modulepath.specs.Faults.{PathReason, no_name, no_working_directory, has_colon}
 
 -- the absolute path that a word names

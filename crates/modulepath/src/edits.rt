@@ -10,12 +10,12 @@ ghost use Rattle.modulepath.specs.Faults.{reason_of};
 ghost use Rattle.modulepath.specs.Edits.{EditsPath, unused_text, used_text};
 ghost use Rattle.modulepath.specs.declared.fault.ModulePathFault.TheVariants.{OutOfMemory};
 
-use crate::absolute::absolute_path;
 use crate::fault::ModulePathFault;
 use envpaths::End;
 use envvars::Vars;
 use envvars::fields::{deduplicated, elements, join, slices, text_of_elements};
 use indexmap::IndexSet;
+use processinput::absolute_path;
 use std::alloc::{AllocError, Global};
 
 /// How many bytes `use` makes MODULEPATH at most: of a longer text a shell may hand on nothing to a program.

@@ -2,13 +2,11 @@
 //! Takes memory; touches MODULEPATH alone, and not where the call is refused.
 #![tactic(auto)]
 
-mod absolute;
 mod edits;
 mod fault;
 mod laws;
 mod words;
 
-pub use absolute::absolute_path;
 pub use edits::{unuse_directories, use_directories};
 pub use fault::ModulePathFault;
 pub use laws::paths_read_again;

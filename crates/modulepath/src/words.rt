@@ -6,8 +6,8 @@ ghost use Rattle.envvars.specs.Texts.{texts_in};
 ghost use Rattle.modulepath.specs.Faults.{reason_of};
 ghost use Rattle.modulepath.specs.Words.{each, holdable, named};
 
-use crate::absolute::absolute_path;
 use crate::fault::ModulePathFault;
+use processinput::absolute_path;
 use std::alloc::Global;
 
 /// The absolute path that a word names.

@@ -1,2 +1,3 @@
+pub mod AbsolutePaths
 pub mod Faults
 pub mod Inputs

@@ -1,7 +1,8 @@
 use Rattle.std.proofs.Common.{string_bytes}
 use Rattle.std.proofs.lemmas.Str.{IsUtf8-string_bytes, is_utf8-from_IsUtf8}
 use Rattle.collections.specs.Views.{kept_view}
-use Rattle.collectionfiles.proofs.EndLemmas.{ended, none_added, refused}
+use Rattle.collectionfiles.specs.Places.{folders_for}
+use Rattle.collectionfiles.proofs.EndLemmas.{ended, none_made, refused}
 use Rattle.collectionfiles.proofs.save.save_collection.Goals as goal
 
 pub returns-in-Ok : goal.returns-in-Ok
@@ -17,4 +18,4 @@ returns-in-Ok g c = λ new b.
 
 pub returns-in-Err : goal.returns-in-Err
 returns-in-Err g c = λ new b.
-    (new, b, (new, none_added new, refused c.args.env.now c.args.name.now c.args.number (kept_view c.args.collection.now) c.in-Err.fault new c.in-Err.ensures.fault c.in-Err.ensures.failure))
+    (new, b, (new, none_made (folders_for c.args.env.now c.args.name.now) c.in-Err.fault new, refused c.args.env.now c.args.name.now c.args.number (kept_view c.args.collection.now) c.in-Err.fault new c.in-Err.ensures.fault c.in-Err.ensures.failure))

@@ -1,10 +1,11 @@
 -- The absolute path of a directory, by the working directory and the text alone (own; POSIX XBD 4.13, without looking
 -- whether anything is there).
-use Rattle.std.specs.Prelude.{ℕ, ◌-◌, List, [], ◌∷◌, ◌++◌, Bool, ◌||◌, ◌==◌, codes, bytes_eq, nat_eq, length, take}
+use Rattle.std.specs.Prelude.{ℕ, ◌-◌, List, [], ◌∷◌, ◌++◌, Bool, ◌||◌, ◌==◌, codes, bytes_eq, nat_eq, length, map, take}
 use Rattle.std.specs.Prelude.{fold, if◌then◌else◌, Option, Some}
 use Rattle.std.specs.List.{slice_split, join_with_byte, starts_with}
 use Rattle.std.specs.Option.{option_map}
-use Rattle.envvars.specs.Texts.{Text}
+use Rattle.std.specs.Borrow.{Bor}
+use Rattle.message.specs.Messages.{Text}
 
 -- what stands between the names of a path
 abbrev pub slash : ℕ
@@ -37,6 +38,10 @@ led_along place path = fold led place (parts_of path)
 -- the path of a place
 abbrev pub path_of : List Text → Text
 path_of place = slash ∷ join_with_byte slash place
+
+-- the names of a place, of borrowed texts
+abbrev pub names_in : List (Bor Text) → List Text
+names_in place = map (λ name. name.now) place
 
 -- The absolute path of a directory: from the root, or from the working directory. A relative one has none where there
 -- is no working directory.

@@ -1,15 +1,28 @@
 //! Absolute paths of directories, by the working directory and the text alone.
-ghost use Rattle.std.specs.Prelude.{◌≡◌, IfOk, OnOk, fold, string_bytes};
+ghost use Rattle.std.specs.Prelude.{◌≡◌, IfOk, OnOk, fold, map, string_bytes};
+ghost use Rattle.std.specs.List.{join_with_byte};
 ghost use Rattle.std.specs.Option.{option_map};
-ghost use Rattle.envvars.specs.Texts.{slice_texts};
-ghost use Rattle.modulepath.specs.AbsolutePaths.{absolute_path, led, led_along, path_of};
+ghost use Rattle.processinput.specs.AbsolutePaths.{absolute_path, led, led_along, names_in, parts_of, path_of, slash};
 
-use envvars::fields::{join, parts};
 use std::alloc::{AllocError, Global};
+
+/// The parts of a path between its slashes.
+fn parts_of(alloc: Global, path: &str) -> Result<Vec<&str>, AllocError>
+    ensures { IfOk result (λ parts. names_in parts.items ≡ parts_of path.entry.now) }
+{
+    path.split('/').collect(alloc)
+}
+
+/// The names with slashes between them.
+fn joined(alloc: Global, names: &[&str]) -> Result<String, AllocError>
+    ensures { IfOk result (λ text. string_bytes text ≡ join_with_byte slash (names_in names.now)) }
+{
+    names.join(alloc, "/")
+}
 
 /// Goes where a part of a path leads.
 fn lead<'a>(place: &mut Vec<&'a str>, part: &'a str) -> Result<(), AllocError>
-    ensures { OnOk result (slice_texts place.new.items ≡ led (slice_texts place.old.items) part.entry.now) }
+    ensures { OnOk result (names_in place.new.items ≡ led (names_in place.old.items) part.entry.now) }
 {
     if part.is_empty() || part == "." {
         return Ok(());
@@ -24,8 +37,8 @@ fn lead<'a>(place: &mut Vec<&'a str>, part: &'a str) -> Result<(), AllocError>
 
 /// Goes where each of the parts leads.
 fn lead_each<'a>(place: &mut Vec<&'a str>, parts: &[&'a str]) -> Result<(), AllocError>
-    ensures { OnOk result (slice_texts place.new.items
-        ≡ fold led (slice_texts place.old.items) (slice_texts parts.entry.now)) }
+    ensures { OnOk result (names_in place.new.items
+        ≡ fold led (names_in place.old.items) (names_in parts.entry.now)) }
 {
     for part in parts {
         lead(place, part)?;
@@ -35,17 +48,17 @@ fn lead_each<'a>(place: &mut Vec<&'a str>, parts: &[&'a str]) -> Result<(), Allo
 
 /// Goes where a path leads.
 fn lead_along<'a>(alloc: Global, place: &mut Vec<&'a str>, path: &'a str) -> Result<(), AllocError>
-    ensures { OnOk result (slice_texts place.new.items ≡ led_along (slice_texts place.old.items) path.entry.now) }
+    ensures { OnOk result (names_in place.new.items ≡ led_along (names_in place.old.items) path.entry.now) }
 {
-    let parts = parts(alloc, path, '/')?;
+    let parts = parts_of(alloc, path)?;
     lead_each(place, parts.as_slice())
 }
 
 /// The path of a place.
 fn path_of(alloc: Global, place: &[&str]) -> Result<String, AllocError>
-    ensures { IfOk result (λ path. string_bytes path ≡ path_of (slice_texts place.now)) }
+    ensures { IfOk result (λ path. string_bytes path ≡ path_of (names_in place.now)) }
 {
-    let names = join(alloc, place, '/')?;
+    let names = joined(alloc, place)?;
     let mut path = String::with_capacity(alloc, names.len().wrapping_add(1))?;
     path.push('/')?;
     path.push_str(names.as_str())?;
