@@ -6,5 +6,6 @@ pub mod Output
 pub mod Words
 pub mod Runs
 pub mod Sites
+pub mod NotUtf8
 pub mod Checking
 pub mod CheckWords

@@ -3,7 +3,9 @@
 #![tactic(auto)]
 
 mod input;
+mod not_utf8;
 mod process;
 
 pub use input::{InputFault, read_input};
+pub use not_utf8::{GivenEnvironment, given_environment};
 pub use process::{arguments, environment_block};

@@ -2,5 +2,6 @@ pub mod DirectoryLemmas
 mod PartedLemmas
 mod TryingLemmas
 pub mod AuditLemmas
+mod FewerLemmas
 mod PathLemmas
 mod ReadableLemmas

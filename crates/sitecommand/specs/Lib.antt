@@ -4,5 +4,6 @@ pub mod ArgumentViews
 pub mod Faults
 pub mod Audits
 pub mod Looked
+pub mod NotUtf8
 pub mod Tried
 pub mod Steps

@@ -7,8 +7,10 @@ mod audit_exit;
 mod audit_fault;
 mod directories;
 mod layout;
+mod not_utf8;
 mod readable;
 mod running;
+mod there;
 mod trying;
 mod unreadable;
 
