@@ -126,7 +126,7 @@ fn unless_hidden(hidden: &[String], fault: AuditFault) -> AuditFault
     }
 }
 
-/// Whether so many paths are hidden at most.
+/// Whether these are as many paths as are hidden at most.
 fn are_most(paths: &[String]) -> bool
     ensures { result ≡ true → 1000 ≤ length paths.now }
 {
@@ -220,8 +220,8 @@ fn audit_without<T: Tree + Drop, P: WalkProgress>(
 
 /// The audit of the site of an environment; where something can't be read, without that.
 ///
-/// Where a word names a directory that can't be read there is none (43), nor where the device failed at more than a thousand
-/// paths.
+/// Where a word names a directory that can't be read there is none (43), nor where the device failed at more than a
+/// thousand paths.
 pub(crate) fn audit_readable<T: Tree + Drop, P: WalkProgress>(
     alloc: Global,
     directories: &[String],

@@ -63,8 +63,8 @@ this_moved s not_utf8 start name path d t o loads step h = (
 
 by_load : (s : RequestContext) (not_utf8 : List Text) (e : Environment) (name path : Text) (t : Trial) → IsDecided t
     → HasTrial s not_utf8 e name path t → ByLoad s not_utf8 e name path t
-by_load s not_utf8 e name path returns so (d, back, loads, step, h) =
-    this_moved s not_utf8 e name path d returns (Ok back) loads step h
+by_load s not_utf8 e name path returns so (d, back, loads, step, h, kept) =
+    this_moved s not_utf8 e name path d returns (Ok back) loads step (h, kept)
 by_load s not_utf8 e name path (leaves names) so (d, back, loads, step, h) =
     this_moved s not_utf8 e name path d (leaves names) (Ok back) loads step h
 by_load s not_utf8 e name path (load_refused memory) so h = absurd h
