@@ -53,7 +53,7 @@ answered exit layout agrees has_failed before now e not_utf8 arguments answer ou
         tried = tried.tried;
         ended = tried.failed;
         counted = tried.counted;
-        not_utf8 = tried.not_utf8;
+        named = tried.named;
       },
       subst (λ (text : Text). WritesAudit exit (all_certified audit) text out out' err err') is.prepared.report
           (subst (λ (all : Bool). WritesAudit exit all answer.report.items out out' err err') is.prepared.certified h),

@@ -204,7 +204,7 @@ module _ {T : Type 0} (agrees : T → Files → Listings → Type 0) (failures :
         tried = subst (λ (f : SiteAudit). InEachPair (agrees new) (λ files listings. AreTrials (in_sh standard files listings) not_utf8 judged f.modules.items audit.trials.items)) (sym same_found) tried;
         failed = omega (arith, counts, ended);
         counted = subst (λ (ps : _). length (texts_in ps) + count ≤ failures new) (sym same_paths) (omega (arith, readable.counted, ended));
-        not_utf8 = subst (λ (f : SiteAudit). texts_in audit.not_utf8 ≡ concerned f.certificate.items not_utf8) (sym same_found) kept_names;
+        named = subst (λ (f : SiteAudit). texts_in audit.not_utf8 ≡ concerned f.certificate.items not_utf8) (sym same_found) kept_names;
       }
 
   -- the trials read on, at paths of their own

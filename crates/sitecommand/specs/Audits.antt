@@ -148,7 +148,7 @@ pub record IsAudited (agrees : Files → Listings → Type 0) (has_failed : Text
       (judged_env e wanted.directories) audit.found.modules.items audit.trials.items)
   pub ended : before + failed_in audit.trials.items ≤ now
   pub counted : length (texts_in audit.unreadable) + failed_in audit.trials.items ≤ now
-  pub not_utf8 : texts_in audit.not_utf8 ≡ concerned audit.found.certificate.items not_utf8
+  pub named : texts_in audit.not_utf8 ≡ concerned audit.found.certificate.items not_utf8
 
 -- ---- what is written
 

@@ -1,5 +1,6 @@
 -- For the contracts of private functions: the steps of an audit (own).
-use Rattle.std.specs.Prelude.{◌≡◌, ◌⊎◌, ℕ, ◌+◌, ◌<◌, ◌≤◌, length, ◌&&◌, ◌||◌, Bool, true, false, List, Option, Some, None, IsSome, if◌then◌else◌, not}
+use Rattle.std.specs.Prelude.{◌≡◌, ◌⊎◌, ◌&&◌, ◌||◌, Bool, true, false, List, Option, Some, None, IsSome, if◌then◌else◌, not}
+use Rattle.std.specs.Prelude.{ℕ, ◌+◌, ◌<◌, ◌≤◌, length}
 use Rattle.std.specs.Prelude.{Result, Ok, Err, bytes_eq, string_bytes}
 use Rattle.std.specs.BTreeSet.{BTreeSet, contains_text}
 use Rattle.std.specs.declared.alloc.Global.{Global}
@@ -113,7 +114,7 @@ pub record IsTriedAudit (agrees : Files → Listings → Type 0) (has_failed : T
       AreTrials (in_sh standard files listings) not_utf8 judged audit.found.modules.items audit.trials.items)
   pub failed : before + failed_in audit.trials.items ≤ now
   pub counted : length (texts_in audit.unreadable) + failed_in audit.trials.items ≤ now
-  pub not_utf8 : texts_in audit.not_utf8 ≡ concerned audit.found.certificate.items not_utf8
+  pub named : texts_in audit.not_utf8 ≡ concerned audit.found.certificate.items not_utf8
 
 -- What is to be written of an audit of what is asked for, where its lines are laid out so.
 pub record IsPrepared (layout : Layout) (agrees : Files → Listings → Type 0) (has_failed : Text → Bool) (before now : ℕ)

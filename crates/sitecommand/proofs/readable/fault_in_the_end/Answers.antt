@@ -1,4 +1,4 @@
-use Rattle.std.proofs.Common.{◌≤◌, List, map, string_bytes, String, length, arith}
+use Rattle.std.proofs.Common.{◌≡◌, ◌≤◌, List, map, string_bytes, String, length, arith}
 use Rattle.std.proofs.lemmas.List.{length-map}
 use Rattle.std.specs.declared.alloc.Global.{Global}
 use Rattle.envvars.specs.Texts.{Text}

@@ -43,7 +43,7 @@ returns-in_err-push-clause-failed g c =
     let mid = c.loop-module.tree in
     let new = c.trial_of.new.tree in
     reads_turn g.T.Tree.agrees g.T.Tree.failures failed c.args.tree.now mid new (TrialsLookAt judged modules) (has_failed_trial t) i.looked c.trial_of.ensures.reads
-          (trial_counted t (g.T.Tree.failures mid) (g.T.Tree.failures new) c.in_ok-trial_of.ensures.failures)
+    (trial_counted t (g.T.Tree.failures mid) (g.T.Tree.failures new) c.in_ok-trial_of.ensures.failures)
     (looks_among (g.T.Tree.agrees new) judged modules m (has_failed_trial t) (failed mid) (failed new)
     (among_at modules c.loop-module.module-index m c.loop-module-test.true c.module-item.is) c.in_ok-trial_of.ensures.failed)
 
