@@ -1795,6 +1795,7 @@ def test_the_document_says_the_same(folder):
         "bad_default_files": [f"{there}/a/.version"],
         "unread_default_files": [],
         "hanging_directories": [],
+        "not_utf8": [],
         "unknown_names": [
             {"name": "a/1", "path": f"{there}/a/1", "command": "conflict", "names": ["q"]},
             {"name": "f/1", "path": f"{there}/f/1", "command": "prereq", "names": ["y", "z"]},

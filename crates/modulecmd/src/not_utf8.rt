@@ -11,6 +11,14 @@ fn line_of(alloc: Global, name: &str) -> Result<String, AllocError>
     format!(in alloc; "# environment: {name} isn't UTF-8\n")
 }
 
+/// Adds the line of a variable that isn't UTF-8.
+fn push_line(alloc: Global, report: &mut String, name: &str) -> Result<(), AllocError>
+    ensures { OnOk result (string_bytes report.new ≡ string_bytes report.old ++ spec.line_of name.now) }
+{
+    let line = line_of(alloc, name)?;
+    report.push_str(line.as_str())
+}
+
 /// Adds a line for each of these variables.
 pub(crate) fn push_not_utf8(
     alloc: Global,
@@ -21,7 +29,7 @@ pub(crate) fn push_not_utf8(
         ≡ string_bytes report.old ++ spec.lines_of (map string_bytes names.now)) }
 {
     for name in names {
-        report.push_str(line_of(alloc, name.as_str())?.as_str())?;
+        push_line(alloc, report, name.as_str())?;
     }
     Ok(())
 }

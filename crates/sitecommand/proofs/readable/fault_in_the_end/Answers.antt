@@ -13,7 +13,7 @@ returns-then-are_most g c = λ is.
     let tree = c.args.tree.now in
     let paths = c.in-Ok.paths.items in
     let hidden = tree.hidden.items in
-    let many : 1000 ≤ length paths = rw c.as_slice-paths.ensures.value at (c.are_most.ensures c.if-are_most.true) in
+    let many : 1000 ≤ length paths = rw c.as_slice-2.ensures.value at (c.are_most.ensures c.if-are_most.true) in
     let as_many : length (texts paths) ≡ length paths = length-map paths (λ (s : String Global). string_bytes s) in
     let hidden_as_many : length (texts hidden) ≡ length hidden = length-map hidden (λ (s : String Global). string_bytes s) in
     failed_often (g.T.Tree.failed tree.tree) (g.T.Tree.failures tree.tree) (texts paths) (texts hidden) c.in-Ok.ensures.order
