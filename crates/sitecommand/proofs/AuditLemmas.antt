@@ -1,5 +1,5 @@
 -- The causes of faults, and how an audit ends.
-use Rattle.std.proofs.Common.{◌≡◌, ◌<◌, ℕ, Bool, List, Option, None, Result, Ok, Err, subst, inl}
+use Rattle.std.proofs.Common.{◌≡◌, ℕ, Bool, List, Option, None, Result, Ok, Err, subst, inl}
 use Rattle.std.specs.Prelude.{IfErr}
 use Rattle.envvars.specs.Texts.{Text}
 use Rattle.envvars.specs.Environment.{Environment}

@@ -23,7 +23,6 @@ use Rattle.sitelaws.specs.Sites.{Site, site_of}
 use Rattle.siteaudit.specs.Walks.{HasCause}
 use Rattle.siteaudit.specs.declared.fault.WalkFault.{WalkFault}
 use Rattle.siteaudit.specs.Audits.{IsAudit, CertificateStands, is_certified}
-use Rattle.siteaudit.specs.declared.auditing.SiteAudit.{SiteAudit}
 use Rattle.sitereport.specs.Documents.{document_text}
 use Rattle.sitereport.specs.Reports.{report_of}
 use Rattle.sitereport.specs.declared.readable.ReadableAudit.{ReadableAudit}

@@ -1,4 +1,4 @@
-use Rattle.std.proofs.Common.{Bool, ◌≤◌, List, map, string_bytes, String, sym, subst, ◌∙◌}
+use Rattle.std.proofs.Common.{Bool, List, map, string_bytes, String, sym, subst, ◌∙◌}
 use Rattle.std.specs.declared.alloc.Global.{Global}
 use Rattle.envvars.specs.Texts.{Text}
 use Rattle.sitecommand.specs.Audits.{HasFailedOften, IsSiteFault}

@@ -2,7 +2,7 @@ use Rattle.std.proofs.Common.{◌<◌, sym, ◌∙◌}
 use Rattle.std.proofs.lemmas.Result.{err_from_is_err_and}
 use Rattle.modules.specs.declared.refusal.Refusal.TheVariants.{OutOfMemory}
 use Rattle.sitecommand.specs.ArgumentViews.{wanted_view}
-use Rattle.sitecommand.specs.Audits.{HasFailedOften, given_up, is_nothing_there, judged_env, none_there}
+use Rattle.sitecommand.specs.Audits.{HasFailedOften, given_up, judged_env, none_there}
 use Rattle.sitecommand.proofs.DirectoryLemmas.{given_up_in}
 use Rattle.sitecommand.proofs.ReadableLemmas.{reads_nothing, site_given_up}
 use Rattle.sitecommand.proofs.running.prepare.Goals as goal
