@@ -1,6 +1,6 @@
 -- Trials of the modules of an audit, one after another, and what they read.
 use Rattle.std.proofs.Common.{◌≡◌, ◌+◌, ◌<◌, ◌≤◌, ℕ, zero, suc, arith, Bool, true, false, string_bytes, List, [], ◌∷◌, ◌++◌, map, take, length, get_or, Option}
-use Rattle.std.proofs.Common.{String, Global, refl, ap, sym, subst, ◌∙◌, inl, inr}
+use Rattle.std.proofs.Common.{String, Global, Some, None, refl, ap, sym, subst, ◌∙◌, inl, inr}
 use Rattle.std.proofs.lemmas.Bool.{false≢true}
 use Rattle.std.proofs.lemmas.List.{take_more}
 use Rattle.std.proofs.lemmas.List.Elements.{All-weaker}
