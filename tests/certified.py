@@ -400,8 +400,13 @@ def disagrees(found, site, env):
 
 
 def audited(program, session):
-    """modaudit says the same as the model of the site of a session, and of its start."""
+    """modaudit says the same as the model of the site of a session, and of its start. It refuses a site of which no
+    directory is there."""
     site, start = session.site, session.start
+    if not any(site.tree.is_there(directory) for directory in site.modulepath.split(":")):
+        done = subprocess.run([program], env=judged(site, start), capture_output=True, timeout=60, check=False)
+        same((done.stderr, done.returncode), (b"ERROR: MODULEPATH has no directory\n", 2), "of a site that isn't there")
+        return
     same(differs(audit_of(program, site, site.at_hand), site), None, "what differs from the model")
     same(disagrees(audit_of(program, site, start), site, start), None, "what differs of the start")
 

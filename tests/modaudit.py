@@ -1405,9 +1405,69 @@ def test_remarks_on_directories_that_are_not_there(folder):
     site.says([*lines, "# 3 certified of 5", "# 2 asks", *[f"# no directory: {path}" for path in missing], *added])
     same(site.document()["missing_directories"], [os.fsdecode(real(folder, path)) for path in missing], "the document")
     site.clear()
-    done = Site(folder, {}, "/m:/n").run()
-    gone = real(folder, "# 0 certified of 0\n# no directory: /m\n# no directory: /n\n")
-    same((done.stdout, done.stderr, done.returncode), (gone, b"", 0), "a MODULEPATH of which nothing is there")
+
+
+def test_a_modulepath_of_which_no_directory_is_there(folder):
+    """It is refused, as a directory that is named is; not one of which some are there, or something can't be read."""
+    Site(folder, {}).clear()
+    for modulepath in ("/m", "/m:/n", ":/m:"):
+        site = Site(folder, {}, modulepath)
+        site.refuses("MODULEPATH has no directory")
+        site.refuses("MODULEPATH has no directory", "--json", "--quiet")
+    os.makedirs(real(folder, "/n"))
+    Site(folder, {}, "/n").says(["# 0 certified of 0"])
+    Site(folder, {}, "/m:/n").says(["# 0 certified of 0", "# no directory: /m"])
+    ring(folder, "/n/ring")
+    lines = [unreadable_line("/n/ring"), "# 0 certified of 1", "# 1 refused", "# no directory: /m"]
+    Site(folder, {}, "/m:/n/ring").says(lines)
+
+
+# Variables that aren't UTF-8, which the program takes for unset.
+NOT_UTF8 = b"/z\xff"
+
+
+def without_utf8(site, *names):
+    """The site, in whose environment these variables aren't UTF-8."""
+    site.env.update({name.encode(): NOT_UTF8 for name in names})
+    return site
+
+
+def test_remarks_on_variables_that_are_not_utf8(folder):
+    """Those that certified modules use or read, or that the tool keeps itself."""
+    files = {"/m/a/1": "prepend-path P /a\nsetenv V on\ngetenv R\n", "/m/b/1": "setenv W x\nnope\n"}
+    lines = ["a/1\tcertified\treads R\t/m/a/1", 'b/1\trefused\tinvalid command name "nope" (line 3)\t/m/b/1']
+    lines += ["# 1 certified of 2", "# 1 refused"]
+    site = without_utf8(Site(folder, files), "W", "X")
+    site.says(lines)
+    same(site.document()["not_utf8"], [], "the document")
+    names = ["V", "P", "__MODULES_SHARE_Q", "R"]
+    without_utf8(site, *names).env[b"odd name"] = NOT_UTF8
+    site.says([*lines, *[f"# environment: {name} isn't UTF-8" for name in names]])
+    site.says([*lines[1:], *[f"# environment: {name} isn't UTF-8" for name in names]], "--quiet")
+    found = site.document()
+    same((found["not_utf8"], found["disagreements"]), (names, []), "the document with such variables")
+
+
+# By what a module does, whose load and unload are tried: what is said of it where V isn't UTF-8.
+NOT_UTF8_HERE = (
+    ("is-loaded\nsetenv V on\n", "leaves V"),
+    ("is-loaded\nprepend-path V /a\n", "leaves V"),
+    ("is-loaded\npushenv V on\n", "leaves V"),
+    ("is-loaded\nsetenv V on\nunsetenv W\n", "leaves W, V"),
+    ("is-loaded\nunsetenv V x\n", "leaves V"),
+    ("if {[module-info mode load]} {setenv V on}\n", "leaves V"),
+    ("is-loaded\nsetenv U on\ngetenv V\n", "returns"),
+    ("is-loaded\nunsetenv V\n", "returns"),
+    ("remove-path V /z\n", "returns"),
+    ("is-loaded\nprereq gone\nsetenv V on\n", "its load is refused: Missing one of 'gone'"),
+)
+
+
+@pytest.mark.parametrize("text, here", NOT_UTF8_HERE, ids=[text for text, _ in NOT_UTF8_HERE])
+def test_what_happens_with_a_variable_that_is_not_utf8(folder, text, here):
+    site = without_utf8(Site(folder, {"/m/a/1": text}, W="1"), "V")
+    (line,) = [line.split("\t") for line in site.run().stdout.decode().splitlines() if not line.startswith("#")]
+    same(line[4:], [here], f"the fifth field of {text!r}")
 
 
 def put(folder, files):
@@ -1469,6 +1529,7 @@ def test_random_files_by_the_model(folder, files):
     files = {path: text for path, text in files.items() if not any(other.startswith(f"{path}/") for other in files)}
     site = Site(folder, {}, "/m:/n:/m/a")
     site.clear()
+    os.makedirs(real(folder, "/m"))
     put(folder, files)
     wanted = standings.no_modulefiles(["/m", "/n", "/m/a"], files)
     same(site.document()["no_modulefiles"], [os.fsdecode(real(folder, path)) for path in wanted], f"of {files}")
@@ -1734,6 +1795,7 @@ def test_the_document_says_the_same(folder):
         "bad_default_files": [f"{there}/a/.version"],
         "unread_default_files": [],
         "hanging_directories": [],
+        "not_utf8": [],
         "unknown_names": [
             {"name": "a/1", "path": f"{there}/a/1", "command": "conflict", "names": ["q"]},
             {"name": "f/1", "path": f"{there}/f/1", "command": "prereq", "names": ["y", "z"]},

@@ -161,6 +161,19 @@ def test_each_module_once_in_the_order_of_its_first_load(folder):
     check.says("load k\nunload k\n", ["1 accepted", "2 accepted"], "unset K;\nunset LOADEDMODULES;\nunset _LMFILES_;\n")
 
 
+def test_variables_that_are_not_utf8(folder):
+    """Each has a line behind the verdicts; one that isn't named as a variable has none."""
+    check = Check(folder, PATH="/usr/bin:/bin")
+    check.env.update({b"FOO": b"\xfe", b"a-b": b"\xff", b"FINE": "é".encode(), b"_X1": b"/z\xff", b"1X": b"\xff"})
+    lines = ["1 accepted", "2 accepted", "foo/1.0: Plain", "# environment: FOO isn't UTF-8", "# environment: _X1 isn't UTF-8"]
+    for shell in SHELLS:
+        check.says("load foo\nunload foo\n", lines, shell=shell)
+    check.says("", lines[3:])
+    check.says("nope\n", ["1 refused: Unknown subcommand 'nope'", *lines[3:]], status=1)
+    check.env[b"_X1"] = b"fine"
+    check.says("list\n", ["1 accepted", lines[3]])
+
+
 # Requests.
 
 

@@ -172,6 +172,7 @@ impl Place {
         let trial = try_module(
             self.alloc,
             &self.env,
+            &[],
             &mut self.tree,
             STANDARD_LIMITS,
             name,

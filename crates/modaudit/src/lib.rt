@@ -6,7 +6,9 @@
 mod progress_line;
 
 use hidingtree::HidingTree;
-use modulecmd::{CommandFault, DiskTree, ProcessInput, process_input, write_refusal};
+use modulecmd::{
+    CommandFault, DiskTree, GivenEnvironment, JudgingInput, judging_input, write_refusal,
+};
 use progress_line::ProgressLine;
 use sitecommand::{AuditExit, Layout, run_audit};
 use std::io::{IsTerminal, Stdout};
@@ -29,10 +31,11 @@ fn layout_on(out: &Stdout) -> Layout {
 
 /// Audits a site by what the process is given, and gives the status of the audit, with which the process has to end.
 pub fn run(rt: HostRuntime) -> ExitCode {
-    let ProcessInput { arguments, env } = match process_input(&rt) {
-        Ok(given) => given,
+    let JudgingInput { arguments, given } = match judging_input(&rt) {
+        Ok(input) => input,
         Err(fault) => return refused(&rt, &fault),
     };
+    let GivenEnvironment { env, not_utf8 } = given;
     let mut out = rt.stdout();
     let mut err = rt.stderr();
     let alloc = rt.alloc();
@@ -47,6 +50,7 @@ pub fn run(rt: HostRuntime) -> ExitCode {
         arguments.as_slice(),
         layout_on(&out),
         env,
+        not_utf8.as_slice(),
         &mut tree,
         &mut progress,
         &mut out,

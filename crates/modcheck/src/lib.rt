@@ -3,7 +3,7 @@
 //! It is one of the names of the program `module`; it has no clause, so it has little code.
 #![tactic(auto)]
 
-use modulecmd::{DiskTree, ProcessInput, modcheck, process_input, write_refusal};
+use modulecmd::{DiskTree, GivenEnvironment, JudgingInput, judging_input, modcheck, write_refusal};
 use std::process::ExitCode;
 
 /// Checks standard input by what the process is given, and gives the status of the check, with which the process has to
@@ -12,13 +12,14 @@ pub fn run(rt: HostRuntime) -> ExitCode {
     let mut input = rt.stdin();
     let mut out = rt.stdout();
     let mut err = rt.stderr();
-    let ProcessInput { arguments, env } = match process_input(&rt) {
-        Ok(given) => given,
+    let JudgingInput { arguments, given } = match judging_input(&rt) {
+        Ok(input) => input,
         Err(fault) => {
             let _ = write_refusal(&fault, &mut err);
             return ExitCode::from(1);
         }
     };
+    let GivenEnvironment { env, not_utf8 } = given;
     let alloc = rt.alloc();
     let mut tree = DiskTree::new(rt);
     let status = modcheck(
@@ -26,6 +27,7 @@ pub fn run(rt: HostRuntime) -> ExitCode {
         arguments.as_slice(),
         &mut input,
         env,
+        not_utf8.as_slice(),
         &mut tree,
         &mut out,
         &mut err,

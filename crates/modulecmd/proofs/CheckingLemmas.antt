@@ -1,5 +1,5 @@
 -- How a check ended, and the causes of its faults.
-use Rattle.std.proofs.Common.{◌≡◌, ℕ, List, [], Bool, true, false, Ok, Option, String, string_bytes, refl, sym, subst}
+use Rattle.std.proofs.Common.{◌≡◌, ℕ, List, [], ◌++◌, Bool, true, false, Ok, Option, String, string_bytes, refl, sym, subst}
 use Rattle.std.proofs.Common.{inl, inr}
 use Rattle.std.proofs.lemmas.Str.{IsUtf8-string_bytes, is_utf8-from_IsUtf8}
 use Rattle.std.specs.declared.alloc.Global.{Global}
@@ -22,6 +22,7 @@ use Rattle.modulecmd.specs.Checking.{CheckOfInputLooksAt, EndsCheck, IsCheckFaul
 use Rattle.modulecmd.specs.Checking.{writing_of}
 use Rattle.modulecmd.specs.Command.{standard}
 use Rattle.modulecmd.specs.CheckWords.{IsPreparedCheck, exit_of}
+use Rattle.modulecmd.specs.NotUtf8.{lines_of}
 use Rattle.modulecmd.specs.Output.{FinishesWriting, WritesFault}
 use Rattle.modulecmd.proofs.WriterLemmas.{keeps_same}
 
@@ -42,10 +43,10 @@ exit_shows Reported accepted = tt
 exit_shows CutShort accepted = tt
 
 -- an answer that was written, or the first part of it before a failed write
-pub checked : (exit : Exit) (agrees : Files → Listings → Type 0) (before now : ℕ) (e : Environment) (arguments : List Text) (input input' out out' err err' : Option Text) (a : PreparedCheck)
-    → IsPreparedCheck agrees before now e arguments input input' a → FinishesWriting exit (string_bytes a.report) (string_bytes a.text) out out' err err'
-    → EndsCheck (exit_of exit a.is_accepted) agrees before now e arguments input input' out out' err err'
-checked exit agrees before now e arguments input input' out out' err err' a is h =
+pub checked : (exit : Exit) (agrees : Files → Listings → Type 0) (before now : ℕ) (e : Environment) (not_utf8 arguments : List Text) (input input' out out' err err' : Option Text) (a : PreparedCheck)
+    → IsPreparedCheck agrees before now e not_utf8 arguments input input' a → FinishesWriting exit (string_bytes a.report) (string_bytes a.text) out out' err err'
+    → EndsCheck (exit_of exit a.is_accepted) agrees before now e not_utf8 arguments input input' out out' err err'
+checked exit agrees before now e not_utf8 arguments input input' out out' err err' a is h =
     let end = exit_of exit a.is_accepted in
     let Writes : Exit → Text → Type 0 = λ x report. FinishesWriting x report (string_bytes a.text) out out' err err' in
     let Whether : Bool → Type 0 = λ b. ShowsWhetherAccepted end b in
@@ -57,15 +58,15 @@ checked exit agrees before now e arguments input input' out out' err err' a is h
         string_bytes a.text,
         is.says,
         subst Whether is.accepted (exit_shows exit a.is_accepted),
-        subst (λ x. Writes x (report_of is.found)) (sym (writes_so exit a.is_accepted)) (subst (λ report. Writes exit report) is.report h),
+        subst (λ x. Writes x (report_of is.found ++ lines_of not_utf8)) (sym (writes_so exit a.is_accepted)) (subst (λ report. Writes exit report) is.report h),
       ),
     )
 
 -- a fault that was reported
-pub refused : (exit : Exit) (agrees : Files → Listings → Type 0) (before now : ℕ) (e : Environment) (arguments : List Text) (input input' out err err' : Option Text) (fault : CommandFault)
+pub refused : (exit : Exit) (agrees : Files → Listings → Type 0) (before now : ℕ) (e : Environment) (not_utf8 arguments : List Text) (input input' out err err' : Option Text) (fault : CommandFault)
     → IsCheckFault agrees before now e arguments input input' fault → WritesFault exit err err' [] fault
-    → EndsCheck (exit_of exit false) agrees before now e arguments input input' out out err err'
-refused exit agrees before now e arguments input input' out err err' fault is h =
+    → EndsCheck (exit_of exit false) agrees before now e not_utf8 arguments input input' out out err err'
+refused exit agrees before now e not_utf8 arguments input input' out err err' fault is h =
     let Tells : Exit → Type 0 = λ x. WritesFault x err err' [] fault in
     inr (fault, is, (keeps_same out, subst Tells (sym (writes_so exit false)) h))
 

@@ -1,5 +1,5 @@
 -- What the check of an input's lines writes to its two writers (own).
-use Rattle.std.specs.Prelude.{◌≡◌, ◌⊎◌, ◌≤◌, ℕ, Bool, true, false, List, [], ◌∷◌, length, Option, Some, None, Result}
+use Rattle.std.specs.Prelude.{◌≡◌, ◌⊎◌, ◌≤◌, ℕ, Bool, true, false, List, [], ◌∷◌, ◌++◌, length, Option, Some, None, Result}
 use Rattle.std.specs.Prelude.{Ok, Err}
 use Rattle.std.specs.Io.KnownBytes.{Keeps}
 use Rattle.std.specs.Str.{is_utf8}
@@ -23,6 +23,7 @@ use Rattle.modulecmd.specs.declared.command_exit.Exit.{Exit}
 use Rattle.modulecmd.specs.declared.command_exit.Exit.TheVariants.{Success, Reported, CutShort}
 use Rattle.modulecmd.specs.declared.command_fault.CommandFault.{CommandFault}
 use Rattle.modulecmd.specs.Command.{CommandReason, IsCausedBy, refused_for, of_input, standard, unknown_shell}
+use Rattle.modulecmd.specs.NotUtf8 as not_utf8_lines
 use Rattle.modulecmd.specs.Output.{FinishesWriting, Refuses}
 use Rattle.shelltext.specs.Printing.{LacksText}
 
@@ -68,13 +69,14 @@ ShowsWhetherAccepted exits.SomeRefused accepted = accepted ≡ false
 ShowsWhetherAccepted exits.Reported accepted = Unit {0}
 ShowsWhetherAccepted exits.CutShort accepted = Unit {0}
 
--- What a check writes: its report on standard error, and on standard output a text that says for the shell exactly what
--- its lines change from first to last; or the first part of these before a failed write.
-abbrev pub WritesCheck : CheckExit → Environment → Shell → CheckFindings → Option Text → Option Text → Option Text
-    → Option Text → Type 0
-WritesCheck exit e shell found out out' err err' =
+-- What a check writes: on standard error its report, and behind it a line for each of the variables that aren't UTF-8; on
+-- standard output a text that says for the shell exactly what its lines change from first to last; or the first part of
+-- these before a failed write.
+abbrev pub WritesCheck : CheckExit → Environment → List Text → Shell → CheckFindings → Option Text → Option Text
+    → Option Text → Option Text → Type 0
+WritesCheck exit e not_utf8 shell found out out' err err' =
     (text : Text) × SaysDifference shell text e found.env × ShowsWhetherAccepted exit (all_accepted found)
-    × FinishesWriting (writing_of exit) (report_of found) text out out' err err'
+    × FinishesWriting (writing_of exit) (report_of found ++ not_utf8_lines.lines_of not_utf8) text out out' err err'
 
 -- The arguments name no shell, and nothing is read.
 abbrev pub IsUnnamed : List Text → Option Text → Option Text → CommandReason → Type 0
@@ -102,11 +104,11 @@ IsCheckFault agrees before now e arguments input input' fault =
     ⊎ IsUnread arguments input input' fault
 
 -- What a check writes, by how it ended: what it found, or a fault and nothing else.
-abbrev pub EndsCheck : CheckExit → (Files → Listings → Type 0) → ℕ → ℕ → Environment → List Text → Option Text
+abbrev pub EndsCheck : CheckExit → (Files → Listings → Type 0) → ℕ → ℕ → Environment → List Text → List Text → Option Text
     → Option Text → Option Text → Option Text → Option Text → Option Text → Type 0
-EndsCheck exit agrees before now e arguments input input' out out' err err' =
+EndsCheck exit agrees before now e not_utf8 arguments input input' out out' err err' =
     ((shell : Shell) × (found : CheckFindings) × ChecksInput agrees before now e arguments input input' shell found
-    × WritesCheck exit e shell found out out' err err')
+    × WritesCheck exit e not_utf8 shell found out out' err err')
     ⊎ ((fault : CommandFault) × IsCheckFault agrees before now e arguments input input' fault
     × Refuses (writing_of exit) fault out out' err err')
 

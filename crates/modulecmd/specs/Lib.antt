@@ -5,5 +5,6 @@ pub mod Command
 pub mod Output
 pub mod Words
 pub mod Runs
+pub mod NotUtf8
 pub mod Checking
 pub mod CheckWords

@@ -10,6 +10,7 @@ ghost use Rattle.modulecmd.specs.declared.checking.CheckExit.{CheckExit};
 use crate::command_exit::Exit;
 use crate::command_fault::CommandFault;
 use crate::finishing::{finish, report_fault};
+use crate::not_utf8::push_not_utf8;
 use envvars::{Env, changes};
 use filetree::Tree;
 use modules::{Refusal, STANDARD_LIMITS};
@@ -76,11 +77,13 @@ fn answer_of<T: Tree, R: Read>(
     args: &[String],
     input: &mut R,
     env: &Env,
+    not_utf8: &[String],
     tree: &mut T,
 ) -> Result<PreparedCheck, CommandFault>
     ensures reads { ReadsOn T.agrees T.failures tree.old tree.new }
     ensures answered { IfOk result (IsPreparedCheck (T.agrees tree.new) (T.failures tree.old) (T.failures tree.new)
-        env.now (map string_bytes args.now) (R.remaining input.old) (R.remaining input.new)) }
+        env.now (map string_bytes not_utf8.now) (map string_bytes args.now) (R.remaining input.old)
+        (R.remaining input.new)) }
     ensures refused { IfErr result (IsCheckFault (T.agrees tree.new) (T.failures tree.old) (T.failures tree.new)
         env.now (map string_bytes args.now) (R.remaining input.old) (R.remaining input.new)) }
     ensures failed { FailsOnlyAt T.agrees T.failed tree.old tree.new
@@ -91,7 +94,8 @@ fn answer_of<T: Tree, R: Read>(
     let found = check(alloc, shell, lines.as_str(), env, tree, STANDARD_LIMITS)?;
     let difference = changes(alloc, env, &found.env)?;
     let text = print_changes(alloc, shell, difference.as_slice())?;
-    let report = found.report(alloc)?;
+    let mut report = found.report(alloc)?;
+    push_not_utf8(alloc, &mut report, not_utf8)?;
     Ok(PreparedCheck {
         is_accepted: found.is_accepted(),
         report,
@@ -115,9 +119,10 @@ fn exit_of(exit: Exit, is_accepted: bool) -> CheckExit
 ///
 /// The one argument is the name of a shell (56, 63). The whole input is read (43, 56), and the requests that its lines
 /// make are run one after another, as a session; a refused line changes nothing. For each it writes `N accepted` or `N
-/// refused: ` and why to standard error, and then for each module that they loaded its full name and its verdict in the
-/// first environment. Then the text goes to standard output that says, as the shell reads it, what changed from the
-/// first environment to the last (62).
+/// refused: ` and why to standard error, then for each module that they loaded its full name and its verdict in the
+/// first environment, and then a line for each of the variables that aren't UTF-8, which no environment has. Then the
+/// text goes to standard output that says, as the shell reads it, what changed from the first environment to the last
+/// (62).
 ///
 /// The device failed only at paths that the check looks at: those of its lines, and of the searches for the modules that
 /// it judges. Where there is a fault before all that is made, nothing is written but the line that says why, to
@@ -127,18 +132,19 @@ pub fn run_check<T: Tree, R: Read, W: Write, E: Write>(
     args: &[String],
     input: &mut R,
     env: Env,
+    not_utf8: &[String],
     tree: &mut T,
     out: &mut W,
     err: &mut E,
 ) -> CheckExit
     ensures reads { ReadsOn T.agrees T.failures tree.old tree.new }
     ensures ended { EndsCheck result (T.agrees tree.new) (T.failures tree.old) (T.failures tree.new) env
-        (map string_bytes args.now) (R.remaining input.old) (R.remaining input.new)
+        (map string_bytes not_utf8.now) (map string_bytes args.now) (R.remaining input.old) (R.remaining input.new)
         (W.contents out.old) (W.contents out.new) (E.contents err.old) (E.contents err.new) }
     ensures failed { FailsOnlyAt T.agrees T.failed tree.old tree.new
         (CheckOfInputLooksAt (map string_bytes args.now) (R.remaining input.old) (R.remaining input.new) env) }
 {
-    match answer_of(alloc, args, input, &env, tree) {
+    match answer_of(alloc, args, input, &env, not_utf8, tree) {
         Ok(answer) => {
             let exit = finish(&[], answer.report.as_str(), answer.text.as_str(), out, err);
             exit_of(exit, answer.is_accepted)
@@ -153,6 +159,7 @@ pub fn modcheck<T: Tree, R: Read, W: Write, E: Write>(
     args: &[String],
     input: &mut R,
     env: Env,
+    not_utf8: &[String],
     tree: &mut T,
     out: &mut W,
     err: &mut E,
@@ -160,10 +167,10 @@ pub fn modcheck<T: Tree, R: Read, W: Write, E: Write>(
     ensures reads { ReadsOn T.agrees T.failures tree.old tree.new }
     ensures ended { (exit : CheckExit) × (result ≡ check_status exit)
         × EndsCheck exit (T.agrees tree.new) (T.failures tree.old) (T.failures tree.new) env
-        (map string_bytes args.now) (R.remaining input.old) (R.remaining input.new)
+        (map string_bytes not_utf8.now) (map string_bytes args.now) (R.remaining input.old) (R.remaining input.new)
         (W.contents out.old) (W.contents out.new) (E.contents err.old) (E.contents err.new) }
     ensures failed { FailsOnlyAt T.agrees T.failed tree.old tree.new
         (CheckOfInputLooksAt (map string_bytes args.now) (R.remaining input.old) (R.remaining input.new) env) }
 {
-    run_check(alloc, args, input, env, tree, out, err).status()
+    run_check(alloc, args, input, env, not_utf8, tree, out, err).status()
 }

@@ -9,6 +9,7 @@ mod command_exit;
 mod command_fault;
 mod finishing;
 mod laws;
+mod not_utf8;
 mod process;
 mod writers;
 
@@ -30,8 +31,10 @@ pub use modules::{
     MissingNames, Module, Move, Outcome, Refusal, Reply, RequestChanges, RequestResults, Verdict,
     request, run, run_changes, session, verdict,
 };
-pub use process::{ProcessInput, process_input};
-pub use processinput::{InputFault, arguments, environment_block, read_input};
+pub use process::{JudgingInput, ProcessInput, judging_input, process_input};
+pub use processinput::{
+    GivenEnvironment, InputFault, arguments, environment_block, given_environment, read_input,
+};
 pub use requests::{Action, Request};
 pub use search::FindFault;
 pub use sessions::rehearse;

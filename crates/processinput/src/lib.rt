@@ -4,8 +4,10 @@
 
 mod absolute_paths;
 mod input;
+mod not_utf8;
 mod process;
 
 pub use absolute_paths::absolute_path;
 pub use input::{InputFault, read_input};
+pub use not_utf8::{GivenEnvironment, given_environment};
 pub use process::{arguments, environment_block};

@@ -1,5 +1,5 @@
 -- The causes of faults, and how an audit ends.
-use Rattle.std.proofs.Common.{◌≡◌, ◌<◌, ℕ, Bool, List, Option, None, Result, Ok, Err, subst, inl}
+use Rattle.std.proofs.Common.{◌≡◌, ℕ, Bool, List, Option, None, Result, Ok, Err, subst, inl}
 use Rattle.std.specs.Prelude.{IfErr}
 use Rattle.envvars.specs.Texts.{Text}
 use Rattle.envvars.specs.Environment.{Environment}
@@ -33,10 +33,10 @@ if_err_so (Ok x) P Q f h = tt
 if_err_so (Err e) P Q f h = f e h
 
 -- the end of an audit whose report was written, or the first part of it
-pub answered : (exit : AuditExit) (layout : Layout) (agrees : Files → Listings → Type 0) (has_failed : Text → Bool) (before now : ℕ) (e : Environment) (arguments : List Text) (answer : PreparedAudit) (out out' err err' : Option Text)
-    → IsPreparedAudit layout agrees has_failed (before < now) e arguments answer → WritesAudit exit answer.is_all_certified answer.report.items out out' err err'
-    → EndsJudged exit layout agrees has_failed before now e arguments out out' err err'
-answered exit layout agrees has_failed before now e arguments answer out out' err err' is h =
+pub answered : (exit : AuditExit) (layout : Layout) (agrees : Files → Listings → Type 0) (has_failed : Text → Bool) (before now : ℕ) (e : Environment) (not_utf8 arguments : List Text) (answer : PreparedAudit) (out out' err err' : Option Text)
+    → IsPreparedAudit layout agrees has_failed before now e not_utf8 arguments answer → WritesAudit exit answer.is_all_certified answer.report.items out out' err err'
+    → EndsJudged exit layout agrees has_failed before now e not_utf8 arguments out out' err err'
+answered exit layout agrees has_failed before now e not_utf8 arguments answer out out' err err' is h =
     let audit = is.prepared.audit in
     let tried = is.prepared.tried in
     inl (
@@ -46,11 +46,14 @@ answered exit layout agrees has_failed before now e arguments answer out out' er
         asked = is.asked;
         directories = tried.found.directories;
         begins = tried.found.begins;
+        there = is.prepared.there;
         unreadable = tried.unreadable;
         exact = tried.found.exact;
         holds = tried.found.holds;
         tried = tried.tried;
         ended = tried.failed;
+        counted = tried.counted;
+        named = tried.named;
       },
       subst (λ (text : Text). WritesAudit exit (all_certified audit) text out out' err err') is.prepared.report
           (subst (λ (all : Bool). WritesAudit exit all answer.report.items out out' err err') is.prepared.certified h),

@@ -2,6 +2,7 @@ pub mod DirectoryLemmas
 mod PartedLemmas
 mod TryingLemmas
 pub mod AuditLemmas
+mod FewerLemmas
 mod PathLemmas
 mod ReadableLemmas
 pub mod SiteCommandLemmas

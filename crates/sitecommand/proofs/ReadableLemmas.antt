@@ -1,5 +1,5 @@
 -- What is found of a site without what can't be read, and the faults over a tree with hidden paths.
-use Rattle.std.proofs.Common.{◌≡◌, ◌<◌, ◌≤◌, ℕ, arith, ◌||◌, ◌&&◌, Bool, true, false, not, cond, string_bytes, String, Global, List, [], ◌∷◌, map, Option, Some, None}
+use Rattle.std.proofs.Common.{◌≡◌, ◌<◌, ◌≤◌, ℕ, arith, ◌||◌, ◌&&◌, Bool, true, false, not, cond, string_bytes, String, Global, List, [], ◌∷◌, length, map, Option, Some, None}
 use Rattle.std.proofs.Common.{refl, ap, sym, subst, ◌∙◌, inl, inr}
 use Rattle.std.proofs.lemmas.Bool.{or_cases, false≢true}
 use Rattle.std.proofs.lemmas.List.Elements.{All-cons, All-head, All-nil, All-tail}
@@ -30,8 +30,8 @@ use Rattle.siteaudit.specs.declared.fault.WalkFault.{WalkFault}
 use Rattle.siteaudit.specs.declared.fault.WalkFault.TheVariants as walks
 use Rattle.sitecommand.specs.declared.readable.SeenAudit.{SeenAudit}
 use Rattle.modulecmd.specs.Command.{standard}
-use Rattle.sitecommand.specs.Audits.{AreDirectories, AreUnreadable, IsDirectory, IsFirstGone, IsNoDirectory, IsSiteFault, is_no_element}
-use Rattle.sitecommand.specs.Audits.{no_directory, unreadable_directory, empty_modulepath, no_walk, given_up}
+use Rattle.sitecommand.specs.Audits.{AreDirectories, AreUnreadable, HasFailedOften, IsDirectory, IsFirstGone, IsNoDirectory, IsSiteFault, is_no_element}
+use Rattle.sitecommand.specs.Audits.{no_directory, unreadable_directory, empty_modulepath, none_there, no_walk, given_up}
 use Rattle.sitecommand.specs.Faults.{is_failure, of_walk}
 use Rattle.sitecommand.specs.Looked.{FailsFirst, ReadsUnlessFails}
 use Rattle.sitecommand.specs.Steps.{AreSame, IsFound, IsFoundFault, IsFoundWithout, IsGivenUp, IsReadable, is_hidden, unless_hidden}
@@ -40,6 +40,7 @@ use Rattle.sitecommand.specs.declared.audit_fault.AuditFault.TheVariants.{Refuse
 use Rattle.sitecommand.specs.declared.audit_fault.AuditFault.TheVariants.{TooManyDirectories, NotADirectory, WriteFailed}
 use Rattle.sitecommand.proofs.AuditLemmas.{cause_in}
 use Rattle.sitecommand.proofs.DirectoryLemmas.{applies_in}
+use Rattle.sitecommand.proofs.FewerLemmas.{fewer}
 
 -- a fault by a reason is none of the device
 pub by_no_device : {R : Type 0} (view : R → RequestReason) (o : Option R) → is_of_device (by_reason view o) ≡ false
@@ -76,6 +77,10 @@ all_by_among P (x ∷ xs) f = All-cons P x xs (f x (first_among x xs)) (all_by_a
 -- the same of the same paths
 all_of_same : (P : Text → Type 0) (paths others : List Text) → AreSame paths others → All P others → All P paths
 all_of_same P paths others same all = all_by_among P paths (λ path h. of_among P others path all (sym (same path) ∙ h))
+
+-- those that stand each once are no more
+no_more : (paths others : List Text) → IsStrictlySortedBy (slice_cmp nat_cmp) paths → AreSame paths others → length paths ≤ length others
+no_more paths others order same = fewer paths others order (λ q h. sym (same q) ∙ h)
 
 -- ---- pairs of maps
 
@@ -136,10 +141,11 @@ found_left hidden seen agrees judged dirs withheld found apart f = record {
   holds = λ files listings a. f.holds files listings (left_pairs hidden seen agrees apart files listings a);
 }
 
-pub readable_in : (agrees : Files → Listings → Type 0) (has_failed : Text → Bool) (P Q : Type 0) (judged : Environment) (dirs withheld : List Text) (audit : SeenAudit) → (P → Q)
-    → IsReadable agrees has_failed P judged dirs withheld audit → IsReadable agrees has_failed Q judged dirs withheld audit
-readable_in agrees has_failed P Q judged dirs withheld audit f r = record {
+pub readable_in : (agrees : Files → Listings → Type 0) (has_failed : Text → Bool) (P Q : Type 0) (now : ℕ) (judged : Environment) (dirs withheld : List Text) (audit : SeenAudit) → (P → Q)
+    → IsReadable agrees has_failed P now judged dirs withheld audit → IsReadable agrees has_failed Q now judged dirs withheld audit
+readable_in agrees has_failed P Q now judged dirs withheld audit f r = record {
   unreadable = record { order = r.unreadable.order; failed = r.unreadable.failed; cause = so r.unreadable.cause };
+  counted = r.counted;
   found = r.found;
 }
   where
@@ -156,22 +162,35 @@ no_unreadable : (has_failed : Text → Bool) (fails : Type 0) (paths : List Text
 no_unreadable has_failed fails paths none = subst (λ (ps : List Text). AreUnreadable has_failed fails ps) (sym none)
     (record { order = sorted_nothing; failed = All-nil (λ (path : Text). has_failed path ≡ true); cause = inl refl })
 
-pub readable_whole : (agrees : Files → Listings → Type 0) (has_failed : Text → Bool) (fails : Type 0) (judged : Environment) (dirs withheld : List Text) (found : SiteAudit) (unreadable : Vec (String Global) Global)
-    → unreadable.items ≡ [] → IsFound agrees judged dirs withheld found → IsReadable agrees has_failed fails judged dirs withheld (record { found = found; unreadable = unreadable })
-readable_whole agrees has_failed fails judged dirs withheld found unreadable none f =
+pub readable_whole : (agrees : Files → Listings → Type 0) (has_failed : Text → Bool) (fails : Type 0) (now : ℕ) (judged : Environment) (dirs withheld : List Text) (found : SiteAudit) (unreadable : Vec (String Global) Global)
+    → unreadable.items ≡ [] → IsFound agrees judged dirs withheld found → IsReadable agrees has_failed fails now judged dirs withheld (record { found = found; unreadable = unreadable })
+readable_whole agrees has_failed fails now judged dirs withheld found unreadable none f =
     let no_texts : texts_in unreadable ≡ [] = ap (λ (l : List (String Global)). map (λ (s : String Global). string_bytes s) l) none in
     record {
       unreadable = no_unreadable has_failed fails (texts_in unreadable) no_texts;
+      counted = subst (λ (ps : List Text). length ps ≤ now) (sym no_texts) (omega arith);
       found = subst (λ (ps : List Text). IsFoundWithout agrees ps judged dirs withheld found) (sym no_texts) (found_whole agrees judged dirs withheld found f);
     }
 
 -- the paths that are hidden, in their order
-pub readable_left : (agrees : Files → Listings → Type 0) (has_failed : Text → Bool) (fails : Type 0) (judged : Environment) (dirs withheld hidden : List Text) (found : SiteAudit) (unreadable : Vec (String Global) Global)
-    → fails → IsStrictlySortedBy (slice_cmp nat_cmp) (texts_in unreadable) → AreSame (texts_in unreadable) hidden → AllFailed has_failed hidden → IsFoundWithout agrees hidden judged dirs withheld found
-    → IsReadable agrees has_failed fails judged dirs withheld (record { found = found; unreadable = unreadable })
-readable_left agrees has_failed fails judged dirs withheld hidden found unreadable failed order same all f = record {
+pub readable_left : (agrees : Files → Listings → Type 0) (has_failed : Text → Bool) (fails : Type 0) (now : ℕ) (judged : Environment) (dirs withheld hidden : List Text) (found : SiteAudit) (unreadable : Vec (String Global) Global)
+    → fails → length hidden ≤ now → IsStrictlySortedBy (slice_cmp nat_cmp) (texts_in unreadable) → AreSame (texts_in unreadable) hidden → AllFailed has_failed hidden → IsFoundWithout agrees hidden judged dirs withheld found
+    → IsReadable agrees has_failed fails now judged dirs withheld (record { found = found; unreadable = unreadable })
+readable_left agrees has_failed fails now judged dirs withheld hidden found unreadable failed counted order same all f = record {
   unreadable = record { order = order; failed = all_of_same (λ (path : Text). has_failed path ≡ true) (texts_in unreadable) hidden same all; cause = inr failed };
+  counted = omega (arith, counted, no_more (texts_in unreadable) hidden order same);
   found = found_same agrees (texts_in unreadable) hidden judged dirs withheld found same f;
+}
+
+-- these paths are a thousand, and the device has failed at each
+pub failed_often : (has_failed : Text → Bool) (now : ℕ) (paths hidden : List Text) → IsStrictlySortedBy (slice_cmp nat_cmp) paths → AreSame paths hidden → AllFailed has_failed hidden → length hidden ≤ now
+    → 1000 ≤ length paths → HasFailedOften has_failed now
+failed_often has_failed now paths hidden order same all counted many = record {
+  times = omega (arith, counted, many, no_more paths hidden order same);
+  paths = paths;
+  order = order;
+  failed = all_of_same (λ (path : Text). has_failed path ≡ true) paths hidden same all;
+  many = many;
 }
 
 -- ---- faults
@@ -322,6 +341,7 @@ pub site_fault_in : {fault : AuditFault} (agrees : Files → Listings → Type 0
 site_fault_in agrees has_failed P Q judged dirs f (no_directory dir h) = no_directory dir h
 site_fault_in agrees has_failed P Q judged dirs f (unreadable_directory h) = unreadable_directory h
 site_fault_in agrees has_failed P Q judged dirs f (empty_modulepath there h) = empty_modulepath there h
+site_fault_in agrees has_failed P Q judged dirs f (none_there withheld audit there exact is) = none_there withheld audit there exact is
 site_fault_in agrees has_failed P Q judged dirs f (no_walk paths walked there all h) = no_walk paths walked there all (cause_in (AgreesWithout paths agrees) P Q standard judged walked f h)
 site_fault_in agrees has_failed P Q judged dirs f (given_up refusal h) = given_up refusal (applies_in (cause_of refusal) P Q (λ (reason : RequestReason). ⊥) f h)
 

@@ -1,7 +1,7 @@
 -- Trials of the modules of an audit, one after another, and what they read.
 use Rattle.std.proofs.Common.{◌≡◌, ◌+◌, ◌<◌, ◌≤◌, ℕ, zero, suc, arith, Bool, true, false, string_bytes, List, [], ◌∷◌, ◌++◌, map, take, length, get_or, Option}
-use Rattle.std.proofs.Common.{String, Global, refl, ap, sym, subst, ◌∙◌, inl, inr, ◌||◌}
-use Rattle.std.proofs.lemmas.Bool.{false≢true, or_cases}
+use Rattle.std.proofs.Common.{String, Global, Some, None, refl, ap, sym, subst, ◌∙◌, inl, inr}
+use Rattle.std.proofs.lemmas.Bool.{false≢true}
 use Rattle.std.proofs.lemmas.List.{take_more}
 use Rattle.std.proofs.lemmas.List.Elements.{All-weaker}
 use Rattle.std.specs.Option.{ForSome}
@@ -33,7 +33,8 @@ use Rattle.trials.specs.declared.trial.Trial.TheVariants.{LoadsAnother}
 use Rattle.sitecommand.specs.Audits.{AreUnreadable, IsSiteFault, given_up}
 use Rattle.sitecommand.specs.Looked.{JudgedLooksAt, KeepsFailed, ReadsUnlessFails, SiteLooksAt, TrialsLookAt}
 use Rattle.sitecommand.specs.Steps.{IsFoundWithout, IsReadable, IsTriedAudit}
-use Rattle.sitecommand.specs.Tried.{AreTrials, IsTrialOf, has_failed_trial, some_failed}
+use Rattle.sitecommand.specs.NotUtf8.{concerned}
+use Rattle.sitecommand.specs.Tried.{AreTrials, IsTrialOf, count_trial, failed_in, has_failed_trial}
 use Rattle.sitecommand.specs.declared.audit_fault.AuditFault.TheVariants.{Refused}
 use Rattle.sitecommand.specs.declared.readable.SeenAudit.{SeenAudit}
 use Rattle.sitecommand.proofs.DirectoryLemmas.{are_in}
@@ -57,53 +58,32 @@ failed_counts (LoadsAnother name path) e = absurd (false≢true e)
 pub has_counted : (trial : Trial) (old new : ℕ) → old + count_failed trial ≤ new → has_failed trial ≡ true → old < new
 has_counted trial old new l e = omega (arith, l, failed_counts trial e)
 
+pub trial_counted : (trial : Option Trial) (old new : ℕ) → old + count_trial trial ≤ new → has_failed_trial trial ≡ true → old < new
+trial_counted None old new l e = absurd (false≢true e)
+trial_counted (Some trial) old new l e = has_counted trial old new l e
+
 -- ---- one trial more
 
-are_more : (s : RequestContext) (e : Environment) (ms : List AuditedModule) (ts : List (Option Trial)) (m : AuditedModule) (t : Option Trial) → AreTrials s e ms ts → IsTrialOf s e m t
-    → AreTrials s e (ms ++ m ∷ []) (ts ++ t ∷ [])
-are_more s e [] [] m t h k = (k, tt)
-are_more s e [] (x ∷ ts) m t h k = absurd h
-are_more s e (n ∷ ms) [] m t h k = absurd h
-are_more s e (n ∷ ms) (x ∷ ts) m t h k = (h.0, are_more s e ms ts m t h.1 k)
+are_more : (s : RequestContext) (not_utf8 : List Text) (e : Environment) (ms : List AuditedModule) (ts : List (Option Trial)) (m : AuditedModule) (t : Option Trial) → AreTrials s not_utf8 e ms ts → IsTrialOf s not_utf8 e m t
+    → AreTrials s not_utf8 e (ms ++ m ∷ []) (ts ++ t ∷ [])
+are_more s not_utf8 e [] [] m t h k = (k, tt)
+are_more s not_utf8 e [] (x ∷ ts) m t h k = absurd h
+are_more s not_utf8 e (n ∷ ms) [] m t h k = absurd h
+are_more s not_utf8 e (n ∷ ms) (x ∷ ts) m t h k = (h.0, are_more s not_utf8 e ms ts m t h.1 k)
 
-pub trials_turn : (s : RequestContext) (e : Environment) (ms : List AuditedModule) (i : ℕ) (m : AuditedModule) (ts more : List (Option Trial)) (t : Option Trial) → i < length ms → m ≡ get_or ms i m
-    → more ≡ ts ++ t ∷ [] → AreTrials s e (take i ms) ts → IsTrialOf s e m t → AreTrials s e (take (i + 1) ms) more
-trials_turn s e ms i m ts more t l is pushed h k =
-    subst (λ (xs : List AuditedModule). AreTrials s e xs more) (sym (take_more ms i m l ∙ ap (λ (x : AuditedModule). take i ms ++ x ∷ []) (sym is)))
-    (subst (λ (ys : List (Option Trial)). AreTrials s e (take i ms ++ m ∷ []) ys) (sym pushed) (are_more s e (take i ms) ts m t h k))
+pub trials_turn : (s : RequestContext) (not_utf8 : List Text) (e : Environment) (ms : List AuditedModule) (i : ℕ) (m : AuditedModule) (ts more : List (Option Trial)) (t : Option Trial) → i < length ms → m ≡ get_or ms i m
+    → more ≡ ts ++ t ∷ [] → AreTrials s not_utf8 e (take i ms) ts → IsTrialOf s not_utf8 e m t → AreTrials s not_utf8 e (take (i + 1) ms) more
+trials_turn s not_utf8 e ms i m ts more t l is pushed h k =
+    subst (λ (xs : List AuditedModule). AreTrials s not_utf8 e xs more) (sym (take_more ms i m l ∙ ap (λ (x : AuditedModule). take i ms ++ x ∷ []) (sym is)))
+    (subst (λ (ys : List (Option Trial)). AreTrials s not_utf8 e (take i ms ++ m ∷ []) ys) (sym pushed) (are_more s not_utf8 e (take i ms) ts m t h k))
 
-any_more : (ts : List (Option Trial)) (t : Option Trial) → some_failed (ts ++ t ∷ []) ≡ true → (some_failed ts ≡ true) ⊎ (has_failed_trial t ≡ true)
-any_more [] t h = one (or_cases (has_failed_trial t) false h)
-  where
-    one : (has_failed_trial t ≡ true) ⊎ (false ≡ true) → (some_failed [] ≡ true) ⊎ (has_failed_trial t ≡ true)
-    one (inl e) = inr e
-    one (inr e) = absurd (false≢true e)
-any_more (x ∷ ts) t h = one (or_cases (has_failed_trial x) (some_failed (ts ++ t ∷ [])) h) (λ e. any_more ts t e)
-  where
-    first_or : (a b : Bool) → a ≡ true → (a || b) ≡ true
-    first_or true b e = refl
-    first_or false b e = absurd (false≢true e)
+failed_more : (ts : List (Option Trial)) (t : Option Trial) → failed_in (ts ++ t ∷ []) ≡ failed_in ts + count_trial t
+failed_more [] t = omega arith
+failed_more (x ∷ ts) t = omega (arith, failed_more ts t)
 
-    later_or : (a b : Bool) → b ≡ true → (a || b) ≡ true
-    later_or true b e = refl
-    later_or false b e = e
-
-    later : (some_failed ts ≡ true) ⊎ (has_failed_trial t ≡ true) → (some_failed (x ∷ ts) ≡ true) ⊎ (has_failed_trial t ≡ true)
-    later (inl e) = inl (later_or (has_failed_trial x) (some_failed ts) e)
-    later (inr e) = inr e
-
-    one : (has_failed_trial x ≡ true) ⊎ (some_failed (ts ++ t ∷ []) ≡ true) → (some_failed (ts ++ t ∷ []) ≡ true → (some_failed ts ≡ true) ⊎ (has_failed_trial t ≡ true))
-        → (some_failed (x ∷ ts) ≡ true) ⊎ (has_failed_trial t ≡ true)
-    one (inl e) more = inl (first_or (has_failed_trial x) (some_failed ts) e)
-    one (inr e) more = later (more e)
-
-pub counted_turn : (ts more : List (Option Trial)) (t : Option Trial) (old mid new : ℕ) → more ≡ ts ++ t ∷ [] → old ≤ mid → mid ≤ new → (some_failed ts ≡ true → old < mid) → (has_failed_trial t ≡ true → mid < new)
-    → some_failed more ≡ true → old < new
-counted_turn ts more t old mid new pushed l k f g h = one (any_more ts t (ap some_failed (sym pushed) ∙ h))
-  where
-    one : (some_failed ts ≡ true) ⊎ (has_failed_trial t ≡ true) → old < new
-    one (inl e) = omega (arith, k, f e)
-    one (inr e) = omega (arith, l, g e)
+-- the failures of the trials so far, and of one more
+pub counted_turn : (ts more : List (Option Trial)) (t : Option Trial) (old mid new : ℕ) → more ≡ ts ++ t ∷ [] → old + failed_in ts ≤ mid → mid + count_trial t ≤ new → old + failed_in more ≤ new
+counted_turn ts more t old mid new pushed l k = subst (λ (xs : List (Option Trial)). old + failed_in xs ≤ new) (sym pushed) (omega (arith, failed_more ts t, l, k))
 
 -- ---- what is read
 
@@ -196,27 +176,36 @@ found_later before after paths judged dirs withheld found n f = record {
 
 module _ {T : Type 0} (agrees : T → Files → Listings → Type 0) (failures : T → ℕ) (failed : T → Text → Bool) (old mid new : T) (judged : Environment) (dirs withheld : List Text) (seen : SeenAudit)
     (reads : ReadsOn agrees failures mid new) (kept : KeepsFailed (failed mid) (failed new))
-    (readable : IsReadable (agrees mid) (failed mid) (failures old < failures mid) judged dirs withheld seen) where
+    (readable : IsReadable (agrees mid) (failed mid) (failures old < failures mid) (failures mid) judged dirs withheld seen) where
   abbrev paths : List Text
   paths = texts_in seen.unreadable
 
-  caused : (paths ≡ []) ⊎ (failures old < failures mid) → (paths ≡ []) ⊎ (failures old < failures new)
-  caused (inl e) = inl e
-  caused (inr l) = inr (omega (arith, l, reads.counts_failures))
+  caused : (count : ℕ) → failures mid + count ≤ failures new → (paths ≡ []) ⊎ (failures old < failures mid) → (paths ≡ []) ⊎ (failures old + count < failures new)
+  caused count k (inl e) = inl e
+  caused count k (inr l) = inr (omega (arith, l, k))
 
-  pub tried_audit : (audit : ReadableAudit) → audit.found ≡ seen.found → audit.unreadable ≡ seen.unreadable → failures old ≤ failures mid
-      → InEachPair (agrees new) (λ files listings. AreTrials (in_sh standard files listings) judged seen.found.modules.items audit.trials.items)
-      → (some_failed audit.trials.items ≡ true → failures mid < failures new)
-      → IsTriedAudit (agrees new) (failed new) (failures old < failures new) judged dirs withheld audit
-  tried_audit audit same_found same_paths counts tried ended = record {
-    unreadable = subst (λ (ps : _). AreUnreadable (failed new) (failures old < failures new) (texts_in ps)) (sym same_paths)
-        (record { order = readable.unreadable.order; failed = all_kept (failed mid) (failed new) kept paths readable.unreadable.failed; cause = caused readable.unreadable.cause });
-    found = subst (λ (ps : _). IsFoundWithout (agrees new) (texts_in ps) judged dirs withheld audit.found) (sym same_paths)
-        (subst (λ (f : SiteAudit). IsFoundWithout (agrees new) paths judged dirs withheld f) (sym same_found)
-        (found_later (agrees mid) (agrees new) paths judged dirs withheld seen.found reads.narrows readable.found));
-    tried = subst (λ (f : SiteAudit). InEachPair (agrees new) (λ files listings. AreTrials (in_sh standard files listings) judged f.modules.items audit.trials.items)) (sym same_found) tried;
-    failed = λ t. omega (arith, counts, ended t);
-  }
+  pub tried_audit : (audit : ReadableAudit) (not_utf8 : List Text) → audit.found ≡ seen.found → audit.unreadable ≡ seen.unreadable → failures old ≤ failures mid
+      → InEachPair (agrees new) (λ files listings. AreTrials (in_sh standard files listings) not_utf8 judged seen.found.modules.items audit.trials.items)
+      → failures mid + failed_in audit.trials.items ≤ failures new
+      → texts_in audit.not_utf8 ≡ concerned seen.found.certificate.items not_utf8
+      → IsTriedAudit (agrees new) (failed new) (failures old) (failures new) judged not_utf8 dirs withheld audit
+  tried_audit audit not_utf8 same_found same_paths counts tried ended kept_names =
+      let count = failed_in audit.trials.items in
+      record {
+        unreadable = subst (λ (ps : _). AreUnreadable (failed new) (failures old + count < failures new) (texts_in ps)) (sym same_paths)
+            (record {
+              order = readable.unreadable.order;
+              failed = all_kept (failed mid) (failed new) kept paths readable.unreadable.failed;
+              cause = caused count ended readable.unreadable.cause;
+            });
+        found = subst (λ (ps : _). IsFoundWithout (agrees new) (texts_in ps) judged dirs withheld audit.found) (sym same_paths)
+            (subst (λ (f : SiteAudit). IsFoundWithout (agrees new) paths judged dirs withheld f) (sym same_found)
+            (found_later (agrees mid) (agrees new) paths judged dirs withheld seen.found reads.narrows readable.found));
+        tried = subst (λ (f : SiteAudit). InEachPair (agrees new) (λ files listings. AreTrials (in_sh standard files listings) not_utf8 judged f.modules.items audit.trials.items)) (sym same_found) tried;
+        failed = omega (arith, counts, ended);
+        counted = subst (λ (ps : _). length (texts_in ps) + count ≤ failures new) (sym same_paths) (omega (arith, readable.counted, ended));
+        named = subst (λ (f : SiteAudit). texts_in audit.not_utf8 ≡ concerned f.certificate.items not_utf8) (sym same_found) kept_names;
+      }
 
   -- the trials read on, at paths of their own
   pub reads_with_trials : ModulesFound → ReadsUnlessFails agrees failures failed old mid (SiteLooksAt judged dirs) → ReadsUnlessFails agrees failures failed mid new (TrialsLookAt judged seen.found.modules.items)

@@ -1,6 +1,6 @@
 -- What an audit writes to its two writers, and why there is none (own).
 use Rattle.std.specs.Prelude.{◌≡◌, ◌⊎◌, ℕ, Bool, true, false, List, [], ◌∷◌, ◌++◌, codes, Option, Some, None, IsSome}
-use Rattle.std.specs.Prelude.{◌<◌, ◌≤◌, ◌==◌, ◌&&◌, ◌||◌, bytes_eq, length, not, string_bytes}
+use Rattle.std.specs.Prelude.{◌+◌, ◌<◌, ◌≤◌, ◌==◌, ◌&&◌, ◌||◌, bytes_eq, length, not, string_bytes}
 use Rattle.std.specs.Cmp.Lexicographic.{slice_cmp}
 use Rattle.std.specs.Ordering.{nat_cmp}
 use Rattle.std.specs.declared.alloc.Global.{Global}
@@ -9,7 +9,7 @@ use Rattle.std.specs.List.{join_with_byte, list_all, list_any}
 use Rattle.std.specs.List.Sorted.{IsStrictlySortedBy}
 use Rattle.std.specs.Io.KnownBytes.{Keeps, Appends}
 use Rattle.columns.specs.Columns.{aligned}
-use Rattle.envvars.specs.Texts.{Text, texts_in}
+use Rattle.envvars.specs.Texts.{Text, has, texts_in}
 use Rattle.envvars.specs.Environment.{Environment, with_value}
 use Rattle.filetree.specs.Agreement.{Files, Listings, InEachPair}
 use Rattle.filetree.specs.Causes.{Applies, memory}
@@ -30,7 +30,8 @@ use Rattle.modulecmd.specs.Command.{standard}
 use Rattle.modulecmd.specs.Writing.{AppendsPart}
 use Rattle.sitecommand.specs.Arguments.{Wanted, asks_help, wanted_of}
 use Rattle.modules.specs.Verdicts.{in_sh}
-use Rattle.sitecommand.specs.Tried.{AreTrials, some_failed}
+use Rattle.sitecommand.specs.NotUtf8.{concerned}
+use Rattle.sitecommand.specs.Tried.{AreTrials, failed_in}
 use Rattle.sitecommand.specs.Faults.{line_of, of_walk, usage}
 use Rattle.sitecommand.specs.declared.arguments.Format.{Format}
 use Rattle.sitecommand.specs.declared.arguments.Format.TheVariants.{Lines, Document}
@@ -111,23 +112,42 @@ pub record AreUnreadable (has_failed : Text → Bool) (fails : Type 0) (paths : 
   pub failed : AllFailed has_failed paths
   pub cause : (paths ≡ []) ⊎ fails
 
+-- of the directories that MODULEPATH has none is there, and nothing is there that can't be read
+abbrev pub is_nothing_there : Environment → ReadableAudit → Bool
+is_nothing_there judged audit =
+    (length audit.unreadable.items == 0)
+    && list_all (λ dir. has dir (texts_in audit.found.missing_directories)) (directories (modulepath judged))
+
+-- The device has failed a thousand times, and at a thousand paths: they are among these, which stand each once in the
+-- order of their bytes.
+pub record HasFailedOften (has_failed : Text → Bool) (now : ℕ) : Type 0 where
+  pub times : 1000 ≤ now
+  pub paths : List Text
+  pub order : IsStrictlySortedBy (slice_cmp nat_cmp) paths
+  pub failed : AllFailed has_failed paths
+  pub many : 1000 ≤ length paths
+
 -- The site that the arguments name was audited, without what can't be read: each of their directories is there, the
 -- MODULEPATH of the audit has one, what was found is an audit of the site as it is without those paths, and its
--- certificate holds; and each module that is neither certified nor refused was tried, where the device ended a trial only
--- if it failed in the call.
-pub record IsAudited (agrees : Files → Listings → Type 0) (has_failed : Text → Bool) (fails : Type 0)
-    (e : Environment) (arguments : List Text) (wanted : Wanted) (audit : ReadableAudit) : Type 0 where
+-- certificate holds; and each module that is neither certified nor refused was tried. The numbers are those of the
+-- device's failures before and after: it failed in the call for each trial that it ended, and once more where paths
+-- can't be read; and in all for each such trial and each such path.
+pub record IsAudited (agrees : Files → Listings → Type 0) (has_failed : Text → Bool) (before now : ℕ)
+    (e : Environment) (not_utf8 arguments : List Text) (wanted : Wanted) (audit : ReadableAudit) : Type 0 where
   pub asked : wanted_of arguments ≡ Some wanted
   pub directories : AreDirectories agrees wanted.directories
   pub begins : has_directory (judged_env e wanted.directories) ≡ true
-  pub unreadable : AreUnreadable has_failed fails (texts_in audit.unreadable)
+  pub there : is_nothing_there (judged_env e wanted.directories) audit ≡ false
+  pub unreadable : AreUnreadable has_failed (before + failed_in audit.trials.items < now) (texts_in audit.unreadable)
   pub exact : InEachPair (AgreesWithout (texts_in audit.unreadable) agrees) (λ files listings.
       IsAudit (judged_site e wanted files listings) wanted.without audit.found)
   pub holds : InEachPair (AgreesWithout (texts_in audit.unreadable) agrees) (λ files listings.
       CertificateStands (judged_site e wanted files listings) audit.found)
-  pub tried : InEachPair agrees (λ files listings. AreTrials (in_sh standard files listings)
+  pub tried : InEachPair agrees (λ files listings. AreTrials (in_sh standard files listings) not_utf8
       (judged_env e wanted.directories) audit.found.modules.items audit.trials.items)
-  pub ended : some_failed audit.trials.items ≡ true → fails
+  pub ended : before + failed_in audit.trials.items ≤ now
+  pub counted : length (texts_in audit.unreadable) + failed_in audit.trials.items ≤ now
+  pub named : texts_in audit.not_utf8 ≡ concerned audit.found.certificate.items not_utf8
 
 -- ---- what is written
 
@@ -183,7 +203,7 @@ WritesHelp exit text out out' err err' = AppendsPart out out' text × WritesFaul
 -- The cause of a fault, where words name these directories and this environment is judged, in the order in which all but
 -- the last are looked for: a word names no directory, and it is the first; or the device has failed at the first that
 -- can't be judged; each of them is there, and MODULEPATH has no directory, or the walk over the site, without what can't
--- be read, has a cause. At any time memory is wanting, or the device has failed too often.
+-- be read, has a cause; or an audit finds that none of its directories is there. At any time memory is wanting, or the device has failed too often.
 pub data IsSiteFault (agrees : Files → Listings → Type 0) (has_failed : Text → Bool) (often : Type 0)
     (judged : Environment) (dirs : List Text) : AuditFault → Type 0 where
   no_directory : (dir : String Global) → IsFirstGone agrees dirs (string_bytes dir)
@@ -191,6 +211,11 @@ pub data IsSiteFault (agrees : Files → Listings → Type 0) (has_failed : Text
   unreadable_directory : IsFirstUnreadable agrees has_failed dirs
       → IsSiteFault agrees has_failed often judged dirs (Refused (refused_read Device))
   empty_modulepath : AreDirectories agrees dirs → has_directory judged ≡ false
+      → IsSiteFault agrees has_failed often judged dirs EmptyModulepath
+  none_there : (without : List Text) (audit : ReadableAudit) → AreDirectories agrees dirs
+      → InEachPair (AgreesWithout (texts_in audit.unreadable) agrees) (λ files listings.
+      IsAudit (site_of standard judged files listings) without audit.found)
+      → is_nothing_there judged audit ≡ true
       → IsSiteFault agrees has_failed often judged dirs EmptyModulepath
   no_walk : (paths : List Text) (fault : WalkFault) → AreDirectories agrees dirs → AllFailed has_failed paths
       → HasCause (AgreesWithout paths agrees) often standard judged fault
@@ -210,21 +235,24 @@ pub data IsAuditFault (agrees : Files → Listings → Type 0) (has_failed : Tex
 
 -- What an audit writes, by how it ended: its report; or nothing on standard output, and the line that says why there is
 -- none on standard error. The numbers are those of the device's failures before and after: it is given up only where it
--- failed in between, and a thousand times in all.
+-- failed in between, and at a thousand paths in all.
 abbrev pub EndsJudged : AuditExit → Layout → (Files → Listings → Type 0) → (Text → Bool) → ℕ → ℕ → Environment → List Text
-    → Option Text → Option Text → Option Text → Option Text → Type 0
-EndsJudged exit layout agrees has_failed before now e arguments out out' err err' =
-    ((wanted : Wanted) × (audit : ReadableAudit) × IsAudited agrees has_failed (before < now) e arguments wanted audit
+    → List Text → Option Text → Option Text → Option Text → Option Text → Type 0
+EndsJudged exit layout agrees has_failed before now e not_utf8 arguments out out' err err' =
+    ((wanted : Wanted) × (audit : ReadableAudit)
+    × IsAudited agrees has_failed before now e not_utf8 arguments wanted audit
     × WritesAudit exit (all_certified audit) (report_text layout wanted audit) out out' err err')
-    ⊎ ((fault : AuditFault) × IsAuditFault agrees has_failed ((before < now) × (1000 ≤ now)) e arguments fault
+    ⊎ ((fault : AuditFault)
+    × IsAuditFault agrees has_failed ((before < now) × HasFailedOften has_failed now) e arguments fault
     × Keeps out out' × WritesFault exit err err' fault)
 
 -- The same, or where the arguments ask for help, that alone: then nothing is read.
 abbrev pub EndsAudit : AuditExit → Layout → Type 0 → (Files → Listings → Type 0) → (Text → Bool) → ℕ → ℕ → Environment
-    → List Text → Option Text → Option Text → Option Text → Option Text → Type 0
-EndsAudit exit layout unread agrees has_failed before now e arguments out out' err err' =
+    → List Text → List Text → Option Text → Option Text → Option Text → Option Text → Type 0
+EndsAudit exit layout unread agrees has_failed before now e not_utf8 arguments out out' err err' =
     ((asks_help arguments ≡ true) × unread × WritesHelp exit help_text out out' err err')
-    ⊎ ((asks_help arguments ≡ false) × EndsJudged exit layout agrees has_failed before now e arguments out out' err err')
+    ⊎ ((asks_help arguments ≡ false)
+    × EndsJudged exit layout agrees has_failed before now e not_utf8 arguments out out' err err')
 
 -- the status of the process
 abbrev pub status_of : AuditExit → ℕ

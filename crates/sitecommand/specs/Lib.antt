@@ -4,6 +4,7 @@ pub mod ArgumentViews
 pub mod Faults
 pub mod Audits
 pub mod Looked
+pub mod NotUtf8
 pub mod Tried
 pub mod Steps
 pub mod SiteCommands

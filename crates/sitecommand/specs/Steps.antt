@@ -1,5 +1,6 @@
 -- For the contracts of private functions: the steps of an audit (own).
 use Rattle.std.specs.Prelude.{◌≡◌, ◌⊎◌, ◌&&◌, ◌||◌, Bool, true, false, List, Option, Some, None, IsSome, if◌then◌else◌, not}
+use Rattle.std.specs.Prelude.{ℕ, ◌+◌, ◌<◌, ◌≤◌, length}
 use Rattle.std.specs.Prelude.{Result, Ok, Err, bytes_eq, string_bytes}
 use Rattle.std.specs.BTreeSet.{BTreeSet, contains_text}
 use Rattle.std.specs.declared.alloc.Global.{Global}
@@ -20,11 +21,12 @@ use Rattle.sitereport.specs.declared.readable.ReadableAudit.{ReadableAudit}
 use Rattle.modulecmd.specs.Command.{standard}
 use Rattle.sitecommand.specs.Arguments.{Wanted, wanted_of}
 use Rattle.sitecommand.specs.Audits.{AreDirectories, AreUnreadable, IsFirstGone, IsNoDirectory, has_directory}
-use Rattle.sitecommand.specs.Audits.{is_no_element, judged_env, report_text, all_certified}
+use Rattle.sitecommand.specs.Audits.{is_no_element, is_nothing_there, judged_env, report_text, all_certified}
 use Rattle.sitecommand.specs.Faults.{of_walk}
 use Rattle.modules.specs.Verdicts.{in_sh}
 use Rattle.modules.specs.declared.refusal.Refusal.{Refusal}
-use Rattle.sitecommand.specs.Tried.{AreTrials, has_failed_trial, some_failed}
+use Rattle.sitecommand.specs.NotUtf8.{concerned}
+use Rattle.sitecommand.specs.Tried.{AreTrials, failed_in, has_failed_trial}
 use Rattle.sitecommand.specs.declared.layout.Layout.{Layout}
 use Rattle.sitecommand.specs.declared.readable.SeenAudit.{SeenAudit}
 use Rattle.trials.specs.declared.trial.Trial.{Trial}
@@ -93,37 +95,43 @@ pub record IsFoundWithout (agrees : Files → Listings → Type 0) (paths : List
   pub holds : InEachPair (AgreesWithout paths agrees) (λ files listings.
       CertificateStands (site_of standard judged files listings) found)
 
--- What is found of the site without what can't be read, and the paths of that.
-pub record IsReadable (agrees : Files → Listings → Type 0) (has_failed : Text → Bool) (fails : Type 0)
+-- What is found of the site without what can't be read, and the paths of that: no more than how often the device has
+-- failed.
+pub record IsReadable (agrees : Files → Listings → Type 0) (has_failed : Text → Bool) (fails : Type 0) (now : ℕ)
     (judged : Environment) (dirs without : List Text) (audit : SeenAudit) : Type 0 where
   pub unreadable : AreUnreadable has_failed fails (texts_in audit.unreadable)
+  pub counted : length (texts_in audit.unreadable) ≤ now
   pub found : IsFoundWithout agrees (texts_in audit.unreadable) judged dirs without audit.found
 
--- The same, with the trials of the modules in the environment that is judged: the device has failed in the call where it
--- ended one of them.
-pub record IsTriedAudit (agrees : Files → Listings → Type 0) (has_failed : Text → Bool) (fails : Type 0)
-    (judged : Environment) (dirs without : List Text) (audit : ReadableAudit) : Type 0 where
-  pub unreadable : AreUnreadable has_failed fails (texts_in audit.unreadable)
+-- The same, with the trials of the modules in the environment that is judged: the device has failed in the call as often
+-- as it ended one of them, and in all as often as that and for each of the paths; and with those of these variables that
+-- concern the certificate.
+pub record IsTriedAudit (agrees : Files → Listings → Type 0) (has_failed : Text → Bool) (before now : ℕ)
+    (judged : Environment) (not_utf8 dirs without : List Text) (audit : ReadableAudit) : Type 0 where
+  pub unreadable : AreUnreadable has_failed (before + failed_in audit.trials.items < now) (texts_in audit.unreadable)
   pub found : IsFoundWithout agrees (texts_in audit.unreadable) judged dirs without audit.found
   pub tried : InEachPair agrees (λ files listings.
-      AreTrials (in_sh standard files listings) judged audit.found.modules.items audit.trials.items)
-  pub failed : some_failed audit.trials.items ≡ true → fails
+      AreTrials (in_sh standard files listings) not_utf8 judged audit.found.modules.items audit.trials.items)
+  pub failed : before + failed_in audit.trials.items ≤ now
+  pub counted : length (texts_in audit.unreadable) + failed_in audit.trials.items ≤ now
+  pub named : texts_in audit.not_utf8 ≡ concerned audit.found.certificate.items not_utf8
 
 -- What is to be written of an audit of what is asked for, where its lines are laid out so.
-pub record IsPrepared (layout : Layout) (agrees : Files → Listings → Type 0) (has_failed : Text → Bool) (fails : Type 0)
-    (e : Environment) (wanted : Wanted) (answer : PreparedAudit) : Type 0 where
+pub record IsPrepared (layout : Layout) (agrees : Files → Listings → Type 0) (has_failed : Text → Bool) (before now : ℕ)
+    (e : Environment) (not_utf8 : List Text) (wanted : Wanted) (answer : PreparedAudit) : Type 0 where
   pub audit : ReadableAudit
-  pub tried : IsTriedAudit agrees has_failed fails (judged_env e wanted.directories) wanted.directories wanted.without
-      audit
+  pub tried : IsTriedAudit agrees has_failed before now (judged_env e wanted.directories) not_utf8 wanted.directories
+      wanted.without audit
+  pub there : is_nothing_there (judged_env e wanted.directories) audit ≡ false
   pub certified : answer.is_all_certified ≡ all_certified audit
   pub report : answer.report.items ≡ report_text layout wanted audit
 
 -- the same of an audit by its arguments
 pub record IsPreparedAudit (layout : Layout) (agrees : Files → Listings → Type 0) (has_failed : Text → Bool)
-    (fails : Type 0) (e : Environment) (arguments : List Text) (answer : PreparedAudit) : Type 0 where
+    (before now : ℕ) (e : Environment) (not_utf8 arguments : List Text) (answer : PreparedAudit) : Type 0 where
   pub wanted : Wanted
   pub asked : wanted_of arguments ≡ Some wanted
-  pub prepared : IsPrepared layout agrees has_failed fails e wanted answer
+  pub prepared : IsPrepared layout agrees has_failed before now e not_utf8 wanted answer
 
 -- the cause of a fault, where the site is judged in this environment and words name these directories
 abbrev pub IsFoundFault : (Files → Listings → Type 0) → Type 0 → Environment → List Text → AuditFault → Type 0

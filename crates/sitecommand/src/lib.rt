@@ -8,8 +8,10 @@ mod audit_fault;
 mod directories;
 mod laws;
 mod layout;
+mod not_utf8;
 mod readable;
 mod running;
+mod there;
 mod trying;
 mod unreadable;
 

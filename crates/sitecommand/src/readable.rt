@@ -1,9 +1,10 @@
 //! The audit of the site that is asked for, without what can't be read.
-ghost use Rattle.std.specs.Prelude.{◌≡◌, ◌<◌, ◌≤◌, map, IfOk, IfErr, IfSome, string_bytes};
+ghost use Rattle.std.specs.Prelude.{◌≡◌, ◌<◌, ◌≤◌, true, length, map, IfOk, IfErr, IfSome, string_bytes};
 ghost use Rattle.filetree.specs.Agreement.{FailsWhere, ReadsOn};
+ghost use Rattle.filetree.specs.declared.tree.TreeFault.TheVariants as faults;
 ghost use Rattle.hidingtree.specs.Hidden as hidden;
 ghost use Rattle.modules.specs.Answers.{is_failure};
-ghost use Rattle.sitecommand.specs.Audits.{IsSiteFault};
+ghost use Rattle.sitecommand.specs.Audits.{HasFailedOften, IsSiteFault};
 ghost use Rattle.sitecommand.specs.Faults as spec;
 ghost use Rattle.sitecommand.specs.Looked.{ReadsUnlessFails, SiteLooksAt};
 ghost use Rattle.sitecommand.specs.Steps as steps;
@@ -87,7 +88,7 @@ fn is_failure(fault: &AuditFault) -> bool
 }
 
 /// Whether the path is one of these.
-fn is_among(paths: &[String], path: &str) -> bool
+pub(crate) fn is_among(paths: &[String], path: &str) -> bool
     ensures { result ≡ hidden.is_among (map string_bytes paths.now) path.now }
 {
     paths.iter().any(|other| path == other.as_str())
@@ -125,11 +126,33 @@ fn unless_hidden(hidden: &[String], fault: AuditFault) -> AuditFault
     }
 }
 
-/// Why there is no audit where the device failed at a path that can't be hidden.
-fn in_the_end<T: Tree + Drop>(tree: &HidingTree<T>) -> AuditFault
-    ensures { IsGivenUp (1000 ≤ T.failures tree.now.tree) result }
+/// Whether these are as many paths as are hidden at most.
+fn are_most(paths: &[String]) -> bool
+    ensures { result ≡ true → 1000 ≤ length paths.now }
 {
-    AuditFault::from(tree.fault_in_the_end())
+    paths.len() >= MOST_HIDDEN
+}
+
+/// Why nothing is seen at a path that can't be hidden: the device failed at a thousand others, or else memory didn't
+/// suffice to keep it.
+fn fault_in_the_end<T: Tree + Drop>(alloc: Global, tree: &HidingTree<T>) -> TreeFault
+    ensures { result ≡ faults.Device → HasFailedOften (T.failed tree.now.tree) (T.failures tree.now.tree) }
+{
+    let Ok(paths) = in_order(alloc, tree.hidden.as_slice()) else {
+        return TreeFault::OutOfMemory;
+    };
+    if are_most(paths.as_slice()) {
+        TreeFault::Device
+    } else {
+        TreeFault::OutOfMemory
+    }
+}
+
+/// Why there is no audit where the device failed at a path that can't be hidden.
+fn in_the_end<T: Tree + Drop>(alloc: Global, tree: &HidingTree<T>) -> AuditFault
+    ensures { IsGivenUp (HasFailedOften (T.failed tree.now.tree) (T.failures tree.now.tree)) result }
+{
+    AuditFault::from(fault_in_the_end(alloc, tree))
 }
 
 /// The audit of the site of an environment without what is hidden; `None` where the device fails at a path that isn't
@@ -147,7 +170,7 @@ fn audit_seen<T: Tree + Drop, P: WalkProgress>(
         (map string_bytes tree.new.hidden.items) judged.now (map string_bytes directories.now)
         (map string_bytes without.now))) }
     ensures refused { IfErr result (IsSiteFault (T.agrees tree.new.tree)
-        (T.failed tree.new.tree) (1000 ≤ T.failures tree.new.tree) judged.now
+        (T.failed tree.new.tree) (HasFailedOften (T.failed tree.new.tree) (T.failures tree.new.tree)) judged.now
         (map string_bytes directories.now)) }
 {
     match audit_wanted(alloc, directories, without, judged, tree, progress) {
@@ -175,10 +198,10 @@ fn audit_without<T: Tree + Drop, P: WalkProgress>(
     ensures counts { T.failures tree.old.tree ≤ T.failures tree.new.tree }
     ensures found { IfOk result (IsReadable (T.agrees tree.new.tree)
         (T.failed tree.new.tree)
-        (T.failures tree.old.tree ≤ T.failures tree.new.tree) judged.now (map string_bytes directories.now)
-        (map string_bytes without.now)) }
+        (T.failures tree.old.tree ≤ T.failures tree.new.tree) (T.failures tree.new.tree) judged.now
+        (map string_bytes directories.now) (map string_bytes without.now)) }
     ensures refused { IfErr result (IsSiteFault (T.agrees tree.new.tree)
-        (T.failed tree.new.tree) (1000 ≤ T.failures tree.new.tree) judged.now
+        (T.failed tree.new.tree) (HasFailedOften (T.failed tree.new.tree) (T.failures tree.new.tree)) judged.now
         (map string_bytes directories.now)) }
 {
     for _ in 0..MOST_HIDDEN {
@@ -189,15 +212,16 @@ fn audit_without<T: Tree + Drop, P: WalkProgress>(
             });
         }
         if !tree.hide_all_failed()? {
-            return Err(in_the_end(tree));
+            return Err(in_the_end(alloc, tree));
         }
     }
-    Err(in_the_end(tree))
+    Err(in_the_end(alloc, tree))
 }
 
 /// The audit of the site of an environment; where something can't be read, without that.
 ///
-/// Where a word names a directory that can't be read there is none (43), nor where the device failed a thousand times.
+/// Where a word names a directory that can't be read there is none (43), nor where the device failed at more than a
+/// thousand paths.
 pub(crate) fn audit_readable<T: Tree + Drop, P: WalkProgress>(
     alloc: Global,
     directories: &[String],
@@ -210,11 +234,12 @@ pub(crate) fn audit_readable<T: Tree + Drop, P: WalkProgress>(
         (SiteLooksAt judged.now (map string_bytes directories.now)) }
     ensures found { IfOk result (IsReadable (T.agrees tree.new.tree)
         (T.failed tree.new.tree)
-        (T.failures tree.old.tree < T.failures tree.new.tree) judged.now (map string_bytes directories.now)
-        (map string_bytes without.now)) }
+        (T.failures tree.old.tree < T.failures tree.new.tree) (T.failures tree.new.tree) judged.now
+        (map string_bytes directories.now) (map string_bytes without.now)) }
     ensures refused { IfErr result (IsSiteFault (T.agrees tree.new.tree)
         (T.failed tree.new.tree)
-        ((T.failures tree.old.tree < T.failures tree.new.tree) × (1000 ≤ T.failures tree.new.tree)) judged.now
+        ((T.failures tree.old.tree < T.failures tree.new.tree)
+        × HasFailedOften (T.failed tree.new.tree) (T.failures tree.new.tree)) judged.now
         (map string_bytes directories.now)) }
 {
     match audit_wanted(

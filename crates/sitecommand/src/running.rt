@@ -4,7 +4,7 @@ ghost use Rattle.std.specs.List.{list_all};
 ghost use Rattle.siteaudit.specs.Audits.{is_certified};
 ghost use Rattle.sitecommand.specs.ArgumentViews.{wanted_view};
 ghost use Rattle.sitecommand.specs.Audits as spec;
-ghost use Rattle.sitecommand.specs.Audits.{EndsAudit, EndsJudged, IsAuditFault, IsSiteFault};
+ghost use Rattle.sitecommand.specs.Audits.{EndsAudit, EndsJudged, HasFailedOften, IsAuditFault, IsSiteFault};
 ghost use Rattle.sitecommand.specs.Audits.{WritesAudit, WritesFault, WritesHelp, judged_env};
 ghost use Rattle.sitecommand.specs.Looked.{AuditCommandLooksAt, ReadsUnlessFails, JudgedLooksAt};
 ghost use Rattle.sitecommand.specs.Steps.{IsPrepared, IsPreparedAudit};
@@ -14,6 +14,7 @@ use crate::audit_exit::AuditExit;
 use crate::audit_fault::{AuditFault, write_fault};
 use crate::directories::judged_env;
 use crate::layout::Layout;
+use crate::there::is_nothing_there;
 use crate::trying::audit_tried;
 use envvars::Env;
 use filetree::Tree;
@@ -74,16 +75,19 @@ fn prepare<T: Tree + Drop, P: WalkProgress>(
     wanted: &AuditArguments,
     layout: Layout,
     env: Env,
+    not_utf8: &[String],
     tree: &mut HidingTree<T>,
     progress: &mut P,
 ) -> Result<PreparedAudit, AuditFault>
     ensures reads { ReadsUnlessFails T.agrees T.failures T.failed tree.old.tree tree.new.tree
         (JudgedLooksAt (judged_env env (wanted_view wanted.now).directories) (wanted_view wanted.now).directories) }
     ensures answered { IfOk result (IsPrepared layout (T.agrees tree.new.tree) (T.failed tree.new.tree)
-        (T.failures tree.old.tree < T.failures tree.new.tree) env (wanted_view wanted.now)) }
+        (T.failures tree.old.tree) (T.failures tree.new.tree) env (map string_bytes not_utf8.now)
+        (wanted_view wanted.now)) }
     ensures refused { IfErr result (IsSiteFault (T.agrees tree.new.tree)
         (T.failed tree.new.tree)
-        ((T.failures tree.old.tree < T.failures tree.new.tree) × (1000 ≤ T.failures tree.new.tree))
+        ((T.failures tree.old.tree < T.failures tree.new.tree)
+        × HasFailedOften (T.failed tree.new.tree) (T.failures tree.new.tree))
         (judged_env env (wanted_view wanted.now).directories) (wanted_view wanted.now).directories) }
 {
     let directories = wanted.directories.as_slice();
@@ -93,9 +97,14 @@ fn prepare<T: Tree + Drop, P: WalkProgress>(
         directories,
         wanted.without.as_slice(),
         &judged,
+        not_utf8,
         tree,
         progress,
     )?;
+    let is_nothing = is_nothing_there(alloc, &judged, &audit)?;
+    if is_nothing {
+        return Err(AuditFault::EmptyModulepath);
+    }
     let report = report_of(alloc, wanted, layout, &audit)?;
     Ok(PreparedAudit {
         is_all_certified: is_all_certified(&audit),
@@ -109,21 +118,24 @@ fn answer_of<T: Tree + Drop, P: WalkProgress>(
     args: &[String],
     layout: Layout,
     env: Env,
+    not_utf8: &[String],
     tree: &mut HidingTree<T>,
     progress: &mut P,
 ) -> Result<PreparedAudit, AuditFault>
     ensures reads { ReadsUnlessFails T.agrees T.failures T.failed tree.old.tree tree.new.tree
         (AuditCommandLooksAt env (map string_bytes args.now)) }
     ensures answered { IfOk result (IsPreparedAudit layout (T.agrees tree.new.tree) (T.failed tree.new.tree)
-        (T.failures tree.old.tree < T.failures tree.new.tree) env (map string_bytes args.now)) }
+        (T.failures tree.old.tree) (T.failures tree.new.tree) env (map string_bytes not_utf8.now)
+        (map string_bytes args.now)) }
     ensures refused { IfErr result (IsAuditFault (T.agrees tree.new.tree)
         (T.failed tree.new.tree)
-        ((T.failures tree.old.tree < T.failures tree.new.tree) × (1000 ≤ T.failures tree.new.tree)) env
+        ((T.failures tree.old.tree < T.failures tree.new.tree)
+        × HasFailedOften (T.failed tree.new.tree) (T.failures tree.new.tree)) env
         (map string_bytes args.now)) }
 {
     match wanted_of(alloc, args)? {
         None => Err(AuditFault::BadArguments),
-        Some(wanted) => prepare(alloc, &wanted, layout, env, tree, progress),
+        Some(wanted) => prepare(alloc, &wanted, layout, env, not_utf8, tree, progress),
     }
 }
 
@@ -170,6 +182,7 @@ fn run_judged<T: Tree + Drop, P: WalkProgress, W: Write, E: Write>(
     args: &[String],
     layout: Layout,
     env: Env,
+    not_utf8: &[String],
     tree: &mut HidingTree<T>,
     progress: &mut P,
     out: &mut W,
@@ -178,10 +191,10 @@ fn run_judged<T: Tree + Drop, P: WalkProgress, W: Write, E: Write>(
     ensures reads { ReadsUnlessFails T.agrees T.failures T.failed tree.old.tree tree.new.tree
         (AuditCommandLooksAt env (map string_bytes args.now)) }
     ensures ended { EndsJudged result layout (T.agrees tree.new.tree) (T.failed tree.new.tree)
-        (T.failures tree.old.tree) (T.failures tree.new.tree) env (map string_bytes args.now)
-        (W.contents out.old) (W.contents out.new) (E.contents err.old) (E.contents err.new) }
+        (T.failures tree.old.tree) (T.failures tree.new.tree) env (map string_bytes not_utf8.now)
+        (map string_bytes args.now) (W.contents out.old) (W.contents out.new) (E.contents err.old) (E.contents err.new) }
 {
-    let answer = answer_of(alloc, args, layout, env, tree, progress);
+    let answer = answer_of(alloc, args, layout, env, not_utf8, tree, progress);
     // Nothing is under way any more, and the streams are free for what is written.
     progress.evaluated(0, 0);
     match answer {
@@ -199,7 +212,9 @@ fn run_judged<T: Tree + Drop, P: WalkProgress, W: Write, E: Write>(
 /// the site is read, and so is one at which the device fails (43), and a MODULEPATH without a directory. Each file of the
 /// site is read once, and the report goes to standard output, its lines laid out as is said. It names the other files and
 /// directories that can't be read, each once: the device failed at each of them, and the audit is one of what stands
-/// elsewhere. There is none (43) only where the device failed in this call, and a thousand times in all.
+/// elsewhere. There is none (43) only where the device failed in this call, and at a thousand paths in all; nor where no
+/// directory of MODULEPATH is there. The process has the given variables besides, which aren't UTF-8, so that the
+/// environment hasn't them: the report names those that concern the certificate, and no trial that loses one returns.
 ///
 /// Where there is a fault before the report is made, nothing is written but the line that says why, to standard error.
 pub fn run_audit<T: Tree + Drop, P: WalkProgress, W: Write, E: Write>(
@@ -207,6 +222,7 @@ pub fn run_audit<T: Tree + Drop, P: WalkProgress, W: Write, E: Write>(
     args: &[String],
     layout: Layout,
     env: Env,
+    not_utf8: &[String],
     tree: &mut HidingTree<T>,
     progress: &mut P,
     out: &mut W,
@@ -216,11 +232,11 @@ pub fn run_audit<T: Tree + Drop, P: WalkProgress, W: Write, E: Write>(
         (AuditCommandLooksAt env (map string_bytes args.now)) }
     ensures ended { EndsAudit result layout (tree.new ≡ tree.old) (T.agrees tree.new.tree)
         (T.failed tree.new.tree) (T.failures tree.old.tree) (T.failures tree.new.tree) env
-        (map string_bytes args.now) (W.contents out.old) (W.contents out.new) (E.contents err.old)
-        (E.contents err.new) }
+        (map string_bytes not_utf8.now) (map string_bytes args.now) (W.contents out.old) (W.contents out.new)
+        (E.contents err.old) (E.contents err.new) }
 {
     if asks_help(args) {
         return write_help(HELP, out, err);
     }
-    run_judged(alloc, args, layout, env, tree, progress, out, err)
+    run_judged(alloc, args, layout, env, not_utf8, tree, progress, out, err)
 }

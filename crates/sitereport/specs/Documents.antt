@@ -268,6 +268,10 @@ unread_field paths = texts_field (codes "unread_default_files") paths
 abbrev pub bad_files_field : List (String Global) → Field
 bad_files_field paths = texts_field (codes "bad_default_files") paths
 
+-- the variables of the certificate, or kept by the tool itself, that aren't UTF-8
+abbrev pub not_utf8_field : List (String Global) → Field
+not_utf8_field names = texts_field (codes "not_utf8") names
+
 -- the names that mean no module of the site, and where the environment at hand doesn't agree with the certificate
 abbrev pub rest_fields : List UnknownNames → List Disagreement → List Field
 rest_fields unknowns reasons =
@@ -288,7 +292,7 @@ document selection audit =
     object_of (modules_field selection found.modules.items audit.trials.items ∷ unreadable_field audit.unreadable.items
     ∷ count_fields (length audit.unreadable.items) found.modules.items ++ certificate_field found.certificate.items
     ∷ paths_fields audit ++ hanging_field found.hanging_directories.items
-    ∷ rest_fields found.unknown_names.items found.disagreements.items)
+    ∷ not_utf8_field audit.not_utf8.items ∷ rest_fields found.unknown_names.items found.disagreements.items)
 
 -- its text, on a line of its own
 abbrev pub document_text : Selection → ReadableAudit → Text

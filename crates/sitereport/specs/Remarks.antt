@@ -130,6 +130,14 @@ disagreement_words (StackNotInOrder variable) = string_bytes variable ++ codes "
 unfoldable pub environment_line : Text → Text
 environment_line words = codes "# environment: " ++ (spelled words ++ codes "\n")
 
+-- the line of a variable that isn't UTF-8, by its name
+unfoldable pub not_utf8 : Text → Text
+not_utf8 name = codes "# environment: " ++ (spelled name ++ codes " isn't UTF-8\n")
+
+-- the same by the name as the code has it
+abbrev pub not_utf8_line : String Global → Text
+not_utf8_line name = not_utf8 (string_bytes name)
+
 -- a line for each of them; for one that comes again, none
 abbrev pub environment_lines : List Disagreement → Text
 environment_lines ds = flat_map environment_line (without_repeats (map disagreement_words ds))

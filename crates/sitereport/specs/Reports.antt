@@ -9,7 +9,7 @@ use Rattle.sitereport.specs.Readable.{unreadable_line}
 use Rattle.sitereport.specs.Tried.{TriedModule, here, with_trials}
 use Rattle.sitereport.specs.Words.{spelled, standing_word, reason, is_named, certified_count, standing_count}
 use Rattle.sitereport.specs.Remarks.{missing_line, hanging_line, further_lines, no_modulefile_line, bad_file_line}
-use Rattle.sitereport.specs.Remarks.{conflict_lines, prereq_line, unread_file_line, environment_lines}
+use Rattle.sitereport.specs.Remarks.{conflict_lines, prereq_line, unread_file_line, environment_lines, not_utf8_line}
 use Rattle.trials.specs.declared.trial.Trial.{Trial}
 
 -- the line of a module: its name, its standing in one word, the reason and its path, parted by tabs, and what happens here
@@ -70,4 +70,4 @@ report_of selection audit =
     ++ (flat_map unread_file_line found.unread_default_files.items
     ++ (flat_map bad_file_line found.bad_default_files.items
     ++ (conflict_lines found.unknown_names.items ++ (flat_map prereq_line found.unknown_names.items
-    ++ environment_lines found.disagreements.items)))))))))
+    ++ (environment_lines found.disagreements.items ++ flat_map not_utf8_line audit.not_utf8.items))))))))))

@@ -501,6 +501,7 @@ fn write_document(
     write_certificate(alloc, writer, found.certificate.as_slice())?;
     write_paths(writer, audit)?;
     write_hanging(writer, found.hanging_directories.as_slice())?;
+    write_text_array(writer, "not_utf8", audit.not_utf8.as_slice())?;
     write_rest(
         alloc,
         writer,

@@ -16,6 +16,9 @@ pub struct ReadableAudit {
     pub unreadable: Vec<String>,
     /// For each of the modules, in their order, what its trial finds; `None` for one that isn't tried.
     pub trials: Vec<Option<Trial>>,
+    /// The variables that the process has and the environment hasn't, since they aren't UTF-8, of those that certified
+    /// modules use or read, or that the tool keeps itself.
+    pub not_utf8: Vec<String>,
 }
 
 /// Adds the line of a path that can't be read.

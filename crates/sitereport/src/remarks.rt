@@ -183,6 +183,25 @@ fn push_bad_file(report: &mut Vec<u8>, path: &str) -> Result<(), AllocError>
     push_text(report, "\n")
 }
 
+/// Adds a line for each variable that isn't UTF-8.
+pub(crate) fn push_not_utf8(report: &mut Vec<u8>, names: &[String]) -> Result<(), AllocError>
+    ensures { OnOk result (report.new.items ≡ report.old.items ++ flat_map spec.not_utf8_line names.now) }
+{
+    for name in names {
+        push_not_utf8_variable(report, name.as_str())?;
+    }
+    Ok(())
+}
+
+/// Adds the line of a variable that isn't UTF-8.
+fn push_not_utf8_variable(report: &mut Vec<u8>, name: &str) -> Result<(), AllocError>
+    ensures { OnOk result (report.new.items ≡ report.old.items ++ spec.not_utf8 name.now) }
+{
+    push_text(report, "# environment: ")?;
+    push_field(report, name)?;
+    push_text(report, " isn't UTF-8\n")
+}
+
 /// Adds the names, each in quotes after a blank.
 fn push_names(report: &mut Vec<u8>, names: &[String]) -> Result<(), AllocError>
     ensures { OnOk result (report.new.items ≡ report.old.items ++ flat_map spec.quoted_name names.now) }

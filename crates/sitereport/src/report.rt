@@ -7,7 +7,7 @@ use crate::fields::{push_field, push_text};
 use crate::readable::{ReadableAudit, push_unreadable};
 use crate::remarks::{
     push_all_further, push_bad_files, push_disagreements, push_hanging_directories, push_missing,
-    push_no_modulefiles, push_prereqs, push_unread_files,
+    push_no_modulefiles, push_not_utf8, push_prereqs, push_unread_files,
 };
 use crate::selection::{Selection, certified_count, standing_count};
 use crate::tried::{first_trial, later_trials, push_here};
@@ -193,5 +193,6 @@ pub fn line_report(
     push_conflicts(alloc, &mut report, found.unknown_names.as_slice())?;
     push_prereqs(&mut report, found.unknown_names.as_slice())?;
     push_disagreements(alloc, &mut report, found.disagreements.as_slice())?;
+    push_not_utf8(&mut report, audit.not_utf8.as_slice())?;
     Ok(report)
 }

@@ -1,5 +1,5 @@
 -- A module has a trial.
-use Rattle.std.proofs.Common.{◌≡◌, inl, inr, Bool, true, false, List, [], ◌∷◌, Result, Ok, Err, refl, sym}
+use Rattle.std.proofs.Common.{◌≡◌, inl, inr, Bool, true, false, List, [], ◌∷◌, ◌++◌, Result, Ok, Err, refl, sym}
 use Rattle.std.proofs.Common.{ap, ◌∙◌, arith}
 use Rattle.std.specs.Prelude.{bytes_eq}
 use Rattle.std.proofs.lemmas.Slice.Eq.{bytes_eq-Decides}
@@ -15,7 +15,7 @@ use Rattle.requests.specs.Requests.{load, unload}
 use Rattle.requests.specs.Steps.{RequestContext, Done}
 use Rattle.trials.specs.Laws.{IsDecided, SomeTrial}
 use Rattle.trials.specs.Trials.{Trial, returns, leaves, load_refused, unload_refused, already_loaded, loads_another}
-use Rattle.trials.specs.Trials.{HasTrial, LoadStep, LoadsModule, UnloadStep}
+use Rattle.trials.specs.Trials.{HasTrial, LoadStep, LoadsModule, UnloadStep, lost_among}
 use Rattle.trials.proofs.LoadLemmas.{LoadsAtMostOne, loads_at_most_one, same_module}
 use Rattle.trials.proofs.OrderLemmas.{names_in}
 use Rattle.trials.proofs.SomeDifference.{some_difference}
@@ -24,19 +24,36 @@ use Rattle.trials.proofs.TrialLemmas.{DifferenceApplies}
 unequal : (x y : Text) → bytes_eq x y ≡ false → x ≡ y → ⊥
 unequal x y h same = let k : bytes_eq x y ≡ true = (bytes_eq-Decides x y).1 same in absurd (cc)
 
-module _ (law : SomeOutcome) (applies : DifferenceApplies) (s : RequestContext) (start : Environment)
-    (name path : Text) where
+module _ (law : SomeOutcome) (applies : DifferenceApplies) (s : RequestContext) (not_utf8 : List Text)
+    (start : Environment) (name path : Text) where
   abbrev Tried : Type 0
-  Tried = (t : Trial) × IsDecided t × HasTrial s start name path t
+  Tried = (t : Trial) × IsDecided t × HasTrial s not_utf8 start name path t
 
-  by_difference : (d back : Done) (cs : List NewValue) → LoadsModule s start name name path d
-      → UnloadStep s d.env name (Ok back) → AreChanges start back.env cs → Tried
-  by_difference d back [] loads step exact =
-      (returns, tt, (d, back, loads, step, sym (applies start back.env [] exact)))
-  by_difference d back (c ∷ cs) loads step exact = (
-    leaves (names_in (c ∷ cs)),
+  by_difference : (d back : Done) (cs : List NewValue) (lost : List Text) → LoadsModule s start name name path d
+      → UnloadStep s d.env name (Ok back) → AreChanges start back.env cs → lost ≡ lost_among not_utf8 d.env back.env
+      → Tried
+  by_difference d back [] [] loads step exact same =
+      (returns, tt, (d, back, loads, step, sym (applies start back.env [] exact), sym same))
+  by_difference d back [] (v ∷ vs) loads step exact same = (
+    leaves (v ∷ vs),
     tt,
-    (d, back, loads, step, record { some = omega arith; changes = c ∷ cs; exact = exact; named = refl }),
+    (d, back, loads, step, record { some = omega arith; changes = []; exact = exact; named = same }),
+  )
+  by_difference d back (c ∷ cs) lost loads step exact same = (
+    leaves (names_in (c ∷ cs) ++ lost),
+    tt,
+    (
+      d,
+      back,
+      loads,
+      step,
+      record {
+        some = omega arith;
+        changes = c ∷ cs;
+        exact = exact;
+        named = ap (λ (l : List Text). names_in (c ∷ cs) ++ l) same;
+      },
+    ),
   )
 
   by_unload : (d : Done) (o : Result Done RequestReason) → LoadsModule s start name name path d
@@ -44,7 +61,7 @@ module _ (law : SomeOutcome) (applies : DifferenceApplies) (s : RequestContext) 
   by_unload d (Err reason) loads step = (unload_refused (because reason), tt, (d, loads, step))
   by_unload d (Ok back) loads step =
       let found = some_difference start back.env in
-      by_difference d back found.0 loads step found.1
+      by_difference d back found.0 (lost_among not_utf8 d.env back.env) loads step found.1 refl
 
   this_loaded : (d : Done) → LoadsModule s start name name path d → Tried
   this_loaded d loads =
@@ -75,6 +92,6 @@ module _ (law : SomeOutcome) (applies : DifferenceApplies) (s : RequestContext) 
   by_load (Ok d) step = by_moves d step (loads_at_most_one s start name d step)
 
 pub some_trial : SomeOutcome → DifferenceApplies → SomeTrial
-some_trial law applies s e name path =
+some_trial law applies s not_utf8 e name path =
     let loaded = law s e (load (name ∷ [])) tt in
-    by_load law applies s e name path loaded.0 loaded.1
+    by_load law applies s not_utf8 e name path loaded.0 loaded.1

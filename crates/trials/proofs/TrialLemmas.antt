@@ -1,5 +1,5 @@
 -- Trials, by what their two requests answered.
-use Rattle.std.proofs.Common.{◌≡◌, ℕ, Bool, true, false, ◌&&◌, inr, List, [], ◌∷◌, Result, Ok, Err}
+use Rattle.std.proofs.Common.{◌≡◌, ◌<◌, length, ℕ, Bool, true, false, ◌&&◌, inr, List, [], ◌∷◌, Result, Ok, Err}
 use Rattle.std.proofs.Common.{Some, IfOk, string_bytes, refl, sym, subst, ap, ◌∙◌}
 use Rattle.std.specs.Prelude.{bytes_eq}
 use Rattle.std.proofs.lemmas.Bool.{and_from, and_parts}
@@ -22,9 +22,9 @@ use Rattle.requests.specs.Laws.{StepsReach}
 use Rattle.requests.specs.Looked.{RequestLooksAt}
 use Rattle.requests.specs.Requests.{RequestedAction, load, unload}
 use Rattle.requests.specs.Steps.{RequestContext, Done, RequestStep}
-use Rattle.trials.specs.Parts.{EndsTrial, IsDifference, IsJoined, IsOutcome}
+use Rattle.trials.specs.Parts.{EndsTrial, IsDifference, IsJoined, IsOutcome, names_left}
 use Rattle.trials.specs.Trials.{Trial, returns, leaves, load_refused, unload_refused, already_loaded, loads_another}
-use Rattle.trials.specs.Trials.{HasTrial, LoadStep, LoadsModule, TrialLooksAt, UnloadStep}
+use Rattle.trials.specs.Trials.{AreLeft, HasTrial, LoadStep, LoadsModule, TrialLooksAt, UnloadStep, lost_among}
 use Rattle.trials.specs.Views.{trial_view}
 use Rattle.trials.specs.declared.trial.Trial as code
 use Rattle.trials.proofs.LoadLemmas.{one_joined}
@@ -33,31 +33,63 @@ use Rattle.trials.proofs.LoadLemmas.{one_joined}
 abbrev pub DifferenceApplies : Type 0
 DifferenceApplies = (old new : Environment) (cs : List NewValue) → AreChanges old new cs → applied cs old ≡ new
 
+-- where nothing is left nothing differs, and nothing is lost
+nothing_left : (cs : List NewValue) (lost : List Text) → names_left cs lost ≡ [] → (cs ≡ []) × (lost ≡ [])
+nothing_left [] lost h = (refl, h)
+nothing_left (c ∷ cs) lost h = absurd (cc)
+
+-- the variables that are left otherwise, by their parts
+pub left_so : (names : List Text) (cs : List NewValue) (lost : List Text) (t : Trial) → names ≡ names_left cs lost
+    → IsDifference names t → IsDifference (names_left cs lost) t
+left_so names cs lost t same h = subst (λ (l : List Text). IsDifference l t) same h
+
 -- the trial ends as the difference says
-pub ends_so : DifferenceApplies → (s : RequestContext) (start e : Environment) (name : Text) (back : Done)
-    (cs : List NewValue) (t : Trial) → UnloadStep s e name (Ok back) → AreChanges start back.env cs → IsDifference cs t
-    → EndsTrial s start e name t
-ends_so law s start e name back cs returns step exact h =
-    (back, step, sym (law start back.env cs exact) ∙ ap (λ (l : List NewValue). applied l start) h)
-ends_so law s start e name back cs (leaves names) step exact h =
-    (back, step, record { some = h.0; changes = cs; exact = exact; named = h.1 })
-ends_so law s start e name back cs (load_refused cause) step exact h = absurd h
-ends_so law s start e name back cs (unload_refused cause) step exact h = absurd h
-ends_so law s start e name back cs already_loaded step exact h = absurd h
-ends_so law s start e name back cs (loads_another other at) step exact h = absurd h
+pub ends_so : DifferenceApplies → (s : RequestContext) (not_utf8 : List Text) (start e : Environment) (name : Text)
+    (back : Done) (cs : List NewValue) (lost : List Text) (t : Trial) → UnloadStep s e name (Ok back)
+    → AreChanges start back.env cs → lost ≡ lost_among not_utf8 e back.env → IsDifference (names_left cs lost) t
+    → EndsTrial s not_utf8 start e name t
+ends_so law s not_utf8 start e name back cs lost returns step exact same h =
+    let k = nothing_left cs lost h in
+    (back, step, sym (law start back.env cs exact) ∙ ap (λ (l : List NewValue). applied l start) k.0, sym same ∙ k.1)
+ends_so law s not_utf8 start e name back cs lost (leaves names) step exact same h = (
+  back,
+  step,
+  record {
+    some = subst (λ (l : List Text). 0 < length l) (sym h.1) h.0;
+    changes = cs;
+    exact = exact;
+    named = h.1 ∙ ap (λ (l : List Text). names_left cs l) same;
+  },
+)
+ends_so law s not_utf8 start e name back cs lost (load_refused cause) step exact same h = absurd h
+ends_so law s not_utf8 start e name back cs lost (unload_refused cause) step exact same h = absurd h
+ends_so law s not_utf8 start e name back cs lost already_loaded step exact same h = absurd h
+ends_so law s not_utf8 start e name back cs lost (loads_another other at) step exact same h = absurd h
 
 -- the end of a trial, after the load of the module
-pub tried_so : (s : RequestContext) (start e : Environment) (name path : Text) (d : Done) (t : Trial)
-    → LoadsModule s start name name path d → d.env ≡ e → EndsTrial s start e name t → HasTrial s start name path t
-tried_so s start e name path d returns loads same (back, step, is) =
-    (d, back, loads, subst (λ (x : Environment). UnloadStep s x name (Ok back)) (sym same) step, is)
-tried_so s start e name path d (leaves names) loads same (back, step, left) =
-    (d, back, loads, subst (λ (x : Environment). UnloadStep s x name (Ok back)) (sym same) step, left)
-tried_so s start e name path d (load_refused cause) loads same h = absurd h
-tried_so s start e name path d (unload_refused cause) loads same h =
-    (d, loads, subst (λ (x : Environment). EndsTrial s start x name (unload_refused cause)) (sym same) h)
-tried_so s start e name path d already_loaded loads same h = absurd h
-tried_so s start e name path d (loads_another other at) loads same h = absurd h
+pub tried_so : (s : RequestContext) (not_utf8 : List Text) (start e : Environment) (name path : Text) (d : Done)
+    (t : Trial) → LoadsModule s start name name path d → d.env ≡ e → EndsTrial s not_utf8 start e name t
+    → HasTrial s not_utf8 start name path t
+tried_so s not_utf8 start e name path d returns loads same (back, step, is, kept) = (
+  d,
+  back,
+  loads,
+  subst (λ (x : Environment). UnloadStep s x name (Ok back)) (sym same) step,
+  is,
+  subst (λ (x : Environment). lost_among not_utf8 x back.env ≡ []) (sym same) kept,
+)
+tried_so s not_utf8 start e name path d (leaves names) loads same (back, step, left) = (
+  d,
+  back,
+  loads,
+  subst (λ (x : Environment). UnloadStep s x name (Ok back)) (sym same) step,
+  subst (λ (x : Environment). AreLeft start back.env (lost_among not_utf8 x back.env) names) (sym same) left,
+)
+tried_so s not_utf8 start e name path d (load_refused cause) loads same h = absurd h
+tried_so s not_utf8 start e name path d (unload_refused cause) loads same h =
+    (d, loads, subst (λ (x : Environment). EndsTrial s not_utf8 start x name (unload_refused cause)) (sym same) h)
+tried_so s not_utf8 start e name path d already_loaded loads same h = absurd h
+tried_so s not_utf8 start e name path d (loads_another other at) loads same h = absurd h
 
 -- ---- the module that was loaded
 
@@ -112,13 +144,13 @@ module _ (context : Files → Listings → RequestContext) (agrees agrees' : Fil
     (narrows : Narrows agrees agrees') (start e : Environment) (name path : Text)
     (loaded : IsLoaded context agrees start e name path) where
   -- the trial of the module is what its unload makes of it
-  pub tried_over : (result : Result code.Trial Refusal)
-      → IfOk result (λ trial. InEachPair agrees' (λ files listings. EndsTrial (context files listings) start e name (trial_view trial)))
-      → IfOk result (λ trial. InEachPair agrees' (λ files listings. HasTrial (context files listings) start name path (trial_view trial)))
-  tried_over (Ok trial) h = λ files listings agreed.
+  pub tried_over : (not_utf8 : List Text) (result : Result code.Trial Refusal)
+      → IfOk result (λ trial. InEachPair agrees' (λ files listings. EndsTrial (context files listings) not_utf8 start e name (trial_view trial)))
+      → IfOk result (λ trial. InEachPair agrees' (λ files listings. HasTrial (context files listings) not_utf8 start name path (trial_view trial)))
+  tried_over not_utf8 (Ok trial) h = λ files listings agreed.
       let l = loaded files listings (narrows files listings agreed) in
-      tried_so (context files listings) start e name path l.0 (trial_view trial) l.1 l.2 (h files listings agreed)
-  tried_over (Err refusal) h = tt
+      tried_so (context files listings) not_utf8 start e name path l.0 (trial_view trial) l.1 l.2 (h files listings agreed)
+  tried_over not_utf8 (Err refusal) h = tt
 
   -- and where the unload failed the trial looks
   pub failed_over : (fails : Bool) (first before now : List ℕ → Bool) → before ≡ first

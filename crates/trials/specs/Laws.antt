@@ -27,13 +27,14 @@ IsDecided (loads_another name path) = Unit {0}
 -- Where no device failed a module has one trial at most.
 abbrev pub OneTrial : Type 0
 OneTrial =
-    (s : RequestContext) (e : Environment) (name path : Text) (t u : Trial) → IsDecided t → IsDecided u
-    → HasTrial s e name path t → HasTrial s e name path u → t ≡ u
+    (s : RequestContext) (not_utf8 : List Text) (e : Environment) (name path : Text) (t u : Trial)
+    → IsDecided t → IsDecided u → HasTrial s not_utf8 e name path t → HasTrial s not_utf8 e name path u → t ≡ u
 
 -- It has one.
 abbrev pub SomeTrial : Type 0
 SomeTrial =
-    (s : RequestContext) (e : Environment) (name path : Text) → (t : Trial) × IsDecided t × HasTrial s e name path t
+    (s : RequestContext) (not_utf8 : List Text) (e : Environment) (name path : Text)
+    → (t : Trial) × IsDecided t × HasTrial s not_utf8 e name path t
 
 -- The unload of the name, where it is accepted, is that of the module that was loaded.
 abbrev pub UnloadsTheModule : Type 0

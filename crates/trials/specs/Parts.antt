@@ -14,7 +14,7 @@ use Rattle.modules.specs.Views.{done_view}
 use Rattle.modules.specs.declared.done.RequestResults.{RequestResults}
 use Rattle.modules.specs.declared.refusal.Refusal.{Refusal}
 use Rattle.trials.specs.Trials.{Trial, returns, leaves, load_refused, unload_refused, already_loaded, loads_another}
-use Rattle.trials.specs.Trials.{AreLeft, IsRefusedBy, UnloadStep}
+use Rattle.trials.specs.Trials.{AreLeft, IsRefusedBy, UnloadStep, lost_among}
 
 -- it is want of memory
 abbrev pub is_of_memory : Cause RequestReason → Bool
@@ -53,20 +53,25 @@ IsJoined [] e found = found ≡ None
 IsJoined (name ∷ names) e found = IsLastLoaded (loaded_in e) found
 
 -- what the unload of the name makes of the trial, from the environment of its load
-abbrev pub EndsTrial : RequestContext → Environment → Environment → Text → Trial → Type 0
-EndsTrial s start e name returns = (back : Done) × UnloadStep s e name (Ok back) × (back.env ≡ start)
-EndsTrial s start e name (leaves names) =
-    (back : Done) × UnloadStep s e name (Ok back) × AreLeft start back.env names
-EndsTrial s start e name (load_refused cause) = ⊥
-EndsTrial s start e name (unload_refused cause) = IsRefusedBy cause (UnloadStep s e name)
-EndsTrial s start e name already_loaded = ⊥
-EndsTrial s start e name (loads_another other at) = ⊥
+abbrev pub EndsTrial : RequestContext → List Text → Environment → Environment → Text → Trial → Type 0
+EndsTrial s not_utf8 start e name returns =
+    (back : Done) × UnloadStep s e name (Ok back) × (back.env ≡ start) × (lost_among not_utf8 e back.env ≡ [])
+EndsTrial s not_utf8 start e name (leaves names) =
+    (back : Done) × UnloadStep s e name (Ok back) × AreLeft start back.env (lost_among not_utf8 e back.env) names
+EndsTrial s not_utf8 start e name (load_refused cause) = ⊥
+EndsTrial s not_utf8 start e name (unload_refused cause) = IsRefusedBy cause (UnloadStep s e name)
+EndsTrial s not_utf8 start e name already_loaded = ⊥
+EndsTrial s not_utf8 start e name (loads_another other at) = ⊥
 
--- what the difference to the environment from before makes of a trial
-abbrev pub IsDifference : List NewValue → Trial → Type 0
-IsDifference changes returns = changes ≡ []
-IsDifference changes (leaves names) = (0 < length names) × (names ≡ map (λ c. c.0) changes)
-IsDifference changes (load_refused cause) = ⊥
-IsDifference changes (unload_refused cause) = ⊥
-IsDifference changes already_loaded = ⊥
-IsDifference changes (loads_another other at) = ⊥
+-- the names of changed variables, and then these
+abbrev pub names_left : List NewValue → List Text → List Text
+names_left changes lost = map (λ c. c.0) changes ++ lost
+
+-- what the variables that are left otherwise make of a trial
+abbrev pub IsDifference : List Text → Trial → Type 0
+IsDifference left returns = left ≡ []
+IsDifference left (leaves names) = (0 < length left) × (names ≡ left)
+IsDifference left (load_refused cause) = ⊥
+IsDifference left (unload_refused cause) = ⊥
+IsDifference left already_loaded = ⊥
+IsDifference left (loads_another other at) = ⊥

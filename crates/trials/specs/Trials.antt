@@ -1,7 +1,8 @@
 -- Trials (own): what the load of a module and then its unload do in an environment.
-use Rattle.std.specs.Prelude.{◌≡◌, ◌<◌, length, List, [], ◌∷◌, map, Result, Ok, Err}
+use Rattle.std.specs.Prelude.{◌≡◌, ◌<◌, length, List, [], ◌∷◌, ◌++◌, map, Result, Ok, Err, is_some, if◌then◌else◌}
+use Rattle.std.specs.List.{flat_map}
 use Rattle.envvars.specs.Texts.{Text}
-use Rattle.envvars.specs.Environment.{Environment}
+use Rattle.envvars.specs.Environment.{Environment, lookup}
 use Rattle.envvars.specs.Changes.{NewValue, AreChanges}
 use Rattle.filetree.specs.Causes.{Cause, memory, device, because}
 use Rattle.modulefile.specs.Records.{Record}
@@ -45,26 +46,51 @@ pub record LoadsModule (s : RequestContext) (e : Environment) (typed name path :
   pub records : List Record
   pub alone : d.moves ≡ Loads (record { name = name; path = path; records = records }) ∷ []
 
--- These are the variables whose values differ, each once, in the order of the bytes of names, and there are some.
-pub record AreLeft (old new : Environment) (names : List Text) : Type 0 where
+-- ---- variables that aren't UTF-8
+
+-- the variable, where an environment has it; and where it doesn't
+abbrev pub if_set : Environment → Text → List Text
+if_set e v = if is_some (lookup e v) then v ∷ [] else []
+
+abbrev pub if_unset : Environment → Text → List Text
+if_unset e v = if is_some (lookup e v) then [] else v ∷ []
+
+-- those of some variables that an environment has; and those that it hasn't
+abbrev pub set_among : Environment → List Text → List Text
+set_among e names = flat_map (if_set e) names
+
+abbrev pub unset_among : Environment → List Text → List Text
+unset_among e names = flat_map (if_unset e) names
+
+-- Of these variables, whose values no environment has, those that a load sets and an unload unsets again: their values
+-- are lost.
+abbrev pub lost_among : List Text → Environment → Environment → List Text
+lost_among not_utf8 loaded back = unset_among back (set_among loaded not_utf8)
+
+-- ---- trials
+
+-- These are the variables whose values differ, each once, in the order of the bytes of names, and then those whose values
+-- are lost; and there are some.
+pub record AreLeft (old new : Environment) (lost names : List Text) : Type 0 where
   pub some : 0 < length names
   pub changes : List NewValue
   pub exact : AreChanges old new changes
-  pub named : names ≡ map (λ c. c.0) changes
+  pub named : names ≡ map (λ c. c.0) changes ++ lost
 
--- The trial of the module of this name and path, in an environment: its name is loaded, and where that loads this
--- module the name is unloaded again.
-abbrev pub HasTrial : RequestContext → Environment → Text → Text → Trial → Type 0
-HasTrial s e name path returns =
+-- The trial of the module of this name and path, in an environment, beside which the process has these variables, which
+-- aren't UTF-8: its name is loaded, and where that loads this module the name is unloaded again.
+abbrev pub HasTrial : RequestContext → List Text → Environment → Text → Text → Trial → Type 0
+HasTrial s not_utf8 e name path returns =
     (d back : Done) × LoadsModule s e name name path d × UnloadStep s d.env name (Ok back) × (back.env ≡ e)
-HasTrial s e name path (leaves names) =
+    × (lost_among not_utf8 d.env back.env ≡ [])
+HasTrial s not_utf8 e name path (leaves names) =
     (d back : Done) × LoadsModule s e name name path d × UnloadStep s d.env name (Ok back)
-    × AreLeft e back.env names
-HasTrial s e name path (load_refused cause) = IsRefusedBy cause (LoadStep s e name)
-HasTrial s e name path (unload_refused cause) =
+    × AreLeft e back.env (lost_among not_utf8 d.env back.env) names
+HasTrial s not_utf8 e name path (load_refused cause) = IsRefusedBy cause (LoadStep s e name)
+HasTrial s not_utf8 e name path (unload_refused cause) =
     (d : Done) × LoadsModule s e name name path d × IsRefusedBy cause (UnloadStep s d.env name)
-HasTrial s e name path already_loaded = (d : Done) × LoadStep s e name (Ok d) × (d.moves ≡ [])
-HasTrial s e name path (loads_another other at) =
+HasTrial s not_utf8 e name path already_loaded = (d : Done) × LoadStep s e name (Ok d) × (d.moves ≡ [])
+HasTrial s not_utf8 e name path (loads_another other at) =
     (d : Done) × LoadsModule s e name other at d × ((other ≡ name) × (at ≡ path) → ⊥)
 
 -- The trial looks at this path: the load does, or in what it made the unload.

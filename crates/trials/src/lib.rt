@@ -4,6 +4,7 @@
 
 mod laws;
 mod loading;
+mod lost;
 mod requesting;
 mod trial;
 

@@ -8,11 +8,12 @@ ghost use Rattle.modules.specs.Answers.{cause_of};
 ghost use Rattle.modules.specs.Verdicts.{in_sh};
 ghost use Rattle.requests.specs.Looked.{RequestLooksAt};
 ghost use Rattle.requests.specs.Requests.{unload};
-ghost use Rattle.trials.specs.Parts.{EndsTrial, IsDifference};
+ghost use Rattle.trials.specs.Parts.{EndsTrial, IsDifference, names_left};
 ghost use Rattle.trials.specs.Trials.{HasTrial, TrialLooksAt};
 ghost use Rattle.trials.specs.Views.{count_failed, is_failed, trial_view};
 
 use crate::loading::joined;
+use crate::lost::{set_among, unset_among};
 use crate::requesting::{do_in_sh, load_of, unload_of};
 use envloaded::Loaded;
 use envvars::{Change, Env, changes};
@@ -26,7 +27,8 @@ use tclrules::Limits;
 pub enum Trial {
     /// The environment is again what it was, byte for byte.
     Returns,
-    /// These variables are otherwise than before, each once, in the order of their bytes.
+    /// These variables are otherwise than before, each once, in the order of their bytes; and then those that weren't
+    /// UTF-8, whose values are lost.
     Leaves(Vec<String>),
     /// The load is refused.
     LoadRefused(Refusal),
@@ -54,14 +56,29 @@ fn names_of(alloc: Global, changes: Vec<Change>) -> Result<Vec<String>, AllocErr
     Ok(names)
 }
 
-/// The trial after which these changes are the difference to the environment from before.
-fn trial_of(alloc: Global, changes: Vec<Change>) -> Result<Trial, AllocError>
-    ensures { IfOk result (λ trial. IsDifference (new_values_in changes) (trial_view trial)) }
+/// The names of changed variables, and then these.
+fn names_left(
+    alloc: Global,
+    changes: Vec<Change>,
+    lost: Vec<String>,
+) -> Result<Vec<String>, AllocError>
+    ensures { IfOk result (λ names. texts_in names ≡ names_left (new_values_in changes) (texts_in lost)) }
 {
-    if changes.is_empty() {
-        return Ok(Trial::Returns);
+    let mut names = names_of(alloc, changes)?;
+    let mut lost = lost;
+    names.append(&mut lost)?;
+    Ok(names)
+}
+
+/// The trial after which these variables are otherwise.
+fn trial_of(names: Vec<String>) -> Trial
+    ensures { IsDifference (texts_in names) (trial_view result) }
+{
+    if names.is_empty() {
+        Trial::Returns
+    } else {
+        Trial::Leaves(names)
     }
-    Ok(Trial::Leaves(names_of(alloc, changes)?))
 }
 
 /// Whether it is the module of this name and path.
@@ -73,10 +90,11 @@ fn is_module(entry: &Loaded, name: &str, path: &str) -> bool
 }
 
 /// Unloads the name in the environment that its load made, and compares what that leaves with the environment from
-/// before the load.
+/// before the load. Of these variables, which aren't UTF-8, those are lost that the load has set.
 fn try_unload<T: Tree>(
     alloc: Global,
     name: &str,
+    not_utf8: &[String],
     start: &Env,
     env: &mut Env,
     tree: &mut T,
@@ -84,7 +102,8 @@ fn try_unload<T: Tree>(
 ) -> Result<Trial, Refusal>
     ensures reads { ReadsOn T.agrees T.failures tree.old tree.new }
     ensures ended { IfOk result (λ trial. InEachPair (T.agrees tree.new) (λ files listings.
-        EndsTrial (in_sh limits files listings) start.now env.old name.now (trial_view trial))) }
+        EndsTrial (in_sh limits files listings) (map string_bytes not_utf8.now) start.now env.old name.now
+        (trial_view trial))) }
     ensures failures { IfOk result (λ trial. T.failures tree.old + count_failed trial ≤ T.failures tree.new) }
     ensures cause { IfErr result (λ refusal. cause_of refusal ≡ memory) }
     ensures failed { FailsIf (is_failed result) (T.failed tree.old) (T.failed tree.new) (λ at.
@@ -92,17 +111,21 @@ fn try_unload<T: Tree>(
         RequestLooksAt (in_sh limits files listings) env.old (unload (name.now ∷ [])) at)) }
 {
     envvars::laws::changes();
+    let set = set_among(alloc, env, not_utf8)?;
     let action = unload_of(alloc, name)?;
     if let Err(refusal) = do_in_sh(alloc, action, env, tree, limits)? {
         return Ok(Trial::UnloadRefused(refusal));
     }
+    let lost = unset_among(alloc, env, set.as_slice())?;
     let changes = changes(alloc, start, env)?;
-    Ok(trial_of(alloc, changes)?)
+    let names = names_left(alloc, changes, lost)?;
+    Ok(trial_of(names))
 }
 
 /// Tries a module in an environment, which doesn't change, over a tree of modulefiles: its full name is loaded for sh,
 /// as a request of its own, and where that loads the module of this name and path, and no other, the name is unloaded
-/// again.
+/// again. The process has other variables besides, which aren't UTF-8, so that no environment has them: the value of one
+/// that the load sets is lost.
 ///
 /// In each pair of maps that agrees with the tree the answer is the trial of the module. A refusal in it has its reason
 /// in the step of the request; or it is by 43, where the device failed in this call, at a path that the trial looks at.
@@ -112,6 +135,7 @@ fn try_unload<T: Tree>(
 pub fn try_module<T: Tree>(
     alloc: Global,
     env: &Env,
+    not_utf8: &[String],
     tree: &mut T,
     limits: Limits,
     name: &str,
@@ -119,7 +143,8 @@ pub fn try_module<T: Tree>(
 ) -> Result<Trial, Refusal>
     ensures reads { ReadsOn T.agrees T.failures tree.old tree.new }
     ensures tried { IfOk result (λ trial. InEachPair (T.agrees tree.new) (λ files listings.
-        HasTrial (in_sh limits files listings) env.now name.now path.now (trial_view trial))) }
+        HasTrial (in_sh limits files listings) (map string_bytes not_utf8.now) env.now name.now path.now
+        (trial_view trial))) }
     ensures failures { IfOk result (λ trial. T.failures tree.old + count_failed trial ≤ T.failures tree.new) }
     ensures cause { IfErr result (λ refusal. cause_of refusal ≡ memory) }
     ensures failed { FailsIf (is_failed result) (T.failed tree.old) (T.failed tree.new) (λ at.
@@ -143,5 +168,5 @@ pub fn try_module<T: Tree>(
             path: entry.path,
         });
     }
-    try_unload(alloc, name, env, &mut after, tree, limits)
+    try_unload(alloc, name, not_utf8, env, &mut after, tree, limits)
 }

@@ -1,8 +1,9 @@
-use Rattle.std.proofs.Common.{map, string_bytes, String, inl}
+use Rattle.std.proofs.Common.{map, string_bytes, String, inl, ℕ, List, ◌++◌, ap, ◌∙◌}
 use Rattle.std.proofs.lemmas.Result.{err_from_is_err_and}
 use Rattle.std.specs.declared.alloc.Global.{Global}
 use Rattle.envvars.specs.Changes.{new_values_in}
 use Rattle.modulecmd.specs.Checking.{IsUnnamed, CheckLacksText}
+use Rattle.modulecmd.specs.NotUtf8.{lines_of}
 use Rattle.modulecmd.proofs.CommandLemmas.{unprinted}
 use Rattle.modulecmd.proofs.CheckingLemmas.{input_fails, readable}
 use Rattle.modulecmd.proofs.checking.answer_of.Goals as goal
@@ -48,7 +49,7 @@ returns-clause-answered g c = record {
     exact = c.in_ok-difference.ensures.ok;
     says = rw c.as_slice.ensures.value at c.in_ok-text.ensures.text;
   };
-  report = c.in_ok-report.ensures;
+  report = c.in_ok-push_not_utf8.ensures ∙ ap (λ (l : List ℕ). l ++ lines_of (map (λ (s : String Global). string_bytes s) c.args.not_utf8.now)) c.in_ok-report.ensures;
   accepted = c.is_accepted.ensures;
 }
 
@@ -69,6 +70,11 @@ returns-in_err-text-clause-failed g c =
 
 pub returns-in_err-report-clause-failed : goal.returns-in_err-report-clause-failed
 returns-in_err-report-clause-failed g c =
+    input_fails _ _ _ _ (map (λ (s : String Global). string_bytes s) c.args.args.now) _ _ c.in_ok-shell.shell (string_bytes c.in_ok-lines.lines) c.in_ok-shell.ensures.named c.in_ok-lines.ensures.given
+    (rw c.as_str.ensures.value at c.check.ensures.failed)
+
+pub returns-in_err-push_not_utf8-clause-failed : goal.returns-in_err-push_not_utf8-clause-failed
+returns-in_err-push_not_utf8-clause-failed g c =
     input_fails _ _ _ _ (map (λ (s : String Global). string_bytes s) c.args.args.now) _ _ c.in_ok-shell.shell (string_bytes c.in_ok-lines.lines) c.in_ok-shell.ensures.named c.in_ok-lines.ensures.given
     (rw c.as_str.ensures.value at c.check.ensures.failed)
 

@@ -2,7 +2,7 @@ use Rattle.std.proofs.Common.{Bool, ◌<◌, ◌≤◌, List, map, string_bytes,
 use Rattle.std.specs.declared.alloc.Global.{Global}
 use Rattle.envvars.specs.Texts.{Text}
 use Rattle.hidingtree.proofs.HidingLemmas.{all_failed_too, some_failed_too}
-use Rattle.sitecommand.specs.Audits.{IsSiteFault}
+use Rattle.sitecommand.specs.Audits.{HasFailedOften, IsSiteFault}
 use Rattle.sitecommand.specs.Faults.{is_failure}
 use Rattle.sitecommand.specs.Looked.{SiteLooksAt}
 use Rattle.sitecommand.proofs.AuditLemmas.{if_err_so}
@@ -25,13 +25,13 @@ invariant_of-tree-clause-failed_there g c =
 pub returns-in-Ok-clause-found : goal.returns-in-Ok-clause-found
 returns-in-Ok-clause-found g c =
     let tree = c.audit_wanted.new.tree in
-    readable_whole (g.T.Tree.agrees tree) (g.T.Tree.failed tree) (g.T.Tree.failures c.args.tree.now.tree < g.T.Tree.failures tree) c.args.judged.now
+    readable_whole (g.T.Tree.agrees tree) (g.T.Tree.failed tree) (g.T.Tree.failures c.args.tree.now.tree < g.T.Tree.failures tree) (g.T.Tree.failures tree) c.args.judged.now
     (texts c.args.directories.now) (texts c.args.without.now) c.in-Ok.found c.new.result c.new.ensures.items c.in-Ok.ensures.found
 
 pub returns-else-is_failure-clause-refused : goal.returns-else-is_failure-clause-refused
 returns-else-is_failure-clause-refused g c =
     let tree = c.audit_wanted.new.tree in
-    whole_fault (g.T.Tree.agrees tree) (g.T.Tree.failed tree) _ ((g.T.Tree.failures c.args.tree.now.tree < g.T.Tree.failures tree) × (1000 ≤ g.T.Tree.failures tree))
+    whole_fault (g.T.Tree.agrees tree) (g.T.Tree.failed tree) _ ((g.T.Tree.failures c.args.tree.now.tree < g.T.Tree.failures tree) × HasFailedOften (g.T.Tree.failed tree) (g.T.Tree.failures tree))
     c.args.judged.now (texts c.args.directories.now) c.in-Err.fault (sym c.is_failure.ensures ∙ c.if-is_failure.false) c.in-Err.ensures.refused
 
 pub returns-then-is_failure-clause-refused : goal.returns-then-is_failure-clause-refused
@@ -39,7 +39,7 @@ returns-then-is_failure-clause-refused g c =
     let tree = c.audit_without.new.tree in
     let agrees = g.T.Tree.agrees tree.tree in
     let has_failed : Text → Bool = g.T.Tree.failed tree.tree in
-    let often = 1000 ≤ g.T.Tree.failures tree.tree in
+    let often = HasFailedOften has_failed (g.T.Tree.failures tree.tree) in
     let first = g.T.Tree.failures c.args.tree.now.tree in
     let was = g.T.Tree.failures c.audit_wanted.new.tree in
     let dirs = texts c.args.directories.now in
@@ -73,6 +73,6 @@ returns-then-is_failure-clause-found g c =
     let dirs = texts c.args.directories.now in
     let fails = device_failed (g.T.Tree.agrees c.audit_wanted.new.tree) (first < was) c.args.judged.now dirs c.in-Err.fault (sym c.is_failure.ensures ∙ c.if-is_failure.true) c.in-Err.ensures.refused in
     IfOk-weaker c.audit_without.result _ _
-    (λ audit h. readable_in (g.T.Tree.agrees tree.tree) (g.T.Tree.failed tree.tree) (was ≤ g.T.Tree.failures tree.tree) (first < g.T.Tree.failures tree.tree) c.args.judged.now dirs
+    (λ audit h. readable_in (g.T.Tree.agrees tree.tree) (g.T.Tree.failed tree.tree) (was ≤ g.T.Tree.failures tree.tree) (first < g.T.Tree.failures tree.tree) (g.T.Tree.failures tree.tree) c.args.judged.now dirs
     (texts c.args.without.now) audit (λ k. fails_before first was (g.T.Tree.failures tree.tree) k fails) h)
     c.audit_without.ensures.found

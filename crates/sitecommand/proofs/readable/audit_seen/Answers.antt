@@ -1,7 +1,7 @@
-use Rattle.std.proofs.Common.{Bool, ◌≤◌, List, map, string_bytes, String, sym, subst, ◌∙◌}
+use Rattle.std.proofs.Common.{Bool, List, map, string_bytes, String, sym, subst, ◌∙◌}
 use Rattle.std.specs.declared.alloc.Global.{Global}
 use Rattle.envvars.specs.Texts.{Text}
-use Rattle.sitecommand.specs.Audits.{IsSiteFault}
+use Rattle.sitecommand.specs.Audits.{HasFailedOften, IsSiteFault}
 use Rattle.sitecommand.specs.declared.audit_fault.AuditFault.{AuditFault}
 use Rattle.sitecommand.proofs.ReadableLemmas.{found_left, left_fault}
 use Rattle.sitecommand.proofs.readable.audit_seen.Goals as goal
@@ -18,7 +18,7 @@ pub returns-else-is_failure-clause-refused : goal.returns-else-is_failure-clause
 returns-else-is_failure-clause-refused g c =
     let tree = c.audit_wanted.new.tree in
     let has_failed : Text → Bool = g.T.Tree.failed tree.tree in
-    subst (λ (x : AuditFault). IsSiteFault (g.T.Tree.agrees tree.tree) has_failed (1000 ≤ g.T.Tree.failures tree.tree) c.args.judged.now (texts c.args.directories.now) x)
+    subst (λ (x : AuditFault). IsSiteFault (g.T.Tree.agrees tree.tree) has_failed (HasFailedOften (g.T.Tree.failed tree.tree) (g.T.Tree.failures tree.tree)) c.args.judged.now (texts c.args.directories.now) x)
     (sym (rw c.as_slice.ensures.value at c.unless_hidden.ensures))
-    (left_fault (texts tree.hidden.items) (texts tree.seen.items) (g.T.Tree.agrees tree.tree) has_failed _ (1000 ≤ g.T.Tree.failures tree.tree) c.args.judged.now (texts c.args.directories.now) c.in-Err.fault
+    (left_fault (texts tree.hidden.items) (texts tree.seen.items) (g.T.Tree.agrees tree.tree) has_failed _ (HasFailedOften (g.T.Tree.failed tree.tree) (g.T.Tree.failures tree.tree)) c.args.judged.now (texts c.args.directories.now) c.in-Err.fault
     tree.apart tree.failed (sym c.is_failure.ensures ∙ c.if-is_failure.false) c.in-Err.ensures.refused)

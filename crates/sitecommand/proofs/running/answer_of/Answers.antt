@@ -1,11 +1,11 @@
-use Rattle.std.proofs.Common.{Bool, ◌<◌, ◌≤◌, refl, sym, ap, ◌∙◌}
+use Rattle.std.proofs.Common.{Bool, ◌<◌, refl, sym, ap, ◌∙◌}
 use Rattle.std.proofs.lemmas.Result.{err_from_is_err_and}
 use Rattle.std.proofs.Common.{Option, map, option_map, string_bytes, String}
 use Rattle.std.specs.declared.alloc.Global.{Global}
 use Rattle.envvars.specs.Texts.{Text}
 use Rattle.modules.specs.declared.refusal.Refusal.TheVariants.{OutOfMemory}
 use Rattle.sitecommand.specs.ArgumentViews.{wanted_view}
-use Rattle.sitecommand.specs.Audits.{IsAuditFault, IsSiteFault, judged_env, no_memory, of_site, unknown_option}
+use Rattle.sitecommand.specs.Audits.{HasFailedOften, IsAuditFault, IsSiteFault, judged_env, no_memory, of_site, unknown_option}
 use Rattle.sitecommand.specs.declared.arguments.AuditArguments.{AuditArguments}
 use Rattle.sitecommand.proofs.AuditLemmas.{if_err_so}
 use Rattle.sitecommand.specs.Looked.{AuditCommandLooksAt, JudgedLooksAt}
@@ -25,7 +25,7 @@ returns-in-Some-clause-refused g c =
     let tree = c.prepare.new.tree in
     let agrees = g.T.Tree.agrees tree.tree in
     let has_failed : Text → Bool = g.T.Tree.failed tree.tree in
-    let often = (g.T.Tree.failures c.args.tree.now.tree < g.T.Tree.failures tree.tree) × (1000 ≤ g.T.Tree.failures tree.tree) in
+    let often = (g.T.Tree.failures c.args.tree.now.tree < g.T.Tree.failures tree.tree) × HasFailedOften has_failed (g.T.Tree.failures tree.tree) in
     let arguments = map (λ (s : String Global). string_bytes s) c.args.args.now in
     let wanted = wanted_view c.in-Some.wanted in
     let asked = sym c.in_ok-wanted_of.ensures ∙ ap (λ (o : Option AuditArguments). option_map wanted_view o) c.in-Some.is in

@@ -1,8 +1,8 @@
-use Rattle.std.proofs.Common.{◌<◌, ◌≤◌}
+use Rattle.std.proofs.Common.{◌<◌, sym, ◌∙◌}
 use Rattle.std.proofs.lemmas.Result.{err_from_is_err_and}
 use Rattle.modules.specs.declared.refusal.Refusal.TheVariants.{OutOfMemory}
 use Rattle.sitecommand.specs.ArgumentViews.{wanted_view}
-use Rattle.sitecommand.specs.Audits.{given_up, judged_env}
+use Rattle.sitecommand.specs.Audits.{HasFailedOften, given_up, judged_env, none_there}
 use Rattle.sitecommand.proofs.DirectoryLemmas.{given_up_in}
 use Rattle.sitecommand.proofs.ReadableLemmas.{reads_nothing, site_given_up}
 use Rattle.sitecommand.proofs.running.prepare.Goals as goal
@@ -12,7 +12,7 @@ returns-in_err-judged-clause-refused g c =
     let p = err_from_is_err_and c.from_residual.result c.from_residual.ensures.1 in
     let tree = c.args.tree.now.tree in
     let failures = g.T.Tree.failures tree in
-    let often = (failures < failures) × (1000 ≤ failures) in
+    let often = (failures < failures) × HasFailedOften (g.T.Tree.failed tree) failures in
     let wanted = wanted_view c.args.wanted.now in
     let fault = c.in_err-judged.field-0.0 in
     rw (p.1, p.2) (site_given_up (g.T.Tree.agrees tree) (g.T.Tree.failed tree) often (judged_env c.args.env wanted.directories) wanted.directories fault
@@ -28,10 +28,23 @@ returns-in_err-report-clause-refused g c =
     let p = err_from_is_err_and c.from_residual-in_err-report.result c.from_residual-in_err-report.ensures.1 in
     rw (p.1, p.2) (given_up OutOfMemory tt)
 
+pub returns-in_err-is_nothing-clause-refused : goal.returns-in_err-is_nothing-clause-refused
+returns-in_err-is_nothing-clause-refused g c =
+    let p = err_from_is_err_and c.from_residual-in_err-is_nothing.result c.from_residual-in_err-is_nothing.ensures.1 in
+    rw (p.1, p.2) (given_up OutOfMemory tt)
+
+pub returns-then-is_nothing-clause-refused : goal.returns-then-is_nothing-clause-refused
+returns-then-is_nothing-clause-refused g c =
+    let wanted = wanted_view c.args.wanted.now in
+    let found = rw (c.in_ok-judged.ensures.set, c.as_slice-directories.ensures.value, c.as_slice.ensures.value) at c.in_ok-audit.ensures.found in
+    none_there wanted.without c.in_ok-audit.audit found.found.directories found.found.exact
+    (rw c.in_ok-judged.ensures.set at (sym c.in_ok-is_nothing.ensures ∙ c.if-is_nothing.true))
+
 pub returns-clause-answered : goal.returns-clause-answered
 returns-clause-answered g c = record {
   audit = c.in_ok-audit.audit;
   tried = rw (c.in_ok-judged.ensures.set, c.as_slice-directories.ensures.value, c.as_slice.ensures.value) at c.in_ok-audit.ensures.found;
+  there = rw c.in_ok-judged.ensures.set at (sym c.in_ok-is_nothing.ensures ∙ c.if-is_nothing.false);
   certified = c.is_all_certified.ensures;
   report = c.in_ok-report.ensures;
 }
@@ -44,6 +57,12 @@ returns-in_err-audit-clause-reads g c = rw (c.in_ok-judged.ensures.set, c.as_sli
 
 pub returns-in_err-report-clause-reads : goal.returns-in_err-report-clause-reads
 returns-in_err-report-clause-reads g c = rw (c.in_ok-judged.ensures.set, c.as_slice-directories.ensures.value) at c.in_ok-audit.ensures.reads
+
+pub returns-in_err-is_nothing-clause-reads : goal.returns-in_err-is_nothing-clause-reads
+returns-in_err-is_nothing-clause-reads g c = rw (c.in_ok-judged.ensures.set, c.as_slice-directories.ensures.value) at c.in_ok-audit.ensures.reads
+
+pub returns-then-is_nothing-clause-reads : goal.returns-then-is_nothing-clause-reads
+returns-then-is_nothing-clause-reads g c = rw (c.in_ok-judged.ensures.set, c.as_slice-directories.ensures.value) at c.in_ok-audit.ensures.reads
 
 pub returns-clause-reads : goal.returns-clause-reads
 returns-clause-reads g c = rw (c.in_ok-judged.ensures.set, c.as_slice-directories.ensures.value) at c.in_ok-audit.ensures.reads

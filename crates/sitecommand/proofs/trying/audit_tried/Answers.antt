@@ -1,6 +1,9 @@
 use Rattle.std.proofs.Common.{List, map, string_bytes, String, refl, inl}
+use Rattle.std.proofs.lemmas.Result.{err_from_is_err_and}
 use Rattle.std.specs.declared.alloc.Global.{Global}
 use Rattle.envvars.specs.Texts.{Text}
+use Rattle.modules.specs.declared.refusal.Refusal.TheVariants.{OutOfMemory}
+use Rattle.sitecommand.specs.Audits.{given_up}
 use Rattle.sitecommand.specs.Looked.{JudgedLooksAt, SiteLooksAt}
 use Rattle.sitecommand.proofs.ReadableLemmas.{reads_wider}
 use Rattle.sitecommand.proofs.TryingLemmas.{all_kept, counts_unless, out_of_memory, reads_with_trials, some_kept, tried_audit}
@@ -28,7 +31,7 @@ returns-in-Ok-clause-reads g c =
     let dirs = texts c.args.directories.now in
     let seen = c.in_ok-found.field-0 in
     reads_with_trials g.T.Tree.agrees g.T.Tree.failures g.T.Tree.failed old mid new judged dirs (texts c.args.without.now) seen c.in-Ok.ensures.reads c.trials_of.ensures.kept c.in_ok-found.ensures.found
-    c.walks.ensures.modules c.in_ok-found.ensures.reads (rw c.as_slice.ensures.value at c.in-Ok.ensures.failed)
+    c.walks.ensures.modules c.in_ok-found.ensures.reads (rw c.as_slice-2.ensures.value at c.in-Ok.ensures.failed)
 
 pub returns-in-Ok-clause-found : goal.returns-in-Ok-clause-found
 returns-in-Ok-clause-found g c =
@@ -39,9 +42,9 @@ returns-in-Ok-clause-found g c =
     let dirs = texts c.args.directories.now in
     let seen = c.in_ok-found.field-0 in
     tried_audit g.T.Tree.agrees g.T.Tree.failures g.T.Tree.failed old mid new judged dirs (texts c.args.without.now) seen c.in-Ok.ensures.reads c.trials_of.ensures.kept c.in_ok-found.ensures.found
-    (record { found = seen.found; unreadable = seen.unreadable; trials = c.in-Ok.trials }) refl refl
+    (record { found = seen.found; unreadable = seen.unreadable; trials = c.in-Ok.trials; not_utf8 = c.in_ok-kept.kept }) (texts c.args.not_utf8.now) refl refl
     (counts_unless g.T.Tree.agrees g.T.Tree.failures g.T.Tree.failed old mid (SiteLooksAt judged dirs) c.in_ok-found.ensures.reads)
-    (rw c.as_slice.ensures.value at c.in-Ok.ensures.tried) c.in-Ok.ensures.failures
+    (rw c.as_slice-2.ensures.value at c.in-Ok.ensures.tried) c.in-Ok.ensures.failures (rw c.as_slice.ensures.value at c.in_ok-kept.ensures)
 
 pub returns-in-Err-clause-reads : goal.returns-in-Err-clause-reads
 returns-in-Err-clause-reads g c =
@@ -52,7 +55,7 @@ returns-in-Err-clause-reads g c =
     let dirs = texts c.args.directories.now in
     let seen = c.in_ok-found.field-0 in
     reads_with_trials g.T.Tree.agrees g.T.Tree.failures g.T.Tree.failed old mid new judged dirs (texts c.args.without.now) seen c.in-Err.ensures.reads c.trials_of.ensures.kept c.in_ok-found.ensures.found
-    c.walks.ensures.modules c.in_ok-found.ensures.reads (rw c.as_slice.ensures.value at c.in-Err.ensures.failed)
+    c.walks.ensures.modules c.in_ok-found.ensures.reads (rw c.as_slice-2.ensures.value at c.in-Err.ensures.failed)
 
 pub returns-in-Err-clause-refused : goal.returns-in-Err-clause-refused
 returns-in-Err-clause-refused g c =
@@ -65,3 +68,15 @@ returns-in_err-found-clause-reads g c =
     let dirs = texts c.args.directories.now in
     reads_wider g.T.Tree.agrees g.T.Tree.failures g.T.Tree.failed c.args.tree.now.tree c.audit_readable.new.tree.tree (SiteLooksAt judged dirs) (JudgedLooksAt judged dirs)
     (λ files listings at h. inl h) c.in_err-found.ensures.reads
+
+pub returns-in_err-kept-clause-reads : goal.returns-in_err-kept-clause-reads
+returns-in_err-kept-clause-reads g c =
+    let judged = c.args.judged.now in
+    let dirs = texts c.args.directories.now in
+    reads_wider g.T.Tree.agrees g.T.Tree.failures g.T.Tree.failed c.args.tree.now.tree c.audit_readable.new.tree.tree (SiteLooksAt judged dirs) (JudgedLooksAt judged dirs)
+    (λ files listings at h. inl h) c.in_ok-found.ensures.reads
+
+pub returns-in_err-kept-clause-refused : goal.returns-in_err-kept-clause-refused
+returns-in_err-kept-clause-refused g c =
+    let p = err_from_is_err_and c.from_residual-in_err-kept.result c.from_residual-in_err-kept.ensures.1 in
+    rw (p.1, p.2) (given_up OutOfMemory tt)

@@ -1,9 +1,10 @@
-use Rattle.std.proofs.Common.{arith}
+use Rattle.std.proofs.Common.{arith, map, string_bytes, String}
+use Rattle.std.specs.declared.alloc.Global.{Global}
 use Rattle.modules.specs.Verdicts.{in_sh}
 use Rattle.modulecmd.specs.Command.{standard}
 use Rattle.sitecommand.specs.Looked.{TrialsLookAt}
 use Rattle.sitecommand.specs.Tried.{has_failed_trial}
-use Rattle.sitecommand.proofs.TryingLemmas.{among_at, counted_turn, keeps_turn, looks_among, reads_turn, trials_turn}
+use Rattle.sitecommand.proofs.TryingLemmas.{among_at, counted_turn, keeps_turn, looks_among, reads_turn, trial_counted, trials_turn}
 use Rattle.sitecommand.proofs.trying.trials_of.Goals as goal
 
 pub loop-module-preserved : goal.loop-module-preserved
@@ -12,6 +13,7 @@ loop-module-preserved g c =
     let t = c.in_ok-trial_of.field-0 in
     let i = c.loop-module.invariant in
     let judged = c.args.judged.now in
+    let not_utf8 = map (λ (s : String Global). string_bytes s) c.args.not_utf8.now in
     let modules = c.args.modules.now in
     let failed = g.T.Tree.failed in
     let old = c.args.tree.now in
@@ -19,12 +21,13 @@ loop-module-preserved g c =
     let new = c.trial_of.new.tree in record {
       reads = record { narrows = λ files listings k. i.reads.narrows files listings (c.trial_of.ensures.reads.narrows files listings k); counts_failures = omega arith };
       tried = λ files listings k.
-          trials_turn (in_sh standard files listings) judged modules c.loop-module.module-index m c.loop-module.trials.items c.push.new.self.items t c.loop-module-test.true c.module-item.is
+          trials_turn (in_sh standard files listings) not_utf8 judged modules c.loop-module.module-index m c.loop-module.trials.items c.push.new.self.items t c.loop-module-test.true c.module-item.is
           c.in_ok-push.ensures.items (i.tried files listings (c.trial_of.ensures.reads.narrows files listings k)) (c.in_ok-trial_of.ensures.tried files listings k);
       counted = counted_turn c.loop-module.trials.items c.push.new.self.items t (g.T.Tree.failures old) (g.T.Tree.failures mid) (g.T.Tree.failures new) c.in_ok-push.ensures.items
-          i.reads.counts_failures c.trial_of.ensures.reads.counts_failures i.counted c.in_ok-trial_of.ensures.failures;
+          i.counted c.in_ok-trial_of.ensures.failures;
       kept = keeps_turn (has_failed_trial t) (failed old) (failed mid) (failed new) _ i.kept c.in_ok-trial_of.ensures.failed;
-      looked = reads_turn g.T.Tree.agrees g.T.Tree.failures failed old mid new (TrialsLookAt judged modules) (has_failed_trial t) i.looked c.trial_of.ensures.reads c.in_ok-trial_of.ensures.failures
+      looked = reads_turn g.T.Tree.agrees g.T.Tree.failures failed old mid new (TrialsLookAt judged modules) (has_failed_trial t) i.looked c.trial_of.ensures.reads
+          (trial_counted t (g.T.Tree.failures mid) (g.T.Tree.failures new) c.in_ok-trial_of.ensures.failures)
           (looks_among (g.T.Tree.agrees new) judged modules m (has_failed_trial t) (failed mid) (failed new)
           (among_at modules c.loop-module.module-index m c.loop-module-test.true c.module-item.is) c.in_ok-trial_of.ensures.failed);
     }
@@ -39,7 +42,8 @@ returns-in_err-push-clause-failed g c =
     let failed = g.T.Tree.failed in
     let mid = c.loop-module.tree in
     let new = c.trial_of.new.tree in
-    reads_turn g.T.Tree.agrees g.T.Tree.failures failed c.args.tree.now mid new (TrialsLookAt judged modules) (has_failed_trial t) i.looked c.trial_of.ensures.reads c.in_ok-trial_of.ensures.failures
+    reads_turn g.T.Tree.agrees g.T.Tree.failures failed c.args.tree.now mid new (TrialsLookAt judged modules) (has_failed_trial t) i.looked c.trial_of.ensures.reads
+    (trial_counted t (g.T.Tree.failures mid) (g.T.Tree.failures new) c.in_ok-trial_of.ensures.failures)
     (looks_among (g.T.Tree.agrees new) judged modules m (has_failed_trial t) (failed mid) (failed new)
     (among_at modules c.loop-module.module-index m c.loop-module-test.true c.module-item.is) c.in_ok-trial_of.ensures.failed)
 

@@ -1,9 +1,9 @@
-use Rattle.std.proofs.Common.{◌≡◌, ◌<◌, true, take}
+use Rattle.std.proofs.Common.{◌+◌, ◌≤◌, map, string_bytes, take}
 use Rattle.filetree.specs.Agreement.{InEachPair, ReadsOn}
 use Rattle.modules.specs.Verdicts.{in_sh}
 use Rattle.modulecmd.specs.Command.{standard}
 use Rattle.sitecommand.specs.Looked.{KeepsFailed, ReadsUnlessFails, TrialsLookAt}
-use Rattle.sitecommand.specs.Tried.{AreTrials, some_failed}
+use Rattle.sitecommand.specs.Tried.{AreTrials, failed_in}
 use Rattle.sitecommand.proofs.trying.trials_of.Given as goal
 
 -- those of the modules so far
@@ -11,8 +11,8 @@ abbrev pub invariant-loop-module : goal.invariant-loop-module
 invariant-loop-module g l = record {
   reads : ReadsOn g.T.Tree.agrees g.T.Tree.failures l.initial.tree l.tree;
   tried : InEachPair (g.T.Tree.agrees l.tree) (λ files listings.
-      AreTrials (in_sh standard files listings) l.judged (take l.module-index l.modules) l.trials.items);
-  counted : some_failed l.trials.items ≡ true → g.T.Tree.failures l.initial.tree < g.T.Tree.failures l.tree;
+      AreTrials (in_sh standard files listings) (map string_bytes l.not_utf8) l.judged (take l.module-index l.modules) l.trials.items);
+  counted : g.T.Tree.failures l.initial.tree + failed_in l.trials.items ≤ g.T.Tree.failures l.tree;
   kept : KeepsFailed (g.T.Tree.failed l.initial.tree) (g.T.Tree.failed l.tree);
   looked : ReadsUnlessFails g.T.Tree.agrees g.T.Tree.failures g.T.Tree.failed l.initial.tree l.tree (TrialsLookAt l.judged l.modules);
 }

@@ -3,7 +3,7 @@ use Rattle.std.specs.Prelude.{OnOk}
 use Rattle.std.proofs.lemmas.Grind.{flat_map-append}
 use Rattle.json.specs.Token.{Token}
 use Rattle.std.specs.declared.alloc.AllocError.{AllocError}
-use Rattle.sitereport.specs.Documents.{modules_field, unreadable_field, count_fields, certificate_field, paths_fields, hanging_field, rest_fields}
+use Rattle.sitereport.specs.Documents.{modules_field, unreadable_field, count_fields, certificate_field, paths_fields, hanging_field, not_utf8_field, rest_fields}
 use Rattle.sitereport.specs.Tokens.{AddsTokens, field_tokens, fields_tokens}
 use Rattle.sitereport.proofs.TokenLemmas.{adds_one, adds_more, adds_object}
 use Rattle.sitereport.proofs.document.write_document.Goals as goal
@@ -18,7 +18,8 @@ returns c =
     let begun = c.begin_object.new.self in
     let end = c.write_rest.new.writer in
     let rest = rest_fields found.unknown_names.items found.disagreements.items in
-    let last = hanging_field found.hanging_directories.items ∷ rest in
+    let others = not_utf8_field audit.not_utf8.items ∷ rest in
+    let last = hanging_field found.hanging_directories.items ∷ others in
     let later = certificate_field found.certificate.items ∷ paths_fields audit ++ last in
     adds_object c.end_object.result c.args.writer.now begun end c.end_object.new.self
     (modules_field c.args.selection modules audit.trials.items ∷ unreadable_field paths ∷ count_fields (length paths) modules ++ later)
@@ -29,6 +30,7 @@ returns c =
     (adds_more done c.write_counts.new.writer c.write_certificate.new.writer end (field_tokens (certificate_field found.certificate.items)) (fields_tokens (paths_fields audit ++ last)) (rw c.as_slice-4.ensures.value at c.in_ok-write_certificate.ensures)
     (subst (λ (ts : List Token). OnOk done (AddsTokens c.write_certificate.new.writer end ts)) (sym (flat_map-append field_tokens (paths_fields audit) last))
     (adds_more done c.write_certificate.new.writer c.write_paths.new.writer end (fields_tokens (paths_fields audit)) (fields_tokens last) c.in_ok-write_paths.ensures
-    (adds_more done c.write_paths.new.writer c.write_hanging.new.writer end (field_tokens (hanging_field found.hanging_directories.items)) (fields_tokens rest) (rw c.as_slice-5.ensures.value at c.in_ok-write_hanging.ensures)
-    (rw (c.as_slice-6.ensures.value, c.as_slice-7.ensures.value) at c.in_ok-write_rest.ensures))))))))
+    (adds_more done c.write_paths.new.writer c.write_hanging.new.writer end (field_tokens (hanging_field found.hanging_directories.items)) (fields_tokens others) (rw c.as_slice-5.ensures.value at c.in_ok-write_hanging.ensures)
+    (adds_more done c.write_hanging.new.writer c.write_text_array-2.new.writer end (field_tokens (not_utf8_field audit.not_utf8.items)) (fields_tokens rest) (rw c.as_slice-6.ensures.value at c.in_ok-write_text_array-2.ensures)
+    (rw (c.as_slice-7.ensures.value, c.as_slice-8.ensures.value) at c.in_ok-write_rest.ensures)))))))))
     (adds_one c.end_object.result end c.end_object.new.self _ c.end_object.ensures)

@@ -9,7 +9,7 @@ pub returns : goal.returns
 returns c =
     let done : Result (Unit {0}) AllocError = Ok tt in
     let audit = c.args.audit.now in
-    let end = c.push_disagreements.new.report.items in
+    let end = c.push_not_utf8.new.report.items in
     let Missing : List (String Global) → List (String Global) → Type 0 = λ unreadable dirs.
     c.push_missing.new.report.items ≡ c.push_counts.new.report.items ++ flat_map (missing_line unreadable) dirs
     in
@@ -25,5 +25,6 @@ returns c =
     (more done c.push_unread_files.new.report.items c.push_bad_files.new.report.items end _ _ (rw c.as_slice-6.ensures.value at c.in_ok-push_bad_files.ensures)
     (more done c.push_bad_files.new.report.items c.push_conflicts.new.report.items end _ _ (rw c.as_slice-7.ensures.value at c.in_ok-push_conflicts.ensures)
     (more done c.push_conflicts.new.report.items c.push_prereqs.new.report.items end _ _ (rw c.as_slice-8.ensures.value at c.in_ok-push_prereqs.ensures)
-    (rw c.as_slice-9.ensures.value at c.in_ok-push_disagreements.ensures))))))))))
+    (more done c.push_prereqs.new.report.items c.push_disagreements.new.report.items end _ _ (rw c.as_slice-9.ensures.value at c.in_ok-push_disagreements.ensures)
+    (rw c.as_slice-10.ensures.value at c.in_ok-push_not_utf8.ensures)))))))))))
     ∙ ap (λ (l : List ℕ). l ++ report_of c.args.selection audit) c.new-report.ensures.items

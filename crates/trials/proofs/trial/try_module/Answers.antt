@@ -1,4 +1,5 @@
-use Rattle.std.proofs.Common.{sym, ◌∙◌}
+use Rattle.std.proofs.Common.{sym, ◌∙◌, map, string_bytes, String}
+use Rattle.std.specs.declared.alloc.Global.{Global}
 use Rattle.envvars.specs.Texts.{texts_in}
 use Rattle.envloaded.specs.LoadedEntries.{entry_view}
 use Rattle.modules.specs.Verdicts.{in_sh}
@@ -41,7 +42,7 @@ returns-clause-tried g c =
     c.args.name.now c.args.path.now c.in-Ok.done c.in-Some.entry c.in-Ok.done.named
     (rw c.in-Some.is at c.in_ok-entry.ensures) (sym c.if-not-is_module.false ∙ c.is_module.ensures) step in
     tried_over (in_sh c.args.limits) _ _ c.try_unload.ensures.reads.narrows c.args.env.now _ c.args.name.now
-    c.args.path.now loaded c.try_unload.result c.try_unload.ensures.ended
+    c.args.path.now loaded (map (λ (s : String Global). string_bytes s) c.args.not_utf8.now) c.try_unload.result c.try_unload.ensures.ended
 
 pub returns-clause-failed : goal.returns-clause-failed
 returns-clause-failed g c =
