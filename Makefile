@@ -20,7 +20,8 @@ PREFIX ?= /opt/modulecmd
 DESTDIR ?=
 CRATE ?=
 ONLY ?=
-PROGRAMS = build/bin/modulecmd build/bin/module
+PROGRAMS = build/bin
+BUILT = build/bin/modulecmd build/bin/module
 
 .PHONY: build check deps install uninstall package demo test bench clean
 
@@ -34,11 +35,11 @@ check:
 deps:
 	sh tools/deps.sh
 
-$(PROGRAMS) &:
+$(BUILT) &:
 	python3 -B tools/build.py
 
-install: $(PROGRAMS)
-	sh tools/product.sh install '$(DESTDIR)' '$(PREFIX)' $(PROGRAMS)
+install: $(PROGRAMS)/modulecmd $(PROGRAMS)/module
+	sh tools/product.sh install '$(DESTDIR)' '$(PREFIX)' '$(PROGRAMS)/modulecmd' '$(PROGRAMS)/module'
 
 uninstall:
 	sh tools/product.sh uninstall '$(DESTDIR)' '$(PREFIX)'
@@ -51,7 +52,7 @@ package:
 demo:
 	sh tools/deps.sh demo
 	python3 -B tools/build.py
-	sh tools/product.sh install '' '$(CURDIR)/build/demo' $(PROGRAMS)
+	sh tools/product.sh install '' '$(CURDIR)/build/demo' $(BUILT)
 	sh demo/demo.sh build/demo
 
 test:

@@ -19,6 +19,7 @@ from hypothesis import HealthCheck, settings
 from hypothesis.configuration import set_hypothesis_home_dir
 
 from tests import properties
+from link import is_unproved  # in tools/
 from tests.harness import Folder, installed, refuser
 
 sys.dont_write_bytecode = True
@@ -52,16 +53,30 @@ def pytest_configure(config):
 
 
 @pytest.fixture(scope="session")
-def built(pytestconfig):
+def programs(pytestconfig):
+    """The folder of the built programs."""
+    return str(pytestconfig.rootpath / pytestconfig.getoption("program_dir"))
+
+
+@pytest.fixture(scope="session")
+def built(programs):
     """Gives the path of the built program of a name."""
 
     def path_of(name):
-        path = pytestconfig.rootpath / pytestconfig.getoption("program_dir") / name
-        if not path.is_file():
+        path = os.path.join(programs, name)
+        if not os.path.isfile(path):
             pytest.fail(f"there is no {path}; CONTRIBUTING.md says what builds it (Tests alone)", pytrace=False)
-        return str(path)
+        return path
 
     return path_of
+
+
+@pytest.fixture(scope="session")
+def as_shipped(program):
+    """Has a case run over programs as they are shipped alone. Those of `make try` have a sanitizer: it takes more time and
+    memory, is in the way of libraries that make calls fail, and wants to see /proc."""
+    if is_unproved(program):
+        pytest.skip("over programs of `make try`, which have a sanitizer, it says nothing")
 
 
 @pytest.fixture(scope="session")
@@ -87,9 +102,10 @@ def place():
 
 
 @pytest.fixture(scope="session")
-def product(place):
+def product(place, programs, built):
     """The prefix of the product over the program."""
-    return installed(os.path.join(place, "the program"))
+    built("modulecmd")
+    return installed(os.path.join(place, "the program"), programs)
 
 
 @pytest.fixture(scope="session")

@@ -12,7 +12,7 @@ HERE = os.path.dirname(os.path.abspath(__file__))
 TOP = os.path.dirname(HERE)
 sys.path.append(os.path.join(TOP, "tools"))
 
-from link import DYNAMIC  # noqa: E402
+from link import DYNAMIC, PRODUCT, is_unproved  # noqa: E402
 
 NOBODY = 65534
 SH = shutil.which("dash") or "/bin/sh"
@@ -107,11 +107,14 @@ def dynamic(program):
     return beside if os.path.isfile(beside) else program
 
 
-def installed(prefix):
-    """Lays the product out below a prefix, which is given back."""
-    done = subprocess.run(["make", "-s", "install", f"PREFIX={prefix}"], cwd=TOP, capture_output=True, check=False)
+def installed(prefix, programs):
+    """Lays the product out below a prefix, which is given back, with the programs of a folder."""
+    words = ["make", "-s", "install", f"PREFIX={prefix}", f"PROGRAMS={programs}"]
+    if is_unproved(os.path.join(programs, "modulecmd")):
+        words = ["sh", "tools/product.sh", "try", "", prefix, *(os.path.join(programs, name) for name in PRODUCT)]
+    done = subprocess.run(words, cwd=TOP, capture_output=True, check=False)
     if done.returncode != 0:
-        raise Failed(f"make install ended with status {done.returncode}:\n{done.stderr.decode(errors='replace')}")
+        raise Failed(f"{' '.join(words)} ended with status {done.returncode}:\n{done.stderr.decode(errors='replace')}")
     return prefix
 
 
