@@ -18,9 +18,8 @@ import pytest
 from hypothesis import HealthCheck, settings
 from hypothesis.configuration import set_hypothesis_home_dir
 
-from tests import properties
-from link import is_unproved  # in tools/
-from tests.harness import Folder, installed, refuser
+from tests import harness, properties
+from tests.harness import Folder, are_tried, installed, refuser
 
 sys.dont_write_bytecode = True
 
@@ -33,10 +32,16 @@ def pytest_addoption(parser):
     parser.addoption("--examples", type=int, help="how many examples each property has, in place of its own number")
 
 
+def folder_of_programs(config):
+    return str(config.rootpath / config.getoption("program_dir"))
+
+
 def pytest_configure(config):
     """Properties have the same examples in each run, but with `--hypothesis-seed`. What hypothesis keeps on the disk isn't
     left there. Examples share the fixtures of their property."""
     properties.CHOSEN = config.getoption("examples")
+    if are_tried(folder_of_programs(config)):
+        harness.SECONDS *= harness.SLOWER
     room = tempfile.TemporaryDirectory(prefix="modulecmd-hypothesis-")
     config.add_cleanup(room.cleanup)
     set_hypothesis_home_dir(room.name)
@@ -55,7 +60,7 @@ def pytest_configure(config):
 @pytest.fixture(scope="session")
 def programs(pytestconfig):
     """The folder of the built programs."""
-    return str(pytestconfig.rootpath / pytestconfig.getoption("program_dir"))
+    return folder_of_programs(pytestconfig)
 
 
 @pytest.fixture(scope="session")
@@ -72,11 +77,11 @@ def built(programs):
 
 
 @pytest.fixture(scope="session")
-def as_shipped(program):
-    """Has a case run over programs as they are shipped alone. Those of `make try` have a sanitizer: it takes more time and
-    memory, is in the way of libraries that make calls fail, and wants to see /proc."""
-    if is_unproved(program):
-        pytest.skip("over programs of `make try`, which have a sanitizer, it says nothing")
+def as_shipped(programs):
+    """Has a case run over programs as they are shipped alone. Those of `make try` have a sanitizer, which takes time and
+    memory, and gives the program memory in the C library's place."""
+    if are_tried(programs):
+        pytest.skip("it says nothing of programs of `make try`, which have a sanitizer")
 
 
 @pytest.fixture(scope="session")
@@ -109,11 +114,17 @@ def product(place, programs, built):
 
 
 @pytest.fixture(scope="session")
-def shim():
+def shim(request):
     """Gives the path of a library that goes before the C library's, built from the C file of this name."""
+
+    def path_of(name):
+        if name == "failing_malloc":
+            request.getfixturevalue("as_shipped")
+        return refuser(os.fsencode(place), name)
+
     with tempfile.TemporaryDirectory(prefix="modulecmd-shims-") as place:
         os.chmod(place, 0o755)
-        yield lambda name: refuser(os.fsencode(place), name)
+        yield path_of
 
 
 @pytest.fixture

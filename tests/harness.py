@@ -21,6 +21,9 @@ ENV = shutil.which("env")
 OWN = (b"PWD", b"OLDPWD", b"_")
 SECONDS = 60
 
+# How many times as long a program of `make try` may take, which isn't optimised and has a sanitizer.
+SLOWER = 10
+
 # How many runs after the last refusal of memory have to be as with ample memory.
 QUIET = 10
 
@@ -107,10 +110,16 @@ def dynamic(program):
     return beside if os.path.isfile(beside) else program
 
 
+def are_tried(programs):
+    """Whether the programs of a folder are those of `make try`."""
+    paths = [os.path.join(programs, name) for name in os.listdir(programs)] if os.path.isdir(programs) else []
+    return any(is_unproved(path) for path in paths if os.path.isfile(path) and not os.path.islink(path))
+
+
 def installed(prefix, programs):
     """Lays the product out below a prefix, which is given back, with the programs of a folder."""
     words = ["make", "-s", "install", f"PREFIX={prefix}", f"PROGRAMS={programs}"]
-    if is_unproved(os.path.join(programs, "modulecmd")):
+    if are_tried(programs):
         words = ["sh", "tools/product.sh", "try", "", prefix, *(os.path.join(programs, name) for name in PRODUCT)]
     done = subprocess.run(words, cwd=TOP, capture_output=True, check=False)
     if done.returncode != 0:

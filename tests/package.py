@@ -19,6 +19,8 @@ import tempfile
 
 import pytest
 
+import licences  # in tools/
+from build import PRODUCT, rtlib  # in tools/
 from tests.harness import HERE, SECONDS, same, true
 
 TOP = os.path.dirname(HERE)
@@ -189,8 +191,11 @@ class Packages:
 
 
 def make(into, version):
-    """Makes the packages of a version in a folder."""
-    goes_well([sys.executable, "-B", os.path.join(TOP, "tools", "package.py"), into, version])
+    """Makes the packages of a version in a folder. Where the tool of one isn't there, it is said, with status 1."""
+    _, err, status = run([sys.executable, "-B", os.path.join(TOP, "tools", "package.py"), into, version])
+    lacking = [tool for tool in ("dpkg-deb", "rpmbuild") if not shutil.which(tool)]
+    same(re.findall(r"there is no ([a-z-]+)", err), lacking, f"what is said not to be made: {err}")
+    same(status, 1 if lacking else 0, "the status")
 
 
 def copy(path, root):
@@ -322,7 +327,7 @@ def room():
 
 
 @pytest.fixture(scope="module")
-def packages(room):
+def packages(room, as_shipped):
     return Packages(room)
 
 
@@ -363,8 +368,24 @@ def test_the_programs_are_linked_again_by_what_comes_along(folder, packages):
             goes_well(command.split(), cwd=place)
             goes_well(["strip", name], cwd=place)
             true(read(os.path.join(place, name)) == read(os.path.join(archive, "bin", name)), f"{name} is the same")
-    for name in re.search(r"folders here: (.*);", page)[1].split(", "):
+    for name in [*re.search(r"folders here: (.*);", page)[1].split(", "), "ucd_table"]:
         true(os.listdir(os.path.join(place, name)), f"the licence of {name} is there")
+
+
+def licence_texts(folder):
+    return {read(path) for path in glob.glob(os.path.join(folder, "LICENSE*"))}
+
+
+def test_the_licence_of_each_library_that_a_program_holds_comes_along():
+    """Those of the kit's libraries that have one, as crates.txt and the libraries themselves name them."""
+    home = os.path.join(licences.kit(), "rattle")
+    crates = [it for it in rtlib.crates_below(TOP) if it.name in PRODUCT]
+    named = [name for crate in crates for it in [crate, *crate.below()] for name in it.of_kit]
+    held = [word.split(":")[0] for word in rtlib.kit_sources(named) if word != "--lib"]
+    along = [licence_texts(os.path.join(home, name)) for name in (*licences.PORTS, licences.TABLES)]
+    lacking = [name for name in held if not licence_texts(os.path.join(home, name)) <= set().union(*along)]
+    same(lacking, [], "libraries of which a licence doesn't come along")
+    same([name for name in licences.PORTS if name not in held], [], "ports that no program holds")
 
 
 def test_an_archive_is_installed_by_a_shell_and_few_utilities(folder, packages):
