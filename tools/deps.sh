@@ -1,7 +1,7 @@
 #!/bin/sh
-# Installs, by apt-get, what the unproved programs (`try`), the static link (`build`), the example (`demo`), the packages
-# (`package`), the tests (`test`) or the measurements (`bench`) need, where it is missing, and says so. Without a word: what
-# all of them need.
+# Installs, by apt-get, what the unproved programs (`try`), the short tests (`smoke`), the static link (`build`), the
+# example (`demo`), the packages (`package`), the tests (`test`) or the measurements (`bench`) need, where it is missing, and
+# says so. Without a word: what all of them need.
 set -eu
 # With it `cd` goes to folders elsewhere that are called as those here.
 unset CDPATH
@@ -26,6 +26,13 @@ need_for() {
     case $1 in
         try)
             need python3 python3
+            ;;
+        smoke)
+            need_for try
+            need gcc cc
+            need python3-pytest /usr/lib/python3/dist-packages/pytest/__init__.py
+            need python3-hypothesis /usr/lib/python3/dist-packages/hypothesis/__init__.py
+            need bash bash
             ;;
         build)
             need_for try
@@ -92,7 +99,7 @@ need_for() {
             fi
             ;;
         *)
-            echo "deps.sh: $1 is none of try, build, demo, package, test, bench" >&2
+            echo "deps.sh: $1 is none of try, smoke, build, demo, package, test, bench" >&2
             exit 2
             ;;
     esac
