@@ -34,7 +34,7 @@ try:
 	python3 -B tools/try_out.py
 	sh tools/product.sh try '' '$(CURDIR)/build/try' build/unproved/modulecmd build/unproved/module
 	sh demo/demo.sh build/try
-	@echo 'This was done by the programs in build/unproved, of which nothing is proved.'
+	@echo 'This was done by the programs in build/unproved, of which nothing is proved. To use them: . build/try/init/sh'
 
 smoke:
 	sh tools/deps.sh smoke
