@@ -20,6 +20,7 @@ import tempfile
 import pytest
 
 import licences  # in tools/
+import package  # in tools/
 from build import PRODUCT, rtlib  # in tools/
 from tests.harness import HERE, SECONDS, same, true
 
@@ -370,6 +371,19 @@ def test_the_programs_are_linked_again_by_what_comes_along(folder, packages):
             true(read(os.path.join(place, name)) == read(os.path.join(archive, "bin", name)), f"{name} is the same")
     for name in [*re.search(r"folders here: (.*);", page)[1].split(", "), "ucd_table"]:
         true(os.listdir(os.path.join(place, name)), f"the licence of {name} is there")
+
+
+def test_a_package_that_is_not_made_is_said_by_the_status(tmp_path, monkeypatch, capsys):
+    """Where neither tool is there, the archive is made alone."""
+    archive = str(tmp_path / "archive.tar.gz")
+    write(archive, "")
+    monkeypatch.setattr(package, "lay_out", lambda *_: str(tmp_path))
+    monkeypatch.setattr(package, "make_archive", lambda *_: archive)
+    monkeypatch.setattr(package.shutil, "which", lambda _: None)
+    why = "not made: Debian's package, since there is no dpkg-deb; the RPM, since there is no rpmbuild"
+    with pytest.raises(SystemExit, match=f"^{why}$"):
+        package.main([str(tmp_path)])
+    same([line.rpartition("/")[2] for line in capsys.readouterr().out.splitlines()], ["archive.tar.gz", "SHA256SUMS"], "what is made")
 
 
 def licence_texts(folder):
