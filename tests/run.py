@@ -195,7 +195,8 @@ def suite(python, script, programs, words=()):
     """Runs one suite over the programs of a folder, and gives what passed, what failed, why something wasn't run, and its
     processor seconds."""
     before = children_seconds()
-    counts = counted([python, "-B", "-m", "pytest", "-q", "--program-dir", programs, *words, f"tests/{script}"])
+    # (the options of tests/conftest.py are known behind a path below tests/ alone)
+    counts = counted([python, "-B", "-m", "pytest", "-q", f"tests/{script}", "--program-dir", programs, *words])
     return *counts, children_seconds() - before
 
 
