@@ -86,7 +86,7 @@ SMOKE = {
     "documents.py": (),
     "modulefiles.py": (),
     "commands.py": (),
-    "search.py": ("-k", "test_searches and not 100,000"),
+    "search.py": ("-k", "test_searches and not turns"),
     "modcheck.py": (),
     "shells": ("-k", "bash"),
 }
