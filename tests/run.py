@@ -87,7 +87,6 @@ SMOKE = {
     "modulefiles.py": (),
     "commands.py": (),
     "search.py": ("-k", "test_searches and not turns"),
-    "modcheck.py": (),
     "shells": ("-k", "bash"),
 }
 
