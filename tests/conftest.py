@@ -18,8 +18,8 @@ import pytest
 from hypothesis import HealthCheck, settings
 from hypothesis.configuration import set_hypothesis_home_dir
 
-from tests import properties
-from tests.harness import Folder, installed, refuser
+from tests import harness, properties
+from tests.harness import Folder, are_tried, installed, refuser
 
 sys.dont_write_bytecode = True
 
@@ -32,10 +32,16 @@ def pytest_addoption(parser):
     parser.addoption("--examples", type=int, help="how many examples each property has, in place of its own number")
 
 
+def folder_of_programs(config):
+    return str(config.rootpath / config.getoption("program_dir"))
+
+
 def pytest_configure(config):
     """Properties have the same examples in each run, but with `--hypothesis-seed`. What hypothesis keeps on the disk isn't
     left there. Examples share the fixtures of their property."""
     properties.CHOSEN = config.getoption("examples")
+    if are_tried(folder_of_programs(config)):
+        harness.SECONDS *= harness.SLOWER
     room = tempfile.TemporaryDirectory(prefix="modulecmd-hypothesis-")
     config.add_cleanup(room.cleanup)
     set_hypothesis_home_dir(room.name)
@@ -52,16 +58,30 @@ def pytest_configure(config):
 
 
 @pytest.fixture(scope="session")
-def built(pytestconfig):
+def programs(pytestconfig):
+    """The folder of the built programs."""
+    return folder_of_programs(pytestconfig)
+
+
+@pytest.fixture(scope="session")
+def built(programs):
     """Gives the path of the built program of a name."""
 
     def path_of(name):
-        path = pytestconfig.rootpath / pytestconfig.getoption("program_dir") / name
-        if not path.is_file():
+        path = os.path.join(programs, name)
+        if not os.path.isfile(path):
             pytest.fail(f"there is no {path}; CONTRIBUTING.md says what builds it (Tests alone)", pytrace=False)
-        return str(path)
+        return path
 
     return path_of
+
+
+@pytest.fixture(scope="session")
+def as_shipped(programs):
+    """Has a case run over programs as they are shipped alone. Those of `make try` have a sanitizer, which takes time and
+    memory, and gives the program memory in the C library's place."""
+    if are_tried(programs):
+        pytest.skip("it says nothing of programs of `make try`, which have a sanitizer")
 
 
 @pytest.fixture(scope="session")
@@ -87,17 +107,24 @@ def place():
 
 
 @pytest.fixture(scope="session")
-def product(place):
+def product(place, programs, built):
     """The prefix of the product over the program."""
-    return installed(os.path.join(place, "the program"))
+    built("modulecmd")
+    return installed(os.path.join(place, "the program"), programs)
 
 
 @pytest.fixture(scope="session")
-def shim():
+def shim(request):
     """Gives the path of a library that goes before the C library's, built from the C file of this name."""
+
+    def path_of(name):
+        if name == "failing_malloc":
+            request.getfixturevalue("as_shipped")
+        return refuser(os.fsencode(place), name)
+
     with tempfile.TemporaryDirectory(prefix="modulecmd-shims-") as place:
         os.chmod(place, 0o755)
-        yield lambda name: refuser(os.fsencode(place), name)
+        yield path_of
 
 
 @pytest.fixture

@@ -221,6 +221,7 @@ def huge(folder, name):
         out.truncate(HUGE)
 
 
+@pytest.mark.usefixtures("as_shipped")
 def test_files_that_are_no_modules_and_huge(folder):
     folder.module("foo/1.0", FOO)
     env = folder.environment(PATH="/bin")

@@ -12,7 +12,7 @@ HERE = os.path.dirname(os.path.abspath(__file__))
 TOP = os.path.dirname(HERE)
 sys.path.append(os.path.join(TOP, "tools"))
 
-from link import DYNAMIC  # noqa: E402
+from link import DYNAMIC, PRODUCT, is_unproved  # noqa: E402
 
 NOBODY = 65534
 SH = shutil.which("dash") or "/bin/sh"
@@ -20,6 +20,9 @@ ENV = shutil.which("env")
 # What sh sets by itself.
 OWN = (b"PWD", b"OLDPWD", b"_")
 SECONDS = 60
+
+# How many times as long a program of `make try` may take, which isn't optimised and has a sanitizer.
+SLOWER = 10
 
 # How many runs after the last refusal of memory have to be as with ample memory.
 QUIET = 10
@@ -107,11 +110,20 @@ def dynamic(program):
     return beside if os.path.isfile(beside) else program
 
 
-def installed(prefix):
-    """Lays the product out below a prefix, which is given back."""
-    done = subprocess.run(["make", "-s", "install", f"PREFIX={prefix}"], cwd=TOP, capture_output=True, check=False)
+def are_tried(programs):
+    """Whether the programs of a folder are those of `make try`."""
+    paths = [os.path.join(programs, name) for name in os.listdir(programs)] if os.path.isdir(programs) else []
+    return any(is_unproved(path) for path in paths if os.path.isfile(path) and not os.path.islink(path))
+
+
+def installed(prefix, programs):
+    """Lays the product out below a prefix, which is given back, with the programs of a folder."""
+    words = ["make", "-s", "install", f"PREFIX={prefix}", f"PROGRAMS={programs}"]
+    if are_tried(programs):
+        words = ["sh", "tools/product.sh", "try", "", prefix, *(os.path.join(programs, name) for name in PRODUCT)]
+    done = subprocess.run(words, cwd=TOP, capture_output=True, check=False)
     if done.returncode != 0:
-        raise Failed(f"make install ended with status {done.returncode}:\n{done.stderr.decode(errors='replace')}")
+        raise Failed(f"{' '.join(words)} ended with status {done.returncode}:\n{done.stderr.decode(errors='replace')}")
     return prefix
 
 

@@ -19,6 +19,9 @@ import tempfile
 
 import pytest
 
+import licences  # in tools/
+import package  # in tools/
+from build import PRODUCT, rtlib  # in tools/
 from tests.harness import HERE, SECONDS, same, true
 
 TOP = os.path.dirname(HERE)
@@ -192,8 +195,11 @@ class Packages:
 
 
 def make(into, version):
-    """Makes the packages of a version in a folder."""
-    goes_well([sys.executable, "-B", os.path.join(TOP, "tools", "package.py"), into, version])
+    """Makes the packages of a version in a folder. Where the tool of one isn't there, it is said, with status 1."""
+    _, err, status = run([sys.executable, "-B", os.path.join(TOP, "tools", "package.py"), into, version])
+    lacking = [tool for tool in ("dpkg-deb", "rpmbuild") if not shutil.which(tool)]
+    same(re.findall(r"there is no ([a-z-]+)", err), lacking, f"what is said not to be made: {err}")
+    same(status, 1 if lacking else 0, "the status")
 
 
 def copy(path, root):
@@ -325,7 +331,7 @@ def room():
 
 
 @pytest.fixture(scope="module")
-def packages(room):
+def packages(room, as_shipped):
     return Packages(room)
 
 
@@ -366,8 +372,37 @@ def test_the_programs_are_linked_again_by_what_comes_along(folder, packages):
             goes_well(command.split(), cwd=place)
             goes_well(["strip", name], cwd=place)
             true(read(os.path.join(place, name)) == read(os.path.join(archive, "bin", name)), f"{name} is the same")
-    for name in re.search(r"folders here: (.*);", page)[1].split(", "):
+    for name in [*re.search(r"folders here: (.*);", page)[1].split(", "), "ucd_table"]:
         true(os.listdir(os.path.join(place, name)), f"the licence of {name} is there")
+
+
+def test_a_package_that_is_not_made_is_said_by_the_status(tmp_path, monkeypatch, capsys):
+    """Where neither tool is there, the archive is made alone."""
+    archive = str(tmp_path / "archive.tar.gz")
+    write(archive, "")
+    monkeypatch.setattr(package, "lay_out", lambda *_: str(tmp_path))
+    monkeypatch.setattr(package, "make_archive", lambda *_: archive)
+    monkeypatch.setattr(package.shutil, "which", lambda _: None)
+    why = "not made: Debian's package, since there is no dpkg-deb; the RPM, since there is no rpmbuild"
+    with pytest.raises(SystemExit, match=f"^{why}$"):
+        package.main([str(tmp_path)])
+    same([line.rpartition("/")[2] for line in capsys.readouterr().out.splitlines()], ["archive.tar.gz", "SHA256SUMS"], "what is made")
+
+
+def licence_texts(folder):
+    return {read(path) for path in glob.glob(os.path.join(folder, "LICENSE*"))}
+
+
+def test_the_licence_of_each_library_that_a_program_holds_comes_along():
+    """Those of the kit's libraries that have one, as crates.txt and the libraries themselves name them."""
+    home = os.path.join(licences.kit(), "rattle")
+    crates = [it for it in rtlib.crates_below(TOP) if it.name in PRODUCT]
+    named = [name for crate in crates for it in [crate, *crate.below()] for name in it.of_kit]
+    held = [word.split(":")[0] for word in rtlib.kit_sources(named) if word != "--lib"]
+    along = [licence_texts(os.path.join(home, name)) for name in (*licences.PORTS, licences.TABLES)]
+    lacking = [name for name in held if not licence_texts(os.path.join(home, name)) <= set().union(*along)]
+    same(lacking, [], "libraries of which a licence doesn't come along")
+    same([name for name in licences.PORTS if name not in held], [], "ports that no program holds")
 
 
 def test_an_archive_is_installed_by_a_shell_and_few_utilities(folder, packages):

@@ -21,7 +21,7 @@ import time
 
 import pytest
 
-from tests.harness import HERE, SECONDS, Failed, same, true
+from tests.harness import HERE, SECONDS, Failed, installed, same, true
 
 TOP = os.path.dirname(HERE)
 ROWS, COLUMNS = 40, 80
@@ -96,15 +96,10 @@ def blocks(text, language):
 
 
 @pytest.fixture
-def install(built):
+def install(programs, built):
     """Installs the product below a prefix."""
-
-    def below(prefix):
-        programs = [built(name) for name in ("modulecmd", "module")]
-        command = ["sh", os.path.join(TOP, "tools", "product.sh"), "install", "", prefix, *programs]
-        subprocess.run(command, stdout=subprocess.DEVNULL, check=True)
-
-    return below
+    built("modulecmd")
+    return lambda prefix: installed(prefix, programs)
 
 
 class Typed:

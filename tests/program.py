@@ -246,6 +246,7 @@ def grows_linearly(small, large, factor):
     true(large <= 3 * factor * small + 0.05, f"{small:.3f} s, and {large:.3f} s at {factor} times as many")
 
 
+@pytest.mark.usefixtures("as_shipped")
 def test_time_grows_with_the_number_of_variables(folder):
     folder.module("foo/1.0", FOO)
 
@@ -257,6 +258,7 @@ def test_time_grows_with_the_number_of_variables(folder):
     grows_linearly(spent(2000), spent(20000), 10)
 
 
+@pytest.mark.usefixtures("as_shipped")
 @pytest.mark.parametrize("form", ["setenv V{} v\n", "prepend-path V{} /v\n"], ids=["setenv", "prepend-path"])
 def test_time_grows_with_the_number_of_commands(folder, form):
     def spent(count):

@@ -15,6 +15,7 @@ import tempfile
 HERE = os.path.dirname(os.path.abspath(__file__))
 TOP = os.path.dirname(HERE)
 BUILT = os.path.join(TOP, "build", "bin")
+TRIED = os.path.join(TOP, "build", "unproved")
 sys.path += [TOP, os.path.join(TOP, "tools")]
 
 import link  # noqa: E402
@@ -74,10 +75,21 @@ SUITES = (
     "tcl/commands.py",
     "tcl/memory.py",
     "package.py",
+    "unproved.py",
     "moved.py",
     "costs.py",
     "runs.py",
 )
+
+
+# What `make smoke` runs of them, over the programs of `make try`, and with which words for pytest.
+SMOKE = {
+    "documents.py": (),
+    "modulefiles.py": (),
+    "commands.py": (),
+    "search.py": ("-k", "test_searches and not turns"),
+    "shells": ("-k", "bash"),
+}
 
 
 def left_by_the_gate(name):
@@ -179,10 +191,12 @@ def make_object(kit, name, made):
     return done.returncode == 0
 
 
-def suite(python, script):
-    """Runs one suite, and gives what passed, what failed, why something wasn't run, and its processor seconds."""
+def suite(python, script, programs, words=()):
+    """Runs one suite over the programs of a folder, and gives what passed, what failed, why something wasn't run, and its
+    processor seconds."""
     before = children_seconds()
-    counts = counted([python, "-B", "-m", "pytest", "-q", f"tests/{script}"])
+    # (the options of tests/conftest.py are known behind a path below tests/ alone)
+    counts = counted([python, "-B", "-m", "pytest", "-q", f"tests/{script}", "--program-dir", programs, *words])
     return *counts, children_seconds() - before
 
 
@@ -203,29 +217,45 @@ def words():
         nargs="+",
         metavar="NAME",
         default=[],
-        help="run no gate, and of the suites these alone, as `program` or `tcl/scripts`, over the programs in build/bin",
+        help="run no gate, and of the suites these alone, as `program` or `tcl/scripts`",
     )
-    return parser.parse_args()
+    parser.add_argument(
+        "--program-dir", default=BUILT, help="with --only: the folder of the programs (build/bin)", metavar="FOLDER"
+    )
+    parser.add_argument("--smoke", action="store_true", help="run no gate, and what a change most often breaks")
+    given = parser.parse_args()
+    if not given.only and not given.smoke and os.path.realpath(given.program_dir) != os.path.realpath(BUILT):
+        parser.error("the gate builds programs of its own: other ones are for the suites that --only (or ONLY) names")
+    return given
 
 
-def main(only):
-    python, suites = interpreter(), chosen(only)
-    start, passed, failed, spent, crates, not_run = children_seconds(), 0, 0, {}, {}, []
-    if not only:
-        with Sampler(os.getpid()) as sampler:
-            passed, failed, _ = gate()
-        spent["rt ci"], crates = children_seconds() - start, sampler.crates()
-    for script in suites:
-        suite_passed, suite_failed, reasons, seconds = suite(python, script)
-        spent[script] = seconds
+def run(python, suites, programs, counts):
+    """Runs suites over the programs of a folder, each with words for pytest, and adds up what passed and failed and how
+    long each took."""
+    spent, not_run = {}, []
+    passed, failed, _ = counts
+    for script, said in suites.items():
+        suite_passed, suite_failed, reasons, spent[script] = suite(python, script, programs, said)
         passed += suite_passed
         failed += suite_failed
         not_run += [f"{NOT_RUN}{script}: {reason}" for reason in reasons]
-    print(table(crates, spent))
+    return passed, failed, not_run, spent
+
+
+def main(given):
+    suites = SMOKE if given.smoke else dict.fromkeys(chosen(given.only), ())
+    programs = TRIED if given.smoke else os.path.abspath(given.program_dir)
+    python, start, counts, of_gate, crates = interpreter(), children_seconds(), (0, 0, []), {}, {}
+    if not given.only and not given.smoke:
+        with Sampler(os.getpid()) as sampler:
+            counts = gate()
+        of_gate, crates = {"rt ci": children_seconds() - start}, sampler.crates()
+    passed, failed, not_run, spent = run(python, suites, programs, counts)
+    print(table(crates, {**of_gate, **spent}))
     print("".join(f"{line}\n" for line in not_run), end="")
     print(f"{passed} passed, {failed} failed")
     return 1 if failed else 0
 
 
 if __name__ == "__main__":
-    sys.exit(main(words().only))
+    sys.exit(main(words()))

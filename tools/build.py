@@ -2,6 +2,7 @@
 
     build.py [--check] [CRATE...]
     build.py --check CRATE --only FUNCTION
+    build.py --text
 
 Proves the crates that are named and those below them, each once the crates that it stands on are there: as many at a
 time as processors and memory allow, the longest chain of crates first. A program among them is built and left in
@@ -9,7 +10,7 @@ build/bin; with `--check` nothing is left there. Without a name: the programs of
 `--check`. With `--only` the crates below are proved, and of the crate itself one function with what it calls.
 
 What was proved lies in crates/*/out/build and is taken again where neither the crate nor anything below it changed.
-`--check` also says which crates the gate would refuse for their text alone, before any proof.
+`--check` also says which crates the gate would refuse for their text alone, before any proof; `--text` says that alone.
 JOBS=N says how many processors may be used. `rt ci` decides on a change: it proves everything from nothing.
 """
 
@@ -217,6 +218,16 @@ def refused(crates):
     return found
 
 
+def check_text():
+    """Says which crates the gate refuses for their text alone, and gives whether there is none."""
+    crates = rtlib.crates_below(TOP)
+    unfit = refused(crates)
+    for name, why in unfit:
+        print(f"`rt ci` refuses {name} for {why}")
+    print(f"of {len(crates)} crates, `rt ci` refuses {len(unfit)} for their text alone", flush=True)
+    return not unfit
+
+
 class Schedule:
     """Does works side by side, and says a line of each that ends."""
 
@@ -281,6 +292,8 @@ def leave(work):
 
 
 def main(words):
+    if words == ["--text"]:
+        return 0 if check_text() else 1
     is_check = words[:1] == ["--check"]
     names = words[1:] if is_check else words or PRODUCT
     function = None

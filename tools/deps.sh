@@ -1,6 +1,7 @@
 #!/bin/sh
-# Installs, by apt-get, what the static link (`build`), the example (`demo`), the tests (`test`) or the measurements
-# (`bench`) need, where it is missing, and says so. Without a word: what all of them need.
+# Installs, by apt-get, what the unproved programs (`try`), the short tests (`smoke`), the static link (`build`), the
+# example (`demo`), the packages (`package`), the tests (`test`) or the measurements (`bench`) need, where it is missing, and
+# says so. Without a word: what all of them need.
 set -eu
 # With it `cd` goes to folders elsewhere that are called as those here.
 unset CDPATH
@@ -23,16 +24,32 @@ need() {
 
 need_for() {
     case $1 in
-        build)
+        try)
             need python3 python3
+            ;;
+        smoke)
+            need_for try
+            need gcc cc
+            need python3-pytest /usr/lib/python3/dist-packages/pytest/__init__.py
+            need python3-hypothesis /usr/lib/python3/dist-packages/hypothesis/__init__.py
+            need bash bash
+            ;;
+        build)
+            need_for try
             need gcc cc
             need libc6-dev /usr/lib/*/libc.a /usr/lib64/libc.a
             ;;
         demo)
             need_for build
             ;;
-        test)
+        package)
             need_for build
+            need binutils strip
+            need dpkg dpkg-deb
+            need rpm rpmbuild
+            ;;
+        test)
+            need_for package
             # What runs the suites of tests/.
             need python3-pytest /usr/lib/python3/dist-packages/pytest/__init__.py
             need python3-hypothesis /usr/lib/python3/dist-packages/hypothesis/__init__.py
@@ -56,7 +73,6 @@ need_for() {
             need valgrind valgrind
             need strace strace
             need shellcheck shellcheck
-            need rpm rpmbuild
             need rpmlint rpmlint
             need tcl tclsh
             ;;
@@ -83,7 +99,7 @@ need_for() {
             fi
             ;;
         *)
-            echo "deps.sh: $1 is none of build, demo, test, bench" >&2
+            echo "deps.sh: $1 is none of try, smoke, build, demo, package, test, bench" >&2
             exit 2
             ;;
     esac

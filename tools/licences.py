@@ -11,7 +11,10 @@ import textwrap
 import link
 
 # The ported crates whose code the programs hold, besides the kit's own libraries.
-PORTS = ("fast_float", "indexmap", "itoa", "memchr", "ryu", "simdutf8")
+PORTS = ("fast_float", "indexmap", "itoa", "memchr", "ryu", "simdutf8", "unicode_width")
+
+# A library of the kit with Unicode's tables, which are under Unicode's own licence.
+TABLES = "ucd_table"
 
 # Where Debian has the terms of the C library, and the text that they name.
 C_LIBRARY = ("/usr/share/doc/libc6-dev/copyright", "/usr/share/common-licenses/LGPL-2.1")
@@ -24,6 +27,7 @@ The programs are linked statically. They hold
 - modulecmd itself: LICENSE, beside this folder;
 - the Rattle kit's libraries `core`, `std` and `json`, and the kit's C in objects/: the kit's;
 - ports of Rust crates, whose licences stand in the folders here: {ports};
+- tables made of Unicode's data: {tables}/;
 - the GNU C library, under the GNU Lesser General Public License, version 2.1 or later: glibc/.
 
 How to link them again
@@ -53,7 +57,7 @@ def lay_out(top, folder):
     home = os.path.join(folder, "LICENSES")
     os.makedirs(os.path.join(home, "objects"))
     os.makedirs(os.path.join(home, "glibc"))
-    for name in PORTS:
+    for name in (*PORTS, TABLES):
         os.makedirs(os.path.join(home, name))
         for path in glob.glob(os.path.join(kit(), "rattle", name, "LICENSE*")):
             shutil.copy(path, os.path.join(home, name))
@@ -65,4 +69,4 @@ def lay_out(top, folder):
         shutil.copy(path, os.path.join(home, "objects"))
     commands = "\n".join(textwrap.indent(" ".join(command(name)), "    ") for name in link.PRODUCT)
     with open(os.path.join(home, "README"), "w", encoding="utf-8") as file:
-        file.write(TEXT.format(ports=", ".join(PORTS), commands=commands))
+        file.write(TEXT.format(ports=", ".join(PORTS), tables=TABLES, commands=commands))

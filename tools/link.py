@@ -22,6 +22,9 @@ DYNAMIC = "dynamic"
 # How the system's compiler links statically.
 FLAGS = ("-static", "-Wl,--gc-sections", "-Wl,-z,relro,-z,now,-z,noexecstack")
 
+# The line that stands in a program of which nothing is proved: neither `make install` nor a package takes it.
+UNPROVED = "Nothing of this program is proved."
+
 # The kind of an ELF segment that names a loader.
 PT_INTERP = 3
 
@@ -36,6 +39,12 @@ def is_static(program):
         file.seek(start)
         table = file.read(size * count)
     return all(struct.unpack_from("<I", table, size * place)[0] != PT_INTERP for place in range(count))
+
+
+def is_unproved(program):
+    """Whether the line stands in a program that nothing of it is proved."""
+    with open(program, "rb") as file:
+        return f"\n{UNPROVED}\n".encode() in file.read()
 
 
 def kit_link(kit, made, program):

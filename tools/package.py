@@ -4,7 +4,7 @@
 
 leaves in the folder (build/dist): modulecmd-VERSION-x86_64-linux.tar.gz, whose install.sh lays the product out below any
 prefix; modulecmd_VERSION_amd64.deb, where there is a dpkg-deb; modulecmd-VERSION-1.x86_64.rpm, where there is an
-rpmbuild; and SHA256SUMS of these. The same tree gives the same bytes: names are sorted, owners are root, and times are
+rpmbuild; and SHA256SUMS of these. Where a package isn't made, the last line says so, and the status is 1. The same tree gives the same bytes: names are sorted, owners are root, and times are
 SOURCE_DATE_EPOCH, or the last commit's, or VERSION's.
 """
 
@@ -92,6 +92,8 @@ def strip_programs(folder):
     os.mkdir(folder)
     for name in link.PRODUCT:
         built = os.path.join(TOP, "build", "bin", name)
+        if os.path.exists(built) and link.is_unproved(built):
+            sys.exit(f"build/bin/{name} is of `make try`, and nothing of it is proved: `make build` makes one that is")
         if not os.path.exists(built) or not link.is_static(built):
             sys.exit(f"build/bin/{name} isn't there, or not linked statically: `make deps build` sees to it")
         subprocess.run(["strip", "-o", os.path.join(folder, name), built], check=True)
@@ -270,20 +272,23 @@ def main(words):
         sys.exit("package.py [FOLDER [VERSION]]")
     os.makedirs(into, exist_ok=True)
     seconds = epoch()
+    lacking = []
     with tempfile.TemporaryDirectory(prefix="modulecmd-package-") as room:
         folder = lay_out(room, version, seconds)
         made = [make_archive(folder, into, seconds)]
         if shutil.which("dpkg-deb"):
             made.append(make_debian(folder, into, version, seconds))
         else:
-            print("there is no dpkg-deb: Debian's package isn't made")
+            lacking.append("Debian's package, since there is no dpkg-deb")
         if shutil.which("rpmbuild"):
             made.append(rpm_package.make(folder, into, version, licence(), maintainer(), seconds, settle))
         else:
-            print("there is no rpmbuild: the RPM isn't made")
+            lacking.append("the RPM, since there is no rpmbuild")
     made.append(write_sums(into, made))
     for path in made:
         print(f"made {os.path.relpath(path)}")
+    if lacking:
+        sys.exit(f"not made: {'; '.join(lacking)}")
     return 0
 
 

@@ -2,9 +2,10 @@
 # Lays out the product below a prefix, or takes it away:
 #
 #   tools/product.sh install DESTDIR PREFIX PROGRAM...
+#   tools/product.sh try DESTDIR PREFIX PROGRAM...
 #   tools/product.sh uninstall DESTDIR PREFIX
 #
-# PREFIX is where it will stand, and is written into the files that name one another; DESTDIR (empty, or a directory) is
+# A program of `make try`, of which nothing is proved, is refused by `install`; `try` takes it. PREFIX is where it will stand, and is written into the files that name one another; DESTDIR (empty, or a directory) is
 # put in front of it for whoever makes a package. A relative DESTDIR or PROGRAM begins where the caller stands. An install
 # that fails leaves what stood there as it was.
 set -eu
@@ -18,7 +19,7 @@ refuse() {
 }
 
 if test $# -lt 3; then
-    sed -n '2,5s/^# \{0,1\}//p' "$0" >&2
+    sed -n '2,6s/^# \{0,1\}//p' "$0" >&2
     exit 2
 fi
 action=$1
@@ -61,6 +62,13 @@ for file in $examples; do
     folders="$folders share/examples/${file%/*}"
 done
 folders="$folders share/examples share"
+
+# Refuses a program in which the line stands that tools/try_out.py puts there.
+refuse_unproved() {
+    if test -n "$(LC_ALL=C sed -n '/^Nothing of this program is proved\.$/{p;q;}' "$1")"; then
+        refuse "Nothing is installed: $1 is of \`make try\`, and nothing of it is proved. \`make build\` makes one that is."
+    fi
+}
 
 # The folders that an install has made, inner ones first, and the files that it has begun, a line each.
 new_folders=
@@ -147,9 +155,11 @@ make_program() {
         *" libexec/${1##*/} "*) folder=libexec ;;
     esac
     case $1 in
-        /*) make_file 755 "$top/$folder/${1##*/}" cat "$1" ;;
-        *) make_file 755 "$top/$folder/${1##*/}" cat "$start/$1" ;;
+        /*) program=$1 ;;
+        *) program=$start/$1 ;;
     esac
+    test "$action" = try || test ! -f "$program" || refuse_unproved "$program"
+    make_file 755 "$top/$folder/${1##*/}" cat "$program"
     if test "${1##*/}" = module; then
         for file in $aliases; do
             make_link ../libexec/module "$top/$file"
@@ -174,7 +184,7 @@ place_files() {
 }
 
 case $action in
-    install)
+    install | try)
         trap take_back EXIT
         trap 'exit 1' HUP INT TERM
         make_files

@@ -35,9 +35,10 @@ def shell(request):
 
 
 @pytest.fixture(scope="session")
-def scripted_product(place):
+def scripted_product(place, programs, built):
     """The prefix of the product with the script that stands in for the program."""
-    prefix = installed(os.path.join(place, "stand in, (1) #;<~^=:@"))
+    built("modulecmd")
+    prefix = installed(os.path.join(place, "stand in, (1) #;<~^=:@"), programs)
     program = shutil.copy(os.path.join(HERE, "stand_in.sh"), os.path.join(prefix, "bin", "modulecmd"))
     os.chmod(program, 0o755)
     return prefix

@@ -82,9 +82,10 @@ def below(path):
     return sorted(found)
 
 
-def test_install_lays_out_every_file_and_uninstall_takes_it_away(folder):
+@pytest.mark.usefixtures("as_shipped")
+def test_install_lays_out_every_file_and_uninstall_takes_it_away(folder, programs):
     place = os.path.join(folder.path, b"new place").decode()
-    made("install", f"PREFIX={place}")
+    made("install", f"PROGRAMS={programs}", f"PREFIX={place}")
     same(below(place), sorted(FILES), "the files")
     for name in FILES:
         text = content(os.path.join(place, name))
@@ -95,10 +96,11 @@ def test_install_lays_out_every_file_and_uninstall_takes_it_away(folder):
     same(os.path.exists(place), False, "the folder is gone")
 
 
-def test_install_for_a_package_names_the_final_place(folder):
+@pytest.mark.usefixtures("as_shipped")
+def test_install_for_a_package_names_the_final_place(folder, programs):
     here = folder.path.decode()
     stage, final = os.path.join(here, "stage"), os.path.join(here, "final place")
-    made("install", f"DESTDIR={stage}", f"PREFIX={final}/")
+    made("install", f"PROGRAMS={programs}", f"DESTDIR={stage}", f"PREFIX={final}/")
     same(below(stage + final), sorted(FILES), "the files")
     for name in FILES:
         true(os.fsencode(stage) not in content(stage + os.path.join(final, name)), f"{name} doesn't name DESTDIR")
@@ -111,14 +113,15 @@ def test_install_for_a_package_names_the_final_place(folder):
     same(os.path.exists(final), False, "the folder is gone")
 
 
-def test_install_keeps_the_site_s_own_file(folder):
+@pytest.mark.usefixtures("as_shipped")
+def test_install_keeps_the_site_s_own_file(folder, programs):
     place = os.path.join(folder.path, b"p").decode()
-    made("install", f"PREFIX={place}")
+    made("install", f"PROGRAMS={programs}", f"PREFIX={place}")
     own = os.path.join(place, "etc/modulespath")
     same(content(own), content(os.path.join(place, "etc/modulespath.example")), "the first")
     with open(own, "wb") as file:
         file.write(b"/site\n")
-    made("install", f"PREFIX={place}")
+    made("install", f"PROGRAMS={programs}", f"PREFIX={place}")
     same(content(own), b"/site\n", "behind a second install")
     made("uninstall", f"PREFIX={place}")
     same(below(place), ["etc/modulespath"], "what uninstall leaves")
@@ -145,10 +148,11 @@ def test_an_exported_cdpath_leads_no_script_astray(folder):
         same((done.stdout.decode(), done.stderr, done.returncode), (wanted, b"", 0), f"what {words} writes")
 
 
-def test_install_refuses_a_prefix_that_shells_would_misread(folder):
+@pytest.mark.usefixtures("as_shipped")
+def test_install_refuses_a_prefix_that_shells_would_misread(folder, programs):
     marks = ("'", '"', "`", "$$", "!", "\\", "|", "&", "*", "?", "[", "]", "{", "}")
     for prefix in ("relative", "", "/", *(f"/a{mark}b" for mark in marks)):
-        done = make("install", f"PREFIX={prefix}", f"DESTDIR={folder.path.decode()}/no")
+        done = make("install", f"PROGRAMS={programs}", f"PREFIX={prefix}", f"DESTDIR={folder.path.decode()}/no")
         true(done.returncode != 0, f"the prefix {prefix} is refused")
     same(os.path.exists(folder.path + b"/no"), False, "nothing is laid out")
 
