@@ -14,7 +14,7 @@ use Rattle.requests.specs.Reasons.{RequestReason}
 use Rattle.requests.specs.Steps.{Done}
 use Rattle.modules.specs.Answers.{cause_of}
 use Rattle.modules.specs.Messages as texts
-use Rattle.sessions.specs.Rehearsals.{LacksText}
+use Rattle.shelltext.specs.Printing.{LacksText}
 use Rattle.autohandling.specs.declared.answer.AutomaticAnswer.{AutomaticAnswer}
 use Rattle.autohandling.specs.declared.fault.AutomaticFault.{AutomaticFault}
 use Rattle.autohandling.specs.declared.fault.AutomaticFault.TheVariants as faults

@@ -10,7 +10,7 @@ use Rattle.requests.specs.Requests.{load}
 use Rattle.requests.specs.Steps.{RequestContext, Done, RequestStep}
 use Rattle.modules.specs.Answers.{cause_of}
 use Rattle.filetree.specs.Causes.{Cause, memory, device, because}
-use Rattle.sessions.specs.Rehearsals.{LacksText}
+use Rattle.shelltext.specs.Printing.{LacksText}
 use Rattle.autohandling.specs.Adding.{is_spent, most_added}
 use Rattle.autohandling.specs.Loads.{Completes, IsFirstFound, IsFound, IsMissed, LoadsTo}
 use Rattle.autohandling.specs.Unloads.{IsFinal}

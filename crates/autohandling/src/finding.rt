@@ -16,22 +16,10 @@ use envvars::Env;
 use envvars::fields::copy;
 use filetree::Tree;
 use lookup::EvaluatedDefaultFiles;
+use requests::modulepath;
 use search::{FindFault, locate};
 use std::alloc::Global;
 use tclrules::Limits;
-
-/// The variable with the directories that are searched.
-const MODULEPATH: &str = "MODULEPATH";
-
-/// MODULEPATH, or the empty text where it is unset.
-fn modulepath(env: &Env) -> &str
-    ensures { result.now ≡ steps.modulepath env.now }
-{
-    match env.get(MODULEPATH) {
-        None => "",
-        Some(text) => text,
-    }
-}
 
 /// Whether the fault is a reason in the files, and not want of memory or a failed device.
 fn is_reason(fault: &FindFault) -> bool

@@ -6,17 +6,17 @@ use crate::lines::Line;
 use crate::recorder::Recorder;
 use crate::scripts::{LIMITS, recorder};
 use std::alloc::Global;
-use tclcache::KeptTrees;
+use tclcache::Kept;
 use tcleval::evaluate_with;
 
 /// Whether a script is evaluated, and not refused.
-fn is_evaluated(alloc: Global, cache: &mut KeptTrees, script: &str, mut host: Recorder) -> bool {
+fn is_evaluated(alloc: Global, cache: &mut Kept, script: &str, mut host: Recorder) -> bool {
     let variables = Vec::new(alloc);
     evaluate_with(alloc, cache, script, variables, &mut host, LIMITS).is_ok()
 }
 
 /// The index of a text in the cache; None where it can't be parsed.
-fn index(cache: &mut KeptTrees, kind: &str, text: &str) -> Option<Option<usize>> {
+fn index(cache: &mut Kept, kind: &str, text: &str) -> Option<Option<usize>> {
     match kind {
         "s" => cache.script(text).ok(),
         "e" => cache.expr(text).ok(),
@@ -25,7 +25,7 @@ fn index(cache: &mut KeptTrees, kind: &str, text: &str) -> Option<Option<usize>>
 }
 
 /// Adds the index of the text of a word, or `-`.
-fn push_index(alloc: Global, line: &mut Line, cache: &mut KeptTrees, word: &str) -> Option<()> {
+fn push_index(alloc: Global, line: &mut Line, cache: &mut Kept, word: &str) -> Option<()> {
     let (kind, written) = word.split_once('=')?;
     match index(cache, kind, &text_of(alloc, written)?)? {
         Some(index) => line.push_made(format!(in alloc; " {index}")),
@@ -35,7 +35,7 @@ fn push_index(alloc: Global, line: &mut Line, cache: &mut KeptTrees, word: &str)
 }
 
 /// Adds the index of each text; None where one of the words isn't a text.
-fn push_indexes(alloc: Global, line: &mut Line, cache: &mut KeptTrees, words: &str) -> Option<()> {
+fn push_indexes(alloc: Global, line: &mut Line, cache: &mut Kept, words: &str) -> Option<()> {
     for word in words.split(' ') {
         push_index(alloc, line, cache, word)?;
     }
@@ -50,7 +50,7 @@ fn push_cached(
     script: &str,
     host: Recorder,
 ) -> Option<()> {
-    let mut cache = KeptTrees::new(alloc);
+    let mut cache = Kept::new(alloc);
     if is_evaluated(alloc, &mut cache, script, host) {
         push_indexes(alloc, line, &mut cache, words)
     } else {

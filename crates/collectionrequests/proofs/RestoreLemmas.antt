@@ -15,7 +15,7 @@ use Rattle.requests.specs.Steps.{RequestContext, RequestStep, Done, entries_of, 
 use Rattle.modules.specs.Answers.{cause_of}
 use Rattle.modules.specs.declared.refusal.Refusal.{Refusal}
 use Rattle.modules.proofs.StepLemmas.{stands_as}
-use Rattle.sessions.specs.Rehearsals.{LacksText}
+use Rattle.shelltext.specs.Printing.{LacksText}
 use Rattle.collectionrequests.specs.Answers.{IsRestored, IsRestoreFault, StepOutcomes}
 use Rattle.collectionrequests.specs.Restores.{LoadStep, LoadStepLooksAt, ReloadLooksAt, ReloadStep, RestoreLooksAt, RestoreStep, both, searching}
 use Rattle.collectionrequests.specs.Views.{IsUnsaid, named, loaded_names}

@@ -15,7 +15,7 @@ use Rattle.requests.specs.Reasons.{RequestReason}
 use Rattle.requests.specs.Steps.{Done}
 use Rattle.modules.specs.Answers.{cause_of}
 use Rattle.modules.specs.Messages as texts
-use Rattle.sessions.specs.Rehearsals.{LacksText}
+use Rattle.shelltext.specs.Printing.{LacksText}
 use Rattle.collectionrequests.specs.Saves.{KeepReason, no_path, refused_for}
 use Rattle.collectionrequests.specs.declared.fault.RestoreFault.{RestoreFault}
 use Rattle.collectionrequests.specs.declared.fault.RestoreFault.TheVariants as restores

@@ -11,7 +11,7 @@ use Rattle.shelltext.specs.declared.shell.Shell.{Shell}
 use Rattle.modules.specs.Answers.{cause_of}
 use Rattle.modules.specs.Views.{done_view}
 use Rattle.modules.specs.declared.done.RequestResults.{RequestResults}
-use Rattle.sessions.specs.Rehearsals.{LacksText}
+use Rattle.shelltext.specs.Printing.{LacksText}
 use Rattle.collectionrequests.specs.Restores.{both}
 use Rattle.collectionrequests.specs.declared.fault.RestoreFault.{RestoreFault}
 use Rattle.collectionrequests.specs.declared.fault.RestoreFault.TheVariants.{Refused, Unprinted}

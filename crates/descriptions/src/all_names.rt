@@ -18,18 +18,9 @@ use envvars::fields::{deduplicated, owned};
 use filetree::Tree;
 use lookup::{Listing, available};
 use modules::Refusal;
+use requests::modulepath;
 use std::alloc::{AllocError, Global};
 use tclrules::Limits;
-
-/// MODULEPATH, or the empty text where it is unset.
-pub(crate) fn modulepath(env: &Env) -> &str
-    ensures { result.now ≡ steps.modulepath env.now }
-{
-    match env.get("MODULEPATH") {
-        None => "",
-        Some(text) => text,
-    }
-}
 
 /// The names of modules, each once.
 fn names_of(alloc: Global, listings: &[Listing]) -> Result<Vec<String>, AllocError>

@@ -17,7 +17,6 @@ ghost use Rattle.modules.specs.Answers.{GivesOrRefuses, StepAnswersOverTree, is_
 ghost use Rattle.descriptions.specs.Helps.{Describes, Helps, HelpsCalled, HelpsFound, joined, said_or};
 ghost use Rattle.descriptions.specs.Views.{RunsText, context_for, help_view, lacks_by, loaded_names};
 
-use crate::all_names::modulepath;
 use crate::calling::with_call;
 use crate::written::push_all;
 use envloaded::{loaded, names_of};
@@ -28,7 +27,7 @@ use lookup::EvaluatedDefaultFiles;
 use modulefile::Mode;
 use modulerun::{FileContext, FileRun, RunFault, run_file};
 use modules::Refusal;
-use requests::whatis_report;
+use requests::{modulepath, whatis_report};
 use search::{LocatedModule, locate};
 use shelltext::Shell;
 use std::alloc::{AllocError, Global};

@@ -14,10 +14,10 @@ ghost use Rattle.explanations.specs.FailedPaths.{IsDeviceOnlyIf};
 
 use crate::evaluated_files::{EvaluatedFile, evaluated_files};
 use crate::refused::RefusedRequest;
-use failedcommands::{FileExplanation, RefusalWords, RefusedFile, explain_text, wants_memory};
+use failedcommands::{FileExplanation, RefusalWords, RefusedFile, explain_text};
 use filetree::Tree;
 use givenup::unless_given_up;
-use modulerun::FileContext;
+use modulerun::{FileContext, wants_memory};
 use modules::{Refusal, RunFault, script_at};
 use std::alloc::Global;
 

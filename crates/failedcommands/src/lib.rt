@@ -4,11 +4,9 @@
 
 mod failed_command;
 mod location;
-mod memory;
 mod refusal_words;
 mod trials;
 
 pub use location::{FileExplanation, explain_text};
-pub use memory::wants_memory;
 pub use refusal_words::RefusalWords;
 pub use trials::RefusedFile;

@@ -9,9 +9,9 @@ ghost use Rattle.failedcommands.specs.Locations.{IsLocation, IsUnplaced, Says};
 ghost use Rattle.failedcommands.specs.Views.{context_in, words_view};
 
 use crate::failed_command::{FailedCommand, failed_command};
-use crate::memory::wants_memory;
 use crate::trials::{RefusedFile, is_refused_so, run_text};
 use commandplaces::{CommandPlace, Part, blanked, line_of};
+use modulerun::wants_memory;
 use std::alloc::AllocError;
 
 /// Where a modulefile failed.

@@ -5,11 +5,10 @@ ghost use Rattle.commandplaces.specs.Places.{place_view};
 ghost use Rattle.failedcommands.specs.Failing.{HasFailed, IsNotShown, IsRefusedSo};
 ghost use Rattle.failedcommands.specs.Views.{IsShown, RunsText, context_in, words_view};
 
-use crate::memory::wants_memory;
 use crate::refusal_words::RefusalWords;
 use commandplaces::{CommandPlace, blanked};
 use envvars::{Env, WorkingCopy};
-use modulerun::{FileContext, FileRun, RunFault, run_file};
+use modulerun::{FileContext, FileRun, RunFault, run_file, wants_memory};
 use std::alloc::{AllocError, Global};
 use tclrules::Limits;
 

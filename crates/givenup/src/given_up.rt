@@ -6,7 +6,7 @@ ghost use Rattle.modules.specs.Answers.{by_search, cause_of};
 ghost use Rattle.givenup.specs.Causes.{is_given_up};
 
 use envvars::EnvFault;
-use failedcommands::wants_memory;
+use modulerun::wants_memory;
 use modules::Refusal;
 use search::FindFault;
 

@@ -4,7 +4,8 @@ ghost use Rattle.handchanges.specs.Exactness.{OneStart, NoMoreMayChange};
 
 /// A change by hand that may be made keeps what stands: the environment is in order and is a start with the live
 /// modules over it, where that start is what the same change makes of the start before. So what hands have changed
-/// stays, and what live modules have changed comes back.
+/// stays, except for an element of a path that a live module has added too, and what live modules have changed comes
+/// back.
 pub fn one_change()
     ensures { OneChangeHolds }
 {

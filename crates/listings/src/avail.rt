@@ -15,7 +15,6 @@ ghost use Rattle.listings.specs.Views.{name_view, part_view};
 
 use crate::chosen::chosen;
 use crate::fault::ListingFault;
-use crate::finding::modulepath;
 use crate::options::{Options, avail_words};
 use crate::readable::readable_modules;
 use crate::terminal::{ReportPart, ReportedName, Terminal, push_shown_line, shown_report};
@@ -25,7 +24,7 @@ use envvars::Env;
 use filetree::Tree;
 use hidingtree::HidingTree;
 use lookup::EvaluatedDefaultFiles;
-use requests::avail_report as plain_report;
+use requests::{avail_report as plain_report, modulepath};
 use search::{DirectoryListing, ListingEntry, path_of};
 use std::alloc::{AllocError, Global};
 use tclrules::Limits;

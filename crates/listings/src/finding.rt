@@ -9,23 +9,14 @@ ghost use Rattle.listings.specs.Faults.{bad_arguments, cause_of, is_failure};
 ghost use Rattle.listings.specs.Finding as spec;
 
 use crate::fault::ListingFault;
-use envvars::{Env, Vars};
+use envvars::Env;
 use filetree::Tree;
 use hidingtree::{HidingTree, MOST_HIDDEN};
 use lookup::locate;
+use requests::modulepath;
 use search::FindFault;
 use std::alloc::Global;
 use tclrules::Limits;
-
-/// The variable with the directories that are searched.
-const MODULEPATH: &str = "MODULEPATH";
-
-/// The directories that are searched; without the variable there are none.
-pub fn modulepath(env: &Env) -> &str
-    ensures { result.now ≡ modulepath env.now }
-{
-    env.get(MODULEPATH).unwrap_or("")
-}
 
 /// Whether the search finds a module that the name means.
 fn is_found<T: Tree>(

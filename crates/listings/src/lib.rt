@@ -14,7 +14,7 @@ mod texts;
 
 pub use avail::avail_report;
 pub use fault::ListingFault;
-pub use finding::{is_available, is_available_where_readable, modulepath};
+pub use finding::{is_available, is_available_where_readable};
 pub use list::loaded_report;
 pub use readable::{ReadableModules, readable_modules};
 pub use terminal::Terminal;

@@ -24,7 +24,7 @@ use Rattle.modulecmd.specs.declared.command_exit.Exit.TheVariants.{Success, Repo
 use Rattle.modulecmd.specs.declared.command_fault.CommandFault.{CommandFault}
 use Rattle.modulecmd.specs.Command.{CommandReason, IsCausedBy, refused_for, of_input, standard, unknown_shell}
 use Rattle.modulecmd.specs.Output.{FinishesWriting, Refuses}
-use Rattle.sessions.specs.Rehearsals.{LacksText}
+use Rattle.shelltext.specs.Printing.{LacksText}
 
 -- the shell that a word names
 abbrev pub shell_or : Text → Option Shell → Result Shell CommandReason

@@ -5,6 +5,5 @@ pub mod Command
 pub mod Output
 pub mod Words
 pub mod Runs
-pub mod Sites
 pub mod Checking
 pub mod CheckWords

@@ -10,7 +10,7 @@ use Rattle.reversal.specs.Starts.{IsInOrder, IsStart, IsStartWith}
 use Rattle.reversal.specs.Runs.{live_after, AreReversibleTogether}
 use Rattle.reversal.specs.Laws.{Holds}
 use Rattle.requests.specs.Steps.{Done}
-use Rattle.sessions.specs.Rehearsals.{LacksText}
+use Rattle.shelltext.specs.Printing.{LacksText}
 use Rattle.requests.specs.Returning.{AreNew, AreReversibleBeside}
 use Rattle.filetree.specs.Agreement.{Files, Listings, InEachPair}
 use Rattle.shelltext.specs.Reading.{TextMakes, SaysDifference}

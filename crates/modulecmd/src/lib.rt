@@ -21,10 +21,7 @@ pub use envpaths::{End, add_path, drop_path};
 pub use envstacks::{pop_value, push_value};
 pub use envvars::{Change, Env, EnvFault, changes};
 pub use filetree::{DiskTree, MemoryTree, SeenPath, Tree, TreeFault};
-pub use laws::{
-    command_after_change, commands_and_hands_return, commands_return, one_command,
-    site_commands_and_hands_return, site_commands_return,
-};
+pub use laws::{command_after_change, commands_and_hands_return, commands_return, one_command};
 pub use lookup::{Found, Listing, available, locate};
 pub use modulefile::RecordFault;
 pub use modulename::version_order;

@@ -9,6 +9,7 @@ mod command_refusal;
 mod context;
 mod effects;
 mod journal;
+mod memory;
 mod question;
 mod questions;
 mod run;
@@ -16,6 +17,7 @@ mod run_fault;
 mod runner;
 
 pub use context::FileContext;
+pub use memory::wants_memory;
 pub use question::Question;
 pub use run::{FileRun, records_unless_asked, run_file};
 pub use run_fault::RunFault;

@@ -8,7 +8,7 @@ ghost use Rattle.filetree.specs.Relations.{Is};
 ghost use Rattle.modulefile.specs.Records.{conflict_names, prereq_groups};
 ghost use Rattle.modulefile.specs.RecordViews.{record_view};
 ghost use Rattle.requests.specs.Refusals.{unless};
-ghost use Rattle.requests.specs.Steps.{entries_of, modulepath};
+ghost use Rattle.requests.specs.Steps.{entries_of};
 ghost use Rattle.modules.specs.MoveViews.{module_view};
 ghost use Rattle.modules.specs.Answers.{GivesOrRefuses};
 ghost use Rattle.modules.specs.Messages.{MemoryNumberAmong};
@@ -31,16 +31,6 @@ pub(crate) fn entries_of<V: Vars>(alloc: Global, env: &V) -> Result<Vec<Loaded>,
     ensures out_of_memory { IfErr result (MemoryNumberAmong (31 ∷ [])) }
 {
     Ok(loaded(alloc, env)?)
-}
-
-/// MODULEPATH, or the empty text where it is unset.
-pub(crate) fn modulepath<V: Vars>(env: &V) -> &str
-    ensures { result.now ≡ modulepath (V.vars env.now) }
-{
-    match env.get("MODULEPATH") {
-        None => "",
-        Some(text) => text,
-    }
 }
 
 /// The full names of the loaded modules, in load order.

@@ -18,7 +18,7 @@ ghost use Rattle.modules.specs.Parts.{IsListedIn, TreeAnswer, entries_view, file
 ghost use Rattle.modules.specs.Parts.{LoadedLooksAt, UnloadsFound, ReportsFound, report_mode, report_text, any_needs};
 
 use crate::done::{Module, Move};
-use crate::entries::{join_loaded, modulepath, names_of};
+use crate::entries::{join_loaded, names_of};
 use crate::progress::RequestProgress;
 use crate::refusal::Refusal;
 use crate::scripts::script_at;
@@ -30,7 +30,7 @@ use lookup::EvaluatedDefaultFiles;
 use modulefile::Mode;
 use modulename::is_module_name;
 use modulerun::{FileContext, FileRun, run_file};
-use requests::{last_meant, show_report, whatis_report};
+use requests::{last_meant, modulepath, show_report, whatis_report};
 use search::{FindFault, LocatedModule, locate};
 use std::alloc::{AllocError, Global};
 

@@ -26,7 +26,7 @@ ghost use Rattle.modules.specs.Parts.{needs_another, any_needs, may_lose};
 ghost use Rattle.modules.specs.declared.step.NameAction.TheVariants.{ReportOn};
 
 use crate::done::{RememberedMoves, RequestResults};
-use crate::entries::{entries_of, modulepath, names_of};
+use crate::entries::{entries_of, names_of};
 use crate::one_name::{NameRequest, ReportKind, load_name, report_name, unload_name};
 use crate::progress::RequestProgress;
 use crate::refusal::Refusal;
@@ -35,7 +35,7 @@ use envloaded::Loaded;
 use envvars::Vars;
 use filetree::Tree;
 use lookup::EvaluatedDefaultFiles;
-use requests::{Action, Request, avail_report, list_report};
+use requests::{Action, Request, avail_report, list_report, modulepath};
 use search::selected;
 use std::alloc::{AllocError, Global};
 use tclrules::Limits;

@@ -5,6 +5,7 @@
 mod action;
 mod avail;
 mod conditions;
+mod directories;
 mod laws;
 mod lines;
 mod list;
@@ -15,6 +16,7 @@ mod whatis;
 pub use action::{Action, Request};
 pub use avail::avail_report;
 pub use conditions::{first_lost, last_meant, missing_group, own_conflict, recorded_conflict};
+pub use directories::modulepath;
 pub use laws::{
     command_returns, judged_session_returns, outcomes, plain_session_returns, reports,
     session_returns, sessions, some_outcome, verdicts,

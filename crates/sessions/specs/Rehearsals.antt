@@ -2,10 +2,9 @@
 use Rattle.std.specs.Prelude.{ℕ, ◌≡◌, ◌≤◌, ◌+◌, ◌==◌, List, [], ◌∷◌, Option, Some, None, take, if◌then◌else◌, Ok}
 use Rattle.envvars.specs.Texts.{Text}
 use Rattle.envvars.specs.Environment.{Environment}
-use Rattle.envvars.specs.Changes.{NewValue, AreChanges}
 use Rattle.shelltext.specs.declared.shell.Shell.{Shell}
 use Rattle.shelltext.specs.Reading.{SaysDifference}
-use Rattle.shelltext.specs.Printing.{IsUnsayable}
+use Rattle.shelltext.specs.Printing.{LacksText}
 use Rattle.shelltext.specs.Sequences.{ShellRun, TextsMake}
 use Rattle.requests.specs.Requests.{Request}
 use Rattle.requests.specs.Steps.{RequestContext, Done, RequestStep}
@@ -15,11 +14,6 @@ use Rattle.requests.specs.Returning.{AreNew, AreReversibleBeside}
 use Rattle.reversal.specs.VariableUses.{VariableUse}
 use Rattle.reversal.specs.Starts.{IsStart}
 use Rattle.reversal.specs.Runs.{live_after}
-
--- The changes from one environment to the other have no text in the shell: the first variable that no line can set or
--- unset is this one.
-abbrev pub LacksText : Shell → Environment → Environment → Text → Type 0
-LacksText shell old new name = (cs : List NewValue) × AreChanges old new cs × IsUnsayable shell cs name
 
 -- the step has changes for which the shell has no text
 abbrev pub StepLacksText : RequestContext → Environment → Request → Type 0

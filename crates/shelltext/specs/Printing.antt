@@ -8,7 +8,8 @@ use Rattle.message.specs.Refusals.{NumberedText, about}
 use Rattle.message.specs.declared.refusals.RefusalKind.TheVariants as kinds
 use Rattle.envvars.specs.Texts.{Text}
 use Rattle.envvars.specs.Names.{is_variable_name}
-use Rattle.envvars.specs.Changes.{NewValue}
+use Rattle.envvars.specs.Changes.{NewValue, AreChanges}
+use Rattle.envvars.specs.Environment.{Environment}
 use Rattle.shelltext.specs.declared.family.Family.{Family}
 use Rattle.shelltext.specs.declared.family.Family.TheVariants.{Sh, Csh, Fish}
 use Rattle.shelltext.specs.Shells.{family_of}
@@ -52,6 +53,11 @@ printed_line family s = line_of_value family s.0 s.1
 pub record IsUnsayable (shell : Shell) (ss : List NewValue) (name : Text) : Type 0 where
   pub first : option_map (λ s. s.0) (find (λ s. not (is_sayable (family_of shell) s)) ss) ≡ Some name
   pub no_text : (text : Text) → TextSays shell text ss → ⊥
+
+-- The changes from one environment to the other have no text in the shell: the first variable that no line can set or
+-- unset is this one.
+abbrev pub LacksText : Shell → Environment → Environment → Text → Type 0
+LacksText shell old new name = (cs : List NewValue) × AreChanges old new cs × IsUnsayable shell cs name
 
 -- the error is one of these changes
 abbrev pub IsPrintFault : Shell → List NewValue → PrintFault → Type 0

@@ -16,12 +16,13 @@ use crate::fault::WalkFault;
 use crate::files::{SiteSettings, check_loaded};
 use crate::progress::WalkProgress;
 use crate::unlike::UnlikeUses;
-use envvars::{Env, Vars};
+use envvars::Env;
 use filetree::Tree;
 use indexmap::IndexSet;
 use modulefile::Record;
 use modulerun::Question;
 use modules::Refusal;
+use requests::modulepath;
 use sitelaws::directory_set::{Directories, directory_at, in_order, push_directories};
 use std::alloc::Global;
 use tclrules::Limits;
@@ -64,16 +65,6 @@ pub struct SiteWalk {
     pub directories: Vec<String>,
     /// The modules in each directory in turn, in the order of `avail`.
     pub evaluations: Vec<Evaluation>,
-}
-
-/// MODULEPATH, or the empty text where it is unset.
-pub(crate) fn modulepath(env: &Env) -> &str
-    ensures { result.now ≡ modulepath_of env.now }
-{
-    match env.get("MODULEPATH") {
-        None => "",
-        Some(text) => text,
-    }
 }
 
 /// Evaluates each module below a directory, and adds to the directories those that these add.

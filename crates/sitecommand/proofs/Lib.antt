@@ -4,3 +4,4 @@ mod TryingLemmas
 pub mod AuditLemmas
 mod PathLemmas
 mod ReadableLemmas
+pub mod SiteCommandLemmas

@@ -6,3 +6,4 @@ pub mod Audits
 pub mod Looked
 pub mod Tried
 pub mod Steps
+pub mod SiteCommands

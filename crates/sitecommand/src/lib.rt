@@ -6,6 +6,7 @@ mod arguments;
 mod audit_exit;
 mod audit_fault;
 mod directories;
+mod laws;
 mod layout;
 mod readable;
 mod running;
@@ -14,5 +15,6 @@ mod unreadable;
 
 pub use audit_exit::AuditExit;
 pub use audit_fault::{AuditFault, write_fault};
+pub use laws::{site_commands_and_hands_return, site_commands_return};
 pub use layout::Layout;
 pub use running::run_audit;

@@ -1,6 +1,6 @@
 -- What the cache of the program stands for, and the invariant of its type.
 use Rattle.tclcache.specs.Kept.{Kept, IsValidKept}
-use Rattle.tclcache.specs.declared.kept.KeptTrees.TheInside.{Inside}
+use Rattle.tclcache.specs.declared.kept.Kept.TheInside.{Inside}
 
 abbrev pub cache_view : Inside → Kept
 cache_view k = record { scripts = k.scripts; expressions = k.expressions }

@@ -19,12 +19,12 @@ use tclscript::OwnedScript;
 /// Texts that were evaluated as scripts, and texts that were evaluated as expressions, each with its tree: of each kind
 /// at most 1,024 texts, of at most 8,388,608 bytes together. Nothing is ever dropped.
 #[derive(Drop)]
-pub struct KeptTrees {
+pub struct Kept {
     scripts: Texts<OwnedScript>,
     expressions: Texts<OwnedExpr>,
 }
 
-impl Model for KeptTrees {
+impl Model for Kept {
     ghost use Rattle.tclcache.specs.Kept as trees;
     ghost use Rattle.std.specs.Coded.{codes};
     ghost use Rattle.tclscript.specs.contracts.owned.OwnedScript as owned_script;
@@ -41,14 +41,14 @@ impl Model for KeptTrees {
     ghost invariant = { IsSound };
 }
 
-impl KeptTrees {
+impl Kept {
     /// The empty cache.
-    pub fn new(alloc: Global) -> KeptTrees
+    pub fn new(alloc: Global) -> Kept
         ensures scripts { result.scripts ≡ [] }
         ensures expressions { result.expressions ≡ [] }
         ensures valid { IsValidKept result }
     {
-        KeptTrees {
+        Kept {
             scripts: Texts::new(alloc),
             expressions: Texts::new(alloc),
         }

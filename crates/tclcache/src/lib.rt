@@ -1,4 +1,4 @@
-//! `KeptTrees`, the parsed texts: scripts and expressions with their trees; within limits none is parsed twice.
+//! `Kept`, the parsed texts: scripts and expressions with their trees; within limits none is parsed twice.
 //! Takes memory and touches nothing else.
 #![tactic(auto)]
 
@@ -6,4 +6,4 @@ mod kept;
 mod parsed;
 mod texts;
 
-pub use kept::KeptTrees;
+pub use kept::Kept;

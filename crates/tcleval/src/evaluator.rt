@@ -15,7 +15,7 @@ ghost use Rattle.tclsubstitution.specs.declared.stop.Stop.TheVariants.{Fault};
 ghost use Rattle.tclrules.specs.declared.outcome.EvalFault.TheVariants.{TooManyCommands};
 
 use std::alloc::Global;
-use tclcache::KeptTrees;
+use tclcache::Kept;
 use tclexpr::OwnedExpr;
 use tcloperators::ComputedValue;
 use tclrules::{EvalFault, Limits};
@@ -28,7 +28,7 @@ pub struct Evaluator {
     /// The allocator.
     pub alloc: Global,
     /// The trees of texts that were parsed before.
-    pub cache: KeptTrees,
+    pub cache: Kept,
     /// The variables and procedures, and the byte offset of the file's current command.
     pub variables: Variables,
     /// How many commands and turns of loops were counted.

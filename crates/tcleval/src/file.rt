@@ -19,7 +19,7 @@ use crate::evaluator::Evaluator;
 use crate::sourced::SourcedTree;
 use std::alloc::Global;
 use std::mem;
-use tclcache::KeptTrees;
+use tclcache::Kept;
 use tclcommands::{ResultUse, initial_variables};
 use tclrules::{Ending, EvalFault, Host, Limits};
 use tclscript::{ByteRange, Script};
@@ -170,7 +170,7 @@ fn file_answer(
 #[tactic(none)]
 pub fn evaluate_with<H: Host>(
     alloc: Global,
-    cache: &mut KeptTrees,
+    cache: &mut Kept,
     script: &str,
     globals: Vec<(String, String)>,
     host: &mut H,
@@ -184,7 +184,7 @@ pub fn evaluate_with<H: Host>(
     let variables = initial_variables(alloc, host.reserved(), globals)?;
     let mut evaluator = Evaluator {
         alloc,
-        cache: mem::replace(cache, KeptTrees::new(alloc)),
+        cache: mem::replace(cache, Kept::new(alloc)),
         variables,
         used: 0,
     };
@@ -224,6 +224,6 @@ pub fn evaluate<H: Host>(
         result (H.trace host.new) }
     ensures same { H.oracle host.new ≡ H.oracle host.old }
 {
-    let mut cache = KeptTrees::new(alloc);
+    let mut cache = Kept::new(alloc);
     evaluate_with(alloc, &mut cache, script, globals, host, limits)
 }

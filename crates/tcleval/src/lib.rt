@@ -14,5 +14,5 @@ mod turns;
 mod words;
 
 pub use file::{evaluate, evaluate_with};
-pub use tclcache::KeptTrees;
+pub use tclcache::Kept;
 pub use tclrules::{Ending, EvalFault, Host, HostAnswer, Limits};

@@ -8,7 +8,7 @@ ghost use Rattle.tclcache.specs.Kept.{BeginWith};
 ghost use Rattle.tcleval.specs.LoopBodies.{HasItsTree, IsSameBody};
 
 use std::rc::Rc;
-use tclcache::KeptTrees;
+use tclcache::Kept;
 use tclchars::TextFault;
 use tclscript::OwnedScript;
 
@@ -32,7 +32,7 @@ impl<'s> LoopBody<'s> {
     /// The tree of the script, which is parsed or taken from the cache where it is asked for the first time.
     ///
     /// Errors: the fault of the text, or that memory ran out.
-    pub(crate) fn tree(&mut self, cache: &mut KeptTrees) -> Result<Rc<OwnedScript>, TextFault>
+    pub(crate) fn tree(&mut self, cache: &mut Kept) -> Result<Rc<OwnedScript>, TextFault>
         requires { HasItsTree self.old }
         ensures tree { Reads (λ tree. owned_view tree.value) result (script_of self.old.text.now) }
         ensures kept { IsSameBody self.old self.new }

@@ -17,7 +17,7 @@ ghost use Rattle.tclcommands.specs.Completions.{IsExpressionFault, value_fault};
 
 use std::alloc::{AllocError, Global};
 use std::rc::Rc;
-use tclcache::KeptTrees;
+use tclcache::Kept;
 use tclchars::{Class, Numeral, TextFault, read_number, split_run};
 use tclexpr::OwnedExpr;
 use tcloperators::{ValueFault, unsupported};
@@ -130,7 +130,7 @@ fn expression_fault(alloc: Global, text: &str, fault: TextFault) -> ValueFault
 /// fault of the text; `OutOfMemory`.
 pub(crate) fn expression_tree(
     alloc: Global,
-    cache: &mut KeptTrees,
+    cache: &mut Kept,
     text: &str,
 ) -> Result<Rc<OwnedExpr>, ValueFault>
     ensures tree { Gives reason_of (λ o. expressions.owned_view o.value) result (parsed text.now (expr_of text.now)) }

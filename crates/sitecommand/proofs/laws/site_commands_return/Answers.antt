@@ -1,5 +1,5 @@
-use Rattle.modulecmd.proofs.SiteLemmas.{site_shells_return}
-use Rattle.modulecmd.proofs.laws.site_commands_return.Goals as goal
+use Rattle.sitecommand.proofs.SiteCommandLemmas.{site_shells_return}
+use Rattle.sitecommand.proofs.laws.site_commands_return.Goals as goal
 
 pub returns : goal.returns
 returns c =

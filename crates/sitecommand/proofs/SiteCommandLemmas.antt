@@ -25,8 +25,8 @@ use Rattle.handchanges.specs.Events.{Event, act, by_hand, moves_of, EventsReachW
 use Rattle.handchanges.specs.Laws.{OneChangeHolds}
 use Rattle.handchanges.proofs.EventLemmas.{live_together, new_parts, new_kept}
 use Rattle.modulecmd.specs.Runs.{PrintedCommand, moves_in, command_moves, CommandMakes}
-use Rattle.modulecmd.specs.Sites.{judged_site, CommandLoads, IsUnread, HandsLeaveReads}
-use Rattle.modulecmd.specs.Sites.{SiteShellsReturn, SiteShellsAndHandsReturn, SiteCommandsAreEvents, ReadlessAreLeft}
+use Rattle.sitecommand.specs.SiteCommands.{judged_site, CommandLoads, IsUnread, HandsLeaveReads}
+use Rattle.sitecommand.specs.SiteCommands.{SiteShellsReturn, SiteShellsAndHandsReturn, SiteCommandsAreEvents, ReadlessAreLeft}
 use Rattle.modulecmd.proofs.RunLemmas.{AllAllowed, alone, same_moves}
 
 -- ---- one command

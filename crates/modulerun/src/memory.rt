@@ -2,7 +2,7 @@
 ghost use Rattle.std.specs.Prelude.{◌≡◌, None, is_none};
 ghost use Rattle.modulerun.specs.Running.{eval_reason, file_reason_of};
 
-use modulerun::RunFault;
+use crate::run_fault::RunFault;
 use tclrules::EvalFault;
 
 /// Whether the evaluation of a text was given up: memory ran out.

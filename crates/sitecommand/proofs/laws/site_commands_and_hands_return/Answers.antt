@@ -1,5 +1,5 @@
-use Rattle.modulecmd.proofs.SiteLemmas.{site_shells_and_hands_return, site_commands_are_events, readless_are_left}
-use Rattle.modulecmd.proofs.laws.site_commands_and_hands_return.Goals as goal
+use Rattle.sitecommand.proofs.SiteCommandLemmas.{site_shells_and_hands_return, site_commands_are_events, readless_are_left}
+use Rattle.sitecommand.proofs.laws.site_commands_and_hands_return.Goals as goal
 
 pub returns-clause-returned : goal.returns-clause-returned
 returns-clause-returned c =
