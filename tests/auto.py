@@ -62,7 +62,7 @@ LOADS = [
     ("finder", "hidden", "inner hidden", "hidden/1 with inner/1"),
 ]
 
-# What is loaded, what is loaded then, and why that is refused.
+# What is loaded, what is loaded then, and why that is refused. {} is the folder of the modulefiles.
 REFUSED = [
     ("", "nope", "Unable to locate a modulefile for 'nope'"),
     ("", "hdf5 nope", "Unable to locate a modulefile for 'nope'"),
@@ -74,7 +74,7 @@ REFUSED = [
     ("", "odd", "Missing one of 'gcc/default'"),
     ("", "apart", "Conflict with 'gcc/13.2.0'"),
     ("", "gcc/12.3.0 apart", "Conflict with 'gcc/12.3.0'"),
-    ("", "broken", "no such licence (line 2)"),
+    ("", "broken", "no such licence (line 2)\n  in {}/spoilt/1, line 2"),
     ("", "bad//name", "Bad module name 'bad//name'"),
 ]
 
@@ -158,7 +158,7 @@ def test_unloads(place, row):
 @pytest.mark.parametrize("loaded, asked, said", REFUSED)
 def test_refusals(place, loaded, asked, said):
     found = place.run(place.module, ["load", "--auto", *asked.split()], place.after(loaded))
-    same(found, (1, "", f"ERROR: {said}\n"), f"load --auto {asked}")
+    same(found, (1, "", f"ERROR: {said}\n".replace("{}", place.modules)), f"load --auto {asked}")
 
 
 @pytest.mark.parametrize("shell", ["bash", "zsh", "csh", "tcsh", "fish"])
