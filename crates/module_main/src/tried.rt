@@ -11,8 +11,11 @@ use shelltext::Shell;
 use std::alloc::Global;
 use subcommands::Subcommand;
 
-/// How many tries there are at most.
-const MOST_TRIES: usize = 4_000;
+/// How many names are put in at most, as in an automated load.
+const MOST_ADDED: usize = 1_000;
+
+/// More tries than there are: one for each name, and one more for each that is put in.
+const MOST_TRIES: usize = 1_000_000;
 
 /// Names on their way to be loaded.
 #[derive(Drop)]
@@ -44,9 +47,9 @@ fn load_of(alloc: Global, name: &str) -> Result<Action, Refusal> {
     Ok(Action::Load(vec![in alloc; String::from_str(alloc, name)?]?))
 }
 
-/// Whether the name is none of those that were put in, among which it then is.
+/// Whether the name is put in, and then among those that were: it isn't, where it was, or as many were as can be.
 fn is_new(added: &mut Vec<String>, name: &String) -> Result<bool, Refusal> {
-    if added.iter().any(|known| known.as_str() == name.as_str()) {
+    if added.len() >= MOST_ADDED || added.iter().any(|known| known.as_str() == name.as_str()) {
         return Ok(false);
     }
     added.push(name.clone()?)?;
