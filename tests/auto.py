@@ -275,9 +275,10 @@ def test_a_full_device(place):
 
 
 def test_a_device_that_fails(place):
-    """What can't be read refuses the load, also where it is an alternative that is looked for."""
+    """What can't be read refuses the load, also where it is an alternative that is looked for, and its path is said."""
     for name in ("hdf5/1.14", "openmpi/4.1.6", "gcc/13.2.0"):
         os.chmod(os.path.join(place.modules, name), 0)
         found = place.run(place.module, ["load", "--auto", "hdf5"], place.start, **BY_NOBODY)
         os.chmod(os.path.join(place.modules, name), 0o644)
-        same(found, (1, "", "ERROR: Reading failed\n"), f"{name} can't be read")
+        said = f"ERROR: Reading failed\n  at {place.modules}/{name}\n"
+        same(found, (1, "", said), f"{name} can't be read")

@@ -71,27 +71,35 @@ impl Names {
         })
     }
 
-    /// Puts the first of the alternatives that is found before the name that needs one, and says whether it did: the
-    /// name is refused where none is found, or one that was put in.
-    fn put_in<T: Tree>(
+    /// Puts a name before the one that needs it, and says whether it did.
+    fn put_in(&mut self, name: String, needed: String) -> Result<bool, Refusal> {
+        if !is_new(&mut self.added, &needed)? {
+            self.front.push(name)?;
+            return Ok(false);
+        }
+        self.waiting.push(name)?;
+        self.waiting.push(needed)?;
+        Ok(true)
+    }
+
+    /// Puts the first of the alternatives that is found before the name that needs one, and says whether there is another
+    /// try. Where the search for one fails, so does its load.
+    fn complete<T: Tree>(
         &mut self,
         alloc: Global,
         name: String,
         missing: &MissingNames,
         tree: &mut T,
     ) -> Result<bool, Refusal> {
-        let alternatives = missing.names.as_slice();
-        if let Ok(Some(needed)) = first_found(
-            alloc,
-            alternatives,
-            &self.env,
-            tree,
-            STANDARD_LIMITS,
-        ) {
-            if is_new(&mut self.added, &needed)? {
-                self.waiting.push(name)?;
-                self.waiting.push(needed)?;
-                return Ok(true);
+        for alternative in &missing.names {
+            let one = vec![in alloc; alternative.clone()?]?;
+            match first_found(alloc, one.as_slice(), &self.env, tree, STANDARD_LIMITS) {
+                Ok(None) => {}
+                Ok(Some(needed)) => return self.put_in(name, needed),
+                Err(_) => {
+                    self.front.push(alternative.clone()?)?;
+                    return Ok(false);
+                }
             }
         }
         self.front.push(name)?;
@@ -115,7 +123,7 @@ impl Names {
                 self.front.push(name)?;
                 Ok(true)
             }
-            Err(Refusal::PrereqMissing(missing)) => self.put_in(alloc, name, &missing, tree),
+            Err(Refusal::PrereqMissing(missing)) => self.complete(alloc, name, &missing, tree),
             Err(_) => {
                 self.front.push(name)?;
                 Ok(false)
