@@ -1,6 +1,6 @@
 -- A text quoted character after character.
-use Rattle.std.proofs.Common.{◌≡◌, ℕ, List, [], ◌++◌, flat_map, encode_utf8, length, sym, ap, ◌∙◌, append_assoc, append-nil}
-use Rattle.std.specs.Prelude.{IsUtf8, chars}
+use Rattle.std.proofs.Common.{◌≡◌, ℕ, [], ◌++◌, flat_map, encode_utf8, length, sym, ap, ◌∙◌, append_assoc, append-nil}
+use Rattle.std.specs.Prelude.{IsUtf8}
 use Rattle.std.proofs.lemmas.List.{nil_from_length}
 use Rattle.std.proofs.lemmas.Str.{chars-nil, chars_past_char}
 use Rattle.envvars.specs.Texts.{Text}

@@ -1,7 +1,6 @@
 use Rattle.std.proofs.Common.{◌≡◌, ◌++◌, encode_utf8, string_bytes}
 use Rattle.std.specs.Str.Iter.{chars_rest}
 use Rattle.std.proofs.lemmas.Str.{IsUtf8-past_char}
-use Rattle.descriptions.specs.Calls.{quoted_char}
 use Rattle.descriptions.proofs.CallLemmas.{quoted_turn, quoted_end}
 use Rattle.descriptions.proofs.calling.quoted.Goals as goal
 

@@ -1,6 +1,6 @@
-use Rattle.std.proofs.Common.{◌≡◌, false, List, Result, inl, sym, subst, ap, ◌∙◌}
+use Rattle.std.proofs.Common.{◌≡◌, false, List, Result, inl, sym, subst, ◌∙◌}
 use Rattle.std.specs.Prelude.{IfErr, map}
-use Rattle.envvars.specs.Changes.{NewValue, new_value_of}
+use Rattle.envvars.specs.Changes.{new_value_of}
 use Rattle.envvars.specs.declared.change.Change.{Change}
 use Rattle.givenup.specs.Causes.{is_given_up}
 use Rattle.modules.specs.Answers.{cause_of}
