@@ -62,7 +62,7 @@ LOADS = [
     ("finder", "hidden", "inner hidden", "hidden/1 with inner/1"),
 ]
 
-# What is loaded, what is loaded then, and why that is refused.
+# What is loaded, what is loaded then, and why that is refused. {} is the folder of the modulefiles.
 REFUSED = [
     ("", "nope", "Unable to locate a modulefile for 'nope'"),
     ("", "hdf5 nope", "Unable to locate a modulefile for 'nope'"),
@@ -74,7 +74,7 @@ REFUSED = [
     ("", "odd", "Missing one of 'gcc/default'"),
     ("", "apart", "Conflict with 'gcc/13.2.0'"),
     ("", "gcc/12.3.0 apart", "Conflict with 'gcc/12.3.0'"),
-    ("", "broken", "no such licence (line 2)"),
+    ("", "broken", "no such licence (line 2)\n  in {}/spoilt/1, line 2"),
     ("", "bad//name", "Bad module name 'bad//name'"),
 ]
 
@@ -158,7 +158,7 @@ def test_unloads(place, row):
 @pytest.mark.parametrize("loaded, asked, said", REFUSED)
 def test_refusals(place, loaded, asked, said):
     found = place.run(place.module, ["load", "--auto", *asked.split()], place.after(loaded))
-    same(found, (1, "", f"ERROR: {said}\n"), f"load --auto {asked}")
+    same(found, (1, "", f"ERROR: {said}\n".replace("{}", place.modules)), f"load --auto {asked}")
 
 
 @pytest.mark.parametrize("shell", ["bash", "zsh", "csh", "tcsh", "fish"])
@@ -275,9 +275,10 @@ def test_a_full_device(place):
 
 
 def test_a_device_that_fails(place):
-    """What can't be read refuses the load, also where it is an alternative that is looked for."""
+    """What can't be read refuses the load, also where it is an alternative that is looked for, and its path is said."""
     for name in ("hdf5/1.14", "openmpi/4.1.6", "gcc/13.2.0"):
         os.chmod(os.path.join(place.modules, name), 0)
         found = place.run(place.module, ["load", "--auto", "hdf5"], place.start, **BY_NOBODY)
         os.chmod(os.path.join(place.modules, name), 0o644)
-        same(found, (1, "", "ERROR: Reading failed\n"), f"{name} can't be read")
+        said = f"ERROR: Reading failed\n  at {place.modules}/{name}\n"
+        same(found, (1, "", said), f"{name} can't be read")

@@ -68,10 +68,10 @@ def explained(program, words, env):
     return done.stderr
 
 
-def told(program, words, env):
-    """What is said to a user at a terminal."""
+def at_terminal(command, env, status):
+    """What a command says on standard error, which is a terminal. It has no standard output."""
     here, there = pty.openpty()
-    with subprocess.Popen([program, "sh", "explain", *words], env=env, stdout=subprocess.PIPE, stderr=there) as run:
+    with subprocess.Popen(command, env=env, stdout=subprocess.PIPE, stderr=there) as run:
         os.close(there)
         said = b""
         while True:
@@ -85,8 +85,20 @@ def told(program, words, env):
             said += read
         same(run.stdout.read(), b"", "standard output")
     os.close(here)
-    same(run.returncode, 0, "the status")
+    same(run.returncode, status, "the status")
     return said.decode().replace("\r\n", "\n")
+
+
+def told(program, words, env, shell="sh"):
+    """What is said to a user at a terminal."""
+    return at_terminal([program, shell, "explain", *words], env, 0)
+
+
+def behind_the_reason(said):
+    """What stands behind the line with the reason."""
+    reason, _, more = said.partition("\n")
+    same(reason.startswith("ERROR: "), True, f"{said!r} begins with the reason")
+    return more
 
 
 def loaded(modules, *names):
@@ -185,6 +197,78 @@ def test_what_to_do(program, compilers, command, names, said):
         env |= {"__MODULES_LMPREREQ": "openmpi/4&intel|gcc"}
     same(told(program, command.split(), env), said, "what a user is told")
     same(explained(program, command.split(), env), "", "what a log has")
+
+
+# The command in a shell, the loaded module, and what a user is told: no change that a shell has no text for is advised,
+# as of a value with a newline in csh.
+SAYABLE = [
+    ("sh", "load lines", "plain/1", "Try: module switch plain/1 lines\n"),
+    ("csh", "load lines", "plain/1", "Try: module unload plain/1\n"),
+    ("tcsh", "load lines", "plain/1", "Try: module unload plain/1\n"),
+    ("tcsh", "load lines other", "plain/1", "Try: module switch plain/1 other\n"),
+    ("fish", "load lines", "away/1", "Try: module switch away/1 lines\n"),
+    ("tcsh", "load lines", "away/1", ""),
+]
+
+
+@pytest.mark.parametrize("shell, command, name, said", SAYABLE)
+def test_what_is_advised_has_a_text_in_the_shell(program, site, shell, command, name, said):
+    site("plain/1", "setenv A b\n")
+    site("away/1", 'unsetenv Y "p\\nq"\n')
+    site("lines/1", 'conflict plain away\nsetenv X "p\\nq"\n')
+    site("other/1", "conflict plain\n")
+    same(told(program, command.split(), loaded(site.modules, name), shell), said, "what a user is told")
+
+
+# A command that is automated, the names of loaded modules, what a user is told behind the reason, and what a log has. {}
+# is the folder of the modulefiles.
+AUTOMATED = [
+    ("load bad", "", "  bad/1 ({}/bad/1, line 3): bogus\n", "  in {}/bad/1, line 3\n"),
+    ("load needs", "", "  bad/1 ({}/bad/1, line 3): bogus\n", "  in {}/bad/1, line 3\n"),
+    ("load good deep good", "", "  bad/1 ({}/bad/1, line 3): bogus\n", "  in {}/bad/1, line 3\n"),
+    ("load late", "", "  late/1 ({}/late/1, line 4): bogus\n", "  in {}/late/1, line 4\n"),
+    ("load GCC", "", "Did you mean gcc/9.3.0, gcc/13.2.0?\n", ""),
+    ("load lost", "", "Not found either: nowhere neither\n", ""),
+    ("load ring", "", "", ""),
+    ("load newer", "gcc/9.3.0", "Try: module switch gcc/9.3.0 gcc/13.2.0\n", ""),
+    ("unload stays", "stays/1", "  stays/1 ({}/stays/1, line 3): bogus\n", "  in {}/stays/1, line 3\n"),
+    ("unload good", "good/1 stays/1", "  stays/1 ({}/stays/1, line 3): bogus\n", "  in {}/stays/1, line 3\n"),
+    ("unload", "", "usage: module unload NAME...\n", ""),
+]
+
+
+@pytest.fixture
+def automated(site):
+    site("bad/1", "setenv A b\nbogus\n")
+    site("needs/1", "prereq bad\n")
+    site("good/1", "setenv G on\n")
+    site("deep/1", "prereq good\nprereq needs\n")
+    site("late/1", "prereq good\nif {[is-loaded good]} {\n  bogus\n}\n")
+    for version in ("9.3.0", "13.2.0"):
+        site(f"gcc/{version}", "conflict gcc\n")
+    site("newer/1", "prereq gcc/13.2.0\n")
+    site("lost/1", "prereq nowhere neither\n")
+    site("ring/1", "prereq ring/1\n")
+    site("stays/1", "prereq good\nif {[module-info mode unload]} {bogus}\n")
+    return site
+
+
+@pytest.mark.parametrize("command, names, told, logged", AUTOMATED)
+def test_an_automated_command(program, automated, command, names, told, logged):
+    """It is explained by the program itself, behind its reason."""
+    env = loaded(automated.modules, *names.split()) if names else {"MODULEPATH": automated.modules}
+    if "stays" in names and "good" in names:
+        env |= {"__MODULES_LMPREREQ": "stays/1&good"}
+    verb, *asked = command.split()
+    for words, more in (([verb, "--auto", *asked], {}), ([verb, *asked], {"MODULES_AUTO_HANDLING": "1"})):
+        call = [program, "sh", *words]
+        said = at_terminal(call, {**env, **more}, 1)
+        same(behind_the_reason(said), told.replace("{}", automated.modules), "what a user is told")
+        done = subprocess.run(call, env={**env, **more}, capture_output=True, text=True, timeout=SECONDS, check=False)
+        same((done.returncode, done.stdout), (1, ""), "the status and standard output")
+        same(behind_the_reason(done.stderr), logged.replace("{}", automated.modules), "what a log has")
+        unwanted = at_terminal(call, {**env, **more, "MODULECMD_EXPLAIN": "no"}, 1)
+        same(behind_the_reason(unwanted), "", "what isn't wanted")
 
 
 def test_what_stands_in_the_place_of_what_is_left_out(program, site):

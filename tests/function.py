@@ -132,11 +132,26 @@ KEYWORDS = [
 ]
 
 # A modulefile behind its first line, and what `help` says of it.
+HELPING = "module-whatis W\nproc ModulesHelp {} {puts stderr HELP}\n"
 HELPS = [
     ("proc ModulesHelp {} {\n  puts stderr {what it is}\n  puts -nonewline stderr more\n}\n", "what it is\nmore"),
     ("set v 1.2\nproc ModulesHelp {} {\n  global v\n  puts stderr \"at $v\"\n}\nmodule-whatis it", "at 1.2\n"),
     ("puts stderr first\nproc ModulesHelp {} {\n  puts stderr [module-info mode whatis]\n}\n", "first\n1\n"),
-    ("proc ModulesHelp {} {}\n", ""),
+    # As Environment Modules 5.2 says it: also where the file returns (there the mode of `help` is another one), or ends
+    # in a comment that a backslash continues.
+    (f"{HELPING}if {{[module-info mode whatis]}} {{return}}\nsetenv A b\n", "HELP\n"),
+    (f"{HELPING}# end \\", "HELP\n"),
+    (f"{HELPING}# end \\\\", "HELP\n"),
+    (f"{HELPING}# it is \\\n  not a command; bogus", "HELP\n"),
+    (f"{HELPING}append-path A b \\\n  c", "HELP\n"),
+    (f"{HELPING}puts stderr \"\\$a \\[b\\] \\\\ \\\" {{}}\"; puts stderr {{$a [b] \\ \"}}\n", '$a [b] \\ " {}\n$a [b] \\ "\nHELP\n'),
+    # There a file whose top level comes to `return` is refused; here it is loaded, and so it has its help.
+    (f"return\n{HELPING}", "{manual}"),
+    (f"{HELPING}return\nbogus\n", "HELP\n"),
+    ("proc ModulesHelp {} {return}\nmodule-whatis W\n", "help/1: W\n{manual}"),
+    ("proc ModulesHelp {} {}\n", "{manual}"),
+    ("module-whatis W\nreturn\n", "help/1: W\n{manual}"),
+    ("module-whatis W\n# end \\", "help/1: W\n{manual}"),
     ("module-whatis {no procedure}\nputs stderr said\n", "said\nhelp/1: no procedure\n{manual}"),
     ("setenv A 1\n", "{manual}"),
 ]
@@ -687,7 +702,7 @@ def test_the_working_directory(program, place):
 def test_bytes_that_are_no_text(program):
     done = run(program, [b"sh", b"use", b"/\xff"])
     same(outcome(done), (1, "", "ERROR: Bad arguments\n"), "a word")
-    for word in ("use", "unuse", "save"):
+    for word in ("use", "us", "unuse", "unus", "save"):
         done = run(program, ["sh", word, "/x"], {"MODULEPATH": b"/\xff"})
         same(outcome(done), (1, "", "ERROR: Bad value of 'MODULEPATH'\n"), f"MODULEPATH, by {word}")
     env = {"MODULEPATH": b"/\xff", **LOADED}

@@ -98,6 +98,16 @@ def test_a_collection_is_saved_listed_shown_and_removed(here):
     same(os.listdir(here.top), [], "the files")
 
 
+def test_a_relative_directory_is_kept_by_its_place(here):
+    """It is below the working directory, by the name that the shell has for that; another place in PWD isn't taken."""
+    link = os.path.join(os.path.dirname(here.home), "link")
+    os.symlink(here.home, link)
+    start = {"MODULEPATH": "m", "LOADEDMODULES": None, "_LMFILES_": None}
+    for named, place in ((link, link), ("/", here.home), ("link", here.home), (f"{link}/../home", here.home), (None, here.home)):
+        here.does("save", "c", env={**start, "PWD": named})
+        here.holds(f"module use --append {place}/m\n".encode())
+
+
 def test_a_full_disk_leaves_the_old_file(here):
     for size in (0, 1, 10, len(here.new) - 1):
         here.put()

@@ -46,6 +46,17 @@ def test_the_variable_automates_each_command(needing):
     same_environment(kept.shown[2], kept.shown[0], "the environment after")
 
 
+def test_where_a_modulefile_failed_is_said(needing):
+    """It is said also where the module was put in."""
+    needing.folder.module("bad/1", "bogus\n")
+    needing.folder.module("needs/1", "prereq bad\n")
+    at = needing.folder.modules.decode()
+    said = f'ERROR: invalid command name "bogus" (line 2)\n  in {at}/bad/1, line 2\n' * 2
+    lines = ["module load --auto needs", "status", "ml --auto bad", "status"]
+    kept = needing.keeps(lines, err=said.encode())
+    same(kept.statuses, ["1", "1"], "the statuses")
+
+
 def test_without_it_the_program_is_asked_alone(scripted):
     scripted.starts_with(MODULES_AUTO_HANDLING="0")
     scripted.will_answer(0, 0)

@@ -1,11 +1,12 @@
 -- What `help` answers of a module, by the evaluations of its file.
-use Rattle.std.proofs.Common.{◌≡◌, ◌++◌, true, false, List, map, string_bytes, Option, Some, None, IfSome}
+use Rattle.std.proofs.Common.{◌≡◌, ◌==◌, ◌++◌, true, false, List, [], ◌∷◌, length, map, string_bytes, Option, Some, None, IfSome, arith}
+use Rattle.std.proofs.lemmas.Bool.Decides.{nat_tests}
 use Rattle.std.proofs.Common.{Result, Ok, Err, String, refl, sym, ap, ◌∙◌, subst}
 use Rattle.std.specs.declared.alloc.Global.{Global}
 use Rattle.envvars.specs.Texts.{Text}
 use Rattle.envvars.specs.Environment.{Environment}
 use Rattle.envloaded.specs.Loaded.{Entry, names_of}
-use Rattle.filetree.specs.Causes.{Applies}
+use Rattle.filetree.specs.Causes.{Applies, Cause}
 use Rattle.modulefile.specs.Answers.{FileContext}
 use Rattle.modulefile.specs.Effects as modes
 use Rattle.modulefile.specs.Files.{FileReason, RunsFile}
@@ -24,15 +25,11 @@ use Rattle.requests.specs.Steps.{RequestContext, Finds, entries_of}
 use Rattle.modules.specs.Answers.{GivesOrRefuses, by_reason, cause_of}
 use Rattle.modules.specs.declared.refusal.Refusal.{Refusal}
 use Rattle.modules.proofs.StepLemmas.{if_no, if_yes, run_refused, stands_as}
-use Rattle.descriptions.specs.Helps.{DescribesFound, HelpAnswer, Helps, HelpsFound, described, joined, lacks_help, own, with_call}
-use Rattle.descriptions.specs.Views.{RunsText, context_for, lacks_by, loaded_names, named}
+use Rattle.descriptions.specs.Calls.{with_call}
+use Rattle.descriptions.specs.Helps.{Describes, HelpAnswer, Helps, HelpsCalled, HelpsFound, described, joined, lacks_help, own, said_or}
+use Rattle.descriptions.specs.Views.{RunsText, context_for, help_view, lacks_by, loaded_names, named}
 use Rattle.descriptions.specs.declared.helping.HelpRequest.{HelpRequest}
-
--- the same answer, of wider outcomes
-pub gives_wider : {X Y : Type 0} (view : X → Y) (result : Result X Refusal) (Gave Whole : Result Y RequestReason → Type 0)
-    → ((o : Result Y RequestReason) → Gave o → Whole o) → GivesOrRefuses view result Gave → GivesOrRefuses view result Whole
-gives_wider view (Ok x) Gave Whole wider h = wider (Ok (view x)) h
-gives_wider view (Err e) Gave Whole wider h = stands_as (cause_of e) ⊥ ⊥ (λ r. Gave (Err r)) (λ r. Whole (Err r)) (λ q. q) (λ r k. wider (Err r) k) h
+use Rattle.descriptions.specs.declared.helping.HelpText.{HelpText}
 
 -- what is written of a module, by its parts
 pub written_of : (new text said report name n : Text) (ms messages : List (String Global)) (rs records : List code.Record) → new ≡ text ++ said → said ≡ report
@@ -41,6 +38,16 @@ pub written_of : (new text said report name n : Text) (ms messages : List (Strin
 written_of new text said report name n ms messages rs records a b c d e f g =
     a ∙ ap (λ (t : Text). text ++ t) (b ∙ e ∙ ap (λ (x : Text). whatis_text x (map record_view rs)) f ∙ ap (λ (x : List code.Record). whatis_text name (map record_view x)) g)
     ∙ ap (λ (t : Text). t ++ whatis_text name (map record_view records)) (c ∙ ap (λ (x : List (String Global)). joined (map string_bytes x)) d)
+
+-- ---- what was said
+
+pub nothing_said : (said description : Text) → (length said == 0) ≡ true → described description ≡ said_or said description
+nothing_said [] description empty = refl
+nothing_said (b ∷ said) description empty = absurd (grind (arith, nat_tests))
+
+pub something_said : (said description : Text) → (length said == 0) ≡ false → own said ≡ said_or said description
+something_said [] description full = absurd (cc)
+something_said (b ∷ said) description full = refl
 
 -- ---- an evaluation
 
@@ -77,33 +84,48 @@ module _ (limits : Limits) (c : FileContext) (m : search.FoundModule) where
   -- ---- a description
 
   pub describes : (ran : FileRun) (new : Environment) (text : Text) → RunsFile limits c m.text (Ok (ran_view ran new))
-      → text ≡ joined (map string_bytes ran.messages.items) ++ whatis_text m.name (map record_view ran.records.items) → DescribesFound limits c m (Ok (described text))
+      → text ≡ joined (map string_bytes ran.messages.items) ++ whatis_text m.name (map record_view ran.records.items) → Describes limits c m (Ok text)
   describes ran new text h same =
-      (Ok (ran_view ran new), (Ok (ran_view ran new), h, refl), ap (λ (t : Text). let o : Result HelpAnswer RequestReason = Ok (described t) in o) same)
+      (Ok (ran_view ran new), (Ok (ran_view ran new), h, refl), ap (λ (t : Text). let o : Result Text RequestReason = Ok t in o) same)
 
   pub undescribed : (reason : Option FileReason) → IfSome reason (λ r. RunsFile limits c m.text (Err r))
-      → Applies (by_reason file_refused reason) ⊥ (λ r. DescribesFound limits c m (Err r))
+      → Applies (by_reason file_refused reason) ⊥ (λ r. Describes limits c m (Err r))
   undescribed reason h =
-      stands_as (by_reason file_refused reason) ⊥ ⊥ (λ r. RefusedAs file_refused (RunsFile limits c m.text) (Err r)) (λ r. DescribesFound limits c m (Err r))
+      stands_as (by_reason file_refused reason) ⊥ ⊥ (λ r. RefusedAs file_refused (RunsFile limits c m.text) (Err r)) (λ r. Describes limits c m (Err r))
       (λ q. q) (λ r k. (Err r, k, refl)) (run_refused reason (RunsFile limits c m.text) h)
 
   -- ---- the file with the call behind it
 
-  pub helps : (ran : FileRun) (new : Environment) (text : Text) → RunsFile limits c (with_call m.text) (Ok (ran_view ran new))
-      → text ≡ joined (map string_bytes ran.messages.items) → HelpsFound limits c m (Ok (own text))
-  helps ran new text h same = (Ok (ran_view ran new), h, ap (λ (t : Text). let o : Result HelpAnswer RequestReason = Ok (own t) in o) same)
+  module _ (description : Text) where
+    pub helps : (ran : FileRun) (new : Environment) (answer : HelpAnswer) (said : Text) → RunsFile limits c (with_call m.text) (Ok (ran_view ran new))
+        → answer ≡ said_or said description → said ≡ joined (map string_bytes ran.messages.items) → HelpsCalled limits c m description (Ok answer)
+    helps ran new answer said h is same =
+        (Ok (ran_view ran new), h, ap (λ (a : HelpAnswer). let o : Result HelpAnswer RequestReason = Ok a in o) (is ∙ ap (λ (t : Text). said_or t description) same))
 
-  -- the file has no procedure
-  pub without_help : (reason : Option FileReason) → lacks_by reason ≡ true → IfSome reason (λ r. RunsFile limits c (with_call m.text) (Err r))
-      → (o : Result HelpAnswer RequestReason) → DescribesFound limits c m o → HelpsFound limits c m o
-  without_help None lacks h o k = absurd (cc)
-  without_help (Some r) lacks h o k = (Err r, h, if_yes (lacks_help r) (DescribesFound limits c m) _ o lacks k)
+    -- the file has no procedure
+    pub without_help : (reason : Option FileReason) → lacks_by reason ≡ true → IfSome reason (λ r. RunsFile limits c (with_call m.text) (Err r))
+        → HelpsCalled limits c m description (Ok (described description))
+    without_help None lacks h = absurd (cc)
+    without_help (Some r) lacks h = (Err r, h, if_yes (lacks_help r) _ _ (Ok (described description)) lacks refl)
 
-  -- the file, or its procedure, is refused
-  pub unhelped : (reason : Option FileReason) → lacks_by reason ≡ false → IfSome reason (λ r. RunsFile limits c (with_call m.text) (Err r))
-      → Applies (by_reason file_refused reason) ⊥ (λ r. HelpsFound limits c m (Err r))
-  unhelped None lacks h = tt
-  unhelped (Some r) lacks h = (Err r, h, if_no (lacks_help r) (DescribesFound limits c m) _ (Err (file_refused r)) lacks refl)
+    -- the procedure is refused
+    pub unhelped : (reason : Option FileReason) → lacks_by reason ≡ false → IfSome reason (λ r. RunsFile limits c (with_call m.text) (Err r))
+        → Applies (by_reason file_refused reason) ⊥ (λ r. HelpsCalled limits c m description (Err r))
+    unhelped None lacks h = tt
+    unhelped (Some r) lacks h = (Err r, h, if_no (lacks_help r) _ _ (Err (file_refused r)) lacks refl)
+
+  -- ---- both
+
+  -- the description is refused
+  pub refused_found : (cause : Cause RequestReason) → Applies cause ⊥ (λ r. Describes limits c m (Err r)) → Applies cause ⊥ (λ r. HelpsFound limits c m (Err r))
+  refused_found cause h = stands_as cause ⊥ ⊥ (λ r. Describes limits c m (Err r)) (λ r. HelpsFound limits c m (Err r)) (λ q. q) (λ r k. (Err r, k, refl)) h
+
+  -- what is said of the module with this description
+  pub called_found : (description : Text) (result : Result HelpText Refusal) → Describes limits c m (Ok description) → GivesOrRefuses help_view result (HelpsCalled limits c m description)
+      → GivesOrRefuses help_view result (HelpsFound limits c m)
+  called_found description (Ok x) h k = (Ok description, h, k)
+  called_found description (Err e) h k =
+      stands_as (cause_of e) ⊥ ⊥ (λ r. HelpsCalled limits c m description (Err r)) (λ r. HelpsFound limits c m (Err r)) (λ q. q) (λ r l. (Ok description, h, l)) k
 
 -- ---- the whole
 

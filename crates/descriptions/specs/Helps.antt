@@ -1,5 +1,6 @@
--- What `help NAME` answers (own): what the procedure `ModulesHelp` of the module's file says.
-use Rattle.std.specs.Prelude.{Bool, false, List, ◌++◌, bytes_eq, codes, flat_map, Result, Ok, Err}
+-- What `help NAME` answers (own): what the procedure `ModulesHelp` of the module's file says when it is called behind
+-- the file; where there is none, or it says nothing, what the module is.
+use Rattle.std.specs.Prelude.{Bool, false, List, [], ◌∷◌, ◌++◌, bytes_eq, codes, flat_map, Result, Ok, Err}
 use Rattle.envvars.specs.Texts.{Text}
 use Rattle.envvars.specs.Environment.{Environment}
 use Rattle.filetree.specs.Relations.{Is, If, ◌>>◌}
@@ -12,15 +13,12 @@ use Rattle.search.specs.Found as search
 use Rattle.requests.specs.Reasons.{RequestReason, file_refused}
 use Rattle.requests.specs.Refusals.{RefusedAs}
 use Rattle.requests.specs.Steps.{RequestContext, Finds, context_of, entries_of}
+use Rattle.descriptions.specs.Calls.{with_call}
 
 -- what is answered: the messages of the file and of its procedure; or what `whatis NAME` writes
 pub data HelpAnswer : Type 0 where
   own : (text : Text) → HelpAnswer
   described : (text : Text) → HelpAnswer
-
--- the text of a file with a call of its procedure behind it
-abbrev pub with_call : Text → Text
-with_call text = text ++ codes "\nModulesHelp\n"
 
 -- The file was refused because it has no such procedure.
 abbrev pub lacks_help : FileReason → Bool
@@ -33,21 +31,30 @@ abbrev pub joined : List Text → Text
 joined messages = flat_map (λ message. message) messages
 
 -- what `whatis NAME` writes of the module that was found
-abbrev pub DescribesFound : Limits → FileContext → search.FoundModule → Result HelpAnswer RequestReason → Type 0
-DescribesFound limits c m =
+abbrev pub Describes : Limits → FileContext → search.FoundModule → Result Text RequestReason → Type 0
+Describes limits c m =
     RefusedAs file_refused (RunsFile limits c m.text) >> (λ ran.
-    Is (Ok (described (joined ran.messages ++ whatis_text m.name ran.records))))
+    Is (Ok (joined ran.messages ++ whatis_text m.name ran.records)))
+
+-- what was said; the description where nothing was
+abbrev pub said_or : Text → Text → HelpAnswer
+said_or [] description = described description
+said_or (b ∷ said) description = own (b ∷ said)
 
 -- the answer by the outcome of the file with the call behind it
-abbrev pub HelpsBy : Limits → FileContext → search.FoundModule → Result Ran FileReason → Result HelpAnswer RequestReason
-    → Type 0
-HelpsBy limits c m (Ok ran) = Is (Ok (own (joined ran.messages)))
-HelpsBy limits c m (Err reason) = If (lacks_help reason) (DescribesFound limits c m) (Is (Err (file_refused reason)))
+abbrev pub HelpsBy : Text → Result Ran FileReason → Result HelpAnswer RequestReason → Type 0
+HelpsBy description (Ok ran) = Is (Ok (said_or (joined ran.messages) description))
+HelpsBy description (Err reason) =
+    If (lacks_help reason) (Is (Ok (described description))) (Is (Err (file_refused reason)))
+
+-- the answer of the module with this description
+abbrev pub HelpsCalled : Limits → FileContext → search.FoundModule → Text → Result HelpAnswer RequestReason → Type 0
+HelpsCalled limits c m description o =
+    (outcome : Result Ran FileReason) × RunsFile limits c (with_call m.text) outcome × HelpsBy description outcome o
 
 -- the answer of the module that was found
 abbrev pub HelpsFound : Limits → FileContext → search.FoundModule → Result HelpAnswer RequestReason → Type 0
-HelpsFound limits c m o =
-    (outcome : Result Ran FileReason) × RunsFile limits c (with_call m.text) outcome × HelpsBy limits c m outcome o
+HelpsFound limits c m = Describes limits c m >> HelpsCalled limits c m
 
 -- What `help` answers of the module that a name means. Its file is evaluated for its description.
 abbrev pub Helps : RequestContext → Environment → Text → Result HelpAnswer RequestReason → Type 0

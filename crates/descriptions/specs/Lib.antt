@@ -3,6 +3,7 @@ pub mod Mentions
 pub mod Written
 pub mod Descriptions
 pub mod Readable
+pub mod Calls
 pub mod Helps
 -- for this crate's own contracts alone
 pub mod Views

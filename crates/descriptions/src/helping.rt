@@ -14,9 +14,10 @@ ghost use Rattle.requests.specs.Refusals.{RefusedAs};
 ghost use Rattle.requests.specs.Steps as steps;
 ghost use Rattle.requests.specs.Steps.{request_context_in};
 ghost use Rattle.modules.specs.Answers.{GivesOrRefuses, StepAnswersOverTree, is_failure};
-ghost use Rattle.descriptions.specs.Helps.{DescribesFound, Helps, HelpsFound, joined, with_call};
+ghost use Rattle.descriptions.specs.Helps.{Describes, Helps, HelpsCalled, HelpsFound, joined, said_or};
 ghost use Rattle.descriptions.specs.Views.{RunsText, context_for, help_view, lacks_by, loaded_names};
 
+use crate::calling::with_call;
 use crate::written::push_all;
 use envloaded::{loaded, names_of};
 use envvars::fields::owned;
@@ -37,7 +38,7 @@ use tclrules::{EvalFault, Limits};
 pub enum HelpText {
     /// The messages of the file, and of its procedure `ModulesHelp`.
     Own(String),
-    /// What `whatis NAME` writes, since the file has no such procedure.
+    /// What `whatis NAME` writes, since the file has no such procedure, or that says nothing.
     Described(String),
 }
 
@@ -54,15 +55,6 @@ struct HelpRequest<'a> {
 
 /// The error of a file that calls `ModulesHelp` without having it.
 const WITHOUT_HELP: &str = "invalid command name \"ModulesHelp\"";
-
-/// The text of a modulefile with a call of its procedure behind it.
-fn with_call(alloc: Global, text: &str) -> Result<String, AllocError>
-    ensures { IfOk result (λ t. string_bytes t ≡ with_call text.now) }
-{
-    let mut called = String::from_str(alloc, text)?;
-    called.push_str("\nModulesHelp\n")?;
-    Ok(called)
-}
 
 /// Whether a file was refused because it has no procedure `ModulesHelp`.
 fn lacks_help(fault: &RunFault) -> bool
@@ -112,15 +104,54 @@ fn described(
     request: HelpRequest<'_>,
     found: &LocatedModule,
     env: &Env,
-) -> Result<HelpText, Refusal>
-    ensures { GivesOrRefuses help_view result (DescribesFound request.entry.limits
+) -> Result<String, Refusal>
+    ensures { GivesOrRefuses string_bytes result (Describes request.entry.limits
         (context_for request.entry (found_view found.now) env.now) (found_view found.now)) }
 {
     let ran = evaluate(alloc, request, found, found.text.as_str(), env)?;
     let mut text = joined(alloc, ran.messages.as_slice())?;
     let report = whatis_report(alloc, found.name.as_str(), ran.records.as_slice())?;
     text.push_str(report.as_str())?;
-    Ok(HelpText::Described(text))
+    Ok(text)
+}
+
+/// What was said; the description where nothing was.
+fn said_or(said: String, description: String) -> HelpText
+    ensures { help_view result ≡ said_or (string_bytes said) (string_bytes description) }
+{
+    if said.as_str().is_empty() {
+        HelpText::Described(description)
+    } else {
+        HelpText::Own(said)
+    }
+}
+
+/// What the procedure of a module's file says when it is called behind the file, or else the description.
+fn called(
+    alloc: Global,
+    request: HelpRequest<'_>,
+    found: &LocatedModule,
+    env: &Env,
+    description: String,
+) -> Result<HelpText, Refusal>
+    ensures { GivesOrRefuses help_view result (HelpsCalled request.entry.limits
+        (context_for request.entry (found_view found.now) env.now) (found_view found.now)
+        (string_bytes description)) }
+{
+    let text = with_call(alloc, found.text.as_str())?;
+    match evaluate(alloc, request, found, text.as_str(), env) {
+        Ok(ran) => {
+            let said = joined(alloc, ran.messages.as_slice())?;
+            Ok(said_or(said, description))
+        }
+        Err(fault) => {
+            if lacks_help(&fault) {
+                Ok(HelpText::Described(description))
+            } else {
+                Err(Refusal::Run(fault))
+            }
+        }
+    }
 }
 
 /// What the file of a module answers.
@@ -133,17 +164,8 @@ fn help_of(
     ensures { GivesOrRefuses help_view result (HelpsFound request.entry.limits
         (context_for request.entry (found_view found.now) env.now) (found_view found.now)) }
 {
-    let text = with_call(alloc, found.text.as_str())?;
-    match evaluate(alloc, request, found, text.as_str(), env) {
-        Ok(ran) => Ok(HelpText::Own(joined(alloc, ran.messages.as_slice())?)),
-        Err(fault) => {
-            if lacks_help(&fault) {
-                described(alloc, request, found, env)
-            } else {
-                Err(Refusal::Run(fault))
-            }
-        }
-    }
+    let description = described(alloc, request, found, env)?;
+    called(alloc, request, found, env, description)
 }
 
 /// The module that a name means, by the search along MODULEPATH.
@@ -175,9 +197,10 @@ fn loaded_names(alloc: Global, env: &Env) -> Result<Vec<String>, Refusal>
     Ok(owned(alloc, names.as_slice())?)
 }
 
-/// What `help NAME` answers: the module that the name means is searched for, and the text of its file, with a call of
-/// `ModulesHelp` behind it, is evaluated for its description. The messages of that evaluation are the answer. Where the
-/// file has no such procedure, the answer is what `whatis NAME` writes. The environment doesn't change.
+/// What `help NAME` answers: the module that the name means is searched for, and its file is evaluated for its
+/// description; and again, with a call of `ModulesHelp` behind it, also where the file returns. The messages of the
+/// latter are the answer. Where the file has no such procedure, or there are none, the answer is what `whatis NAME`
+/// writes. The environment doesn't change.
 ///
 /// Errors: loaded lists that don't fit together (35); what the search for the name answers (42, 44, 45, 46, and 43 where
 /// the device failed in this call, at a path that the search looks at); what the evaluation of the file or of its

@@ -3,6 +3,7 @@
 #![tactic(auto)]
 
 mod all_names;
+mod calling;
 mod describing;
 mod helping;
 mod left_out;

@@ -5,6 +5,7 @@ use Rattle.std.proofs.lemmas.List.Elements.{All-push, All-weaker}
 use Rattle.std.specs.Prelude.{All, IfNone, IfSome}
 use Rattle.std.specs.declared.alloc.Global.{Global}
 use Rattle.failedcommands.proofs.CommandLemmas.{views_more, views_parted}
+use Rattle.envvars.specs.Changes.{AreChanges, new_values_in}
 use Rattle.envvars.specs.Environment.{Environment}
 use Rattle.envvars.specs.Texts.{Text}
 use Rattle.filetree.specs.Agreement.{Files, Listings, Narrows}
@@ -13,16 +14,16 @@ use Rattle.givenup.specs.Causes.{is_given_up}
 use Rattle.shelltext.specs.declared.shell.Shell.{Shell}
 use Rattle.tclrules.specs.declared.limits.Limits.{Limits}
 use Rattle.modules.specs.Answers.{StepAnswersOverTree, cause_of}
-use Rattle.modules.specs.Replies.{changed_view}
+use Rattle.modules.specs.Replies.{changed_env, changed_view}
 use Rattle.modules.specs.declared.refusal.Refusal.{Refusal}
 use Rattle.modules.specs.declared.reply.RequestChanges.{RequestChanges}
 use Rattle.requests.specs.RequestViews.{action_view}
 use Rattle.requests.specs.Requests.{RequestedAction, switch, unload}
 use Rattle.requests.specs.Steps.{RequestStep, request_context_in}
 use Rattle.requests.specs.declared.action.Action.{Action}
-use Rattle.explanations.specs.Advised.{Instead, IsFirstSwitch, IsRefused, NoSwitch}
-use Rattle.explanations.specs.Explained.{IsAccepted}
-use Rattle.explanations.specs.Views.{IsSwitchOrNone, IsTried}
+use Rattle.explanations.specs.Advised.{Instead, IsFirstSwitch, IsNotAccepted, IsRefused, NoSwitch}
+use Rattle.explanations.specs.Explained.{IsAccepted, StepIsDone}
+use Rattle.explanations.specs.Views.{IsNotSaid, IsSaid, IsSwitchOrNone, IsTried}
 use Rattle.explanations.specs.declared.advice.Advice.{Advice}
 
 -- a cause that isn't given up is a reason
@@ -34,12 +35,14 @@ reason_of given_up m d (because r) failed P is h = (r, h)
 
 -- the same over fewer pairs of maps
 module _ (before now : Files → Listings → Type 0) (limits : Limits) (shell : Shell) (e : Environment) (narrows : Narrows before now) where
-  pub refused_later : (action : RequestedAction) → IsRefused before limits shell e action → IsRefused now limits shell e action
-  refused_later action h = record { reason = h.reason; refused = λ files listings a. h.refused files listings (narrows files listings a) }
+  pub refused_later : (action : RequestedAction) → IsNotAccepted before limits shell e action → IsNotAccepted now limits shell e action
+  refused_later action (inl h) = inl (record { reason = h.reason; refused = λ files listings a. h.refused files listings (narrows files listings a) })
+  refused_later action (inr h) =
+      inr (record { done = h.done; comes = λ files listings a. h.comes files listings (narrows files listings a); name = h.name; lacks = h.lacks })
 
   pub no_switch_later : (other : Text) (names : List Text) → NoSwitch before limits shell e other names → NoSwitch now limits shell e other names
   no_switch_later other names h =
-      All-weaker (λ (name : Text). IsRefused before limits shell e (switch (Some other) name)) (λ (name : Text). IsRefused now limits shell e (switch (Some other) name))
+      All-weaker (λ (name : Text). IsNotAccepted before limits shell e (switch (Some other) name)) (λ (name : Text). IsNotAccepted now limits shell e (switch (Some other) name))
       (λ name r. refused_later (switch (Some other) name) r) names h
 
   -- ---- the names in turn
@@ -48,12 +51,12 @@ module _ (before now : Files → Listings → Type 0) (limits : Limits) (shell :
       (action : RequestedAction) (switches : action ≡ switch (Some other) (string_bytes name))
       (none : NoSwitch before limits shell e other (map (λ (s : String Global). string_bytes s) (take i names))) where
     -- the switch to one more is refused
-    pub one_more : IsRefused now limits shell e action → NoSwitch now limits shell e other (map (λ (s : String Global). string_bytes s) (take (i + 1) names))
+    pub one_more : IsNotAccepted now limits shell e action → NoSwitch now limits shell e other (map (λ (s : String Global). string_bytes s) (take (i + 1) names))
     one_more h =
-        let Refused : Text → Type 0 = λ name. IsRefused now limits shell e (switch (Some other) name) in
+        let Refused : Text → Type 0 = λ name. IsNotAccepted now limits shell e (switch (Some other) name) in
         subst (λ (l : List Text). All Refused l) (sym (views_more (λ (s : String Global). string_bytes s) names i name below is))
         (All-push Refused (map (λ (s : String Global). string_bytes s) (take i names)) (string_bytes name) (no_switch_later other (map (λ (s : String Global). string_bytes s) (take i names)) none)
-        (subst (λ (a : RequestedAction). IsRefused now limits shell e a) switches h))
+        (subst (λ (a : RequestedAction). IsNotAccepted now limits shell e a) switches h))
 
     -- or this is the first that isn't
     pub first_one : IsFirstSwitch now limits shell e other (map (λ (s : String Global). string_bytes s) names) action
@@ -74,24 +77,48 @@ none_switched agrees limits shell e other names i above h =
 
 -- what was refused, of an answer without advice
 pub refused_if : (agrees : Files → Listings → Type 0) (limits : Limits) (shell : Shell) (e : Environment) (action : RequestedAction) (o : Option Advice) → o ≡ None
-    → IfNone o (IsRefused agrees limits shell e action) → IsRefused agrees limits shell e action
-refused_if agrees limits shell e action o is h = subst (λ (o : Option Advice). IfNone o (IsRefused agrees limits shell e action)) is h
+    → IfNone o (IsNotAccepted agrees limits shell e action) → IsNotAccepted agrees limits shell e action
+refused_if agrees limits shell e action o is h = subst (λ (o : Option Advice). IfNone o (IsNotAccepted agrees limits shell e action)) is h
 
 module _ (agrees : Files → Listings → Type 0) (limits : Limits) (shell : Shell) (e : Environment) where
   abbrev pub Answers : Type 0 → RequestedAction → Result RequestChanges Refusal → Type 0
   Answers failed action result = StepAnswersOverTree agrees failed (changed_view e) result (λ files listings.
       RequestStep (request_context_in limits shell files listings) e action)
 
-  -- what a call answers is accepted, or refused for a reason
-  pub accepted_by : (failed : Type 0) (action : RequestedAction) (result : Result RequestChanges Refusal) (changed : RequestChanges)
-      → result ≡ Ok changed → Answers failed action result → IsAccepted agrees limits shell e action
-  accepted_by failed action result changed is h = (changed_view e changed, subst (λ (r : Result RequestChanges Refusal). Answers failed action r) is h)
+  -- the step of what a call answers is done, or refused for a reason
+  pub done_by : (failed : Type 0) (action : RequestedAction) (result : Result RequestChanges Refusal) (changed : RequestChanges)
+      → result ≡ Ok changed → Answers failed action result → StepIsDone agrees limits shell e action
+  done_by failed action result changed is h = (changed_view e changed, subst (λ (r : Result RequestChanges Refusal). Answers failed action r) is h)
 
   pub refused_by : (failed : Type 0) (action : RequestedAction) (result : Result RequestChanges Refusal) (refusal : Refusal)
       → result ≡ Err refusal → is_given_up (cause_of refusal) ≡ false → Answers failed action result → IsRefused agrees limits shell e action
   refused_by failed action result refusal is reason h =
       let found = reason_of is_given_up refl refl (cause_of refusal) failed _ reason (subst (λ (r : Result RequestChanges Refusal). Answers failed action r) is h) in
       record { reason = found.0; refused = found.1 }
+
+  -- the changes of a request
+  abbrev AreExact : Result RequestChanges Refusal → Type 0
+  AreExact result = IfOk result (λ changed. AreChanges e (changed_env e changed) (new_values_in changed.changes))
+
+  -- what is said is accepted, and else it isn't
+  pub accepted_by : (failed : Type 0) (action : RequestedAction) (result : Result RequestChanges Refusal) (changed : RequestChanges)
+      → result ≡ Ok changed → Answers failed action result → AreExact result → IsSaid shell (new_values_in changed.changes) → IsAccepted agrees limits shell e action
+  accepted_by failed action result changed is h exact (text, says) = (
+    changed_view e changed,
+    subst (λ (r : Result RequestChanges Refusal). Answers failed action r) is h,
+    text,
+    record { changes = new_values_in changed.changes; exact = subst AreExact is exact; says = says },
+  )
+
+  pub unsaid_by : (failed : Type 0) (action : RequestedAction) (result : Result RequestChanges Refusal) (changed : RequestChanges)
+      → result ≡ Ok changed → Answers failed action result → AreExact result → IsNotSaid shell (new_values_in changed.changes) → IsNotAccepted agrees limits shell e action
+  unsaid_by failed action result changed is h exact (name, unsayable) =
+      inr (record {
+        done = changed_view e changed;
+        comes = subst (λ (r : Result RequestChanges Refusal). Answers failed action r) is h;
+        name = name;
+        lacks = (new_values_in changed.changes, subst AreExact is exact, unsayable);
+      })
 
   -- ---- a conflict
 
@@ -101,15 +128,15 @@ module _ (agrees : Files → Listings → Type 0) (limits : Limits) (shell : She
       subst (λ (a : Advice). Instead agrees limits shell e other names (Some a)) (sym tried) (inl first)
 
   by_unload : (other : Text) (names : List Text) (action : Action) → action_view action ≡ unload (other ∷ []) → NoSwitch agrees limits shell e other names
-      → (o : Option Advice) → IfSome o (IsTried action) → IfNone o (IsRefused agrees limits shell e (action_view action))
+      → (o : Option Advice) → IfSome o (IsTried action) → IfNone o (IsNotAccepted agrees limits shell e (action_view action))
       → Instead agrees limits shell e other names o
   by_unload other names action is none None tried refused =
-      (none, subst (λ (a : RequestedAction). IsRefused agrees limits shell e a) is refused)
+      (none, subst (λ (a : RequestedAction). IsNotAccepted agrees limits shell e a) is refused)
   by_unload other names action is none (Some advice) tried refused =
       subst (λ (a : Advice). Instead agrees limits shell e other names (Some a)) (sym tried) (inr (none, is))
 
   pub unloads : (other : Text) (names : List Text) (action : Action) → action_view action ≡ unload (other ∷ []) → NoSwitch agrees limits shell e other names
-      → (r : Result (Option Advice) Refusal) → IfOk r (λ o. IfSome o (IsTried action)) → IfOk r (λ o. IfNone o (IsRefused agrees limits shell e (action_view action)))
+      → (r : Result (Option Advice) Refusal) → IfOk r (λ o. IfSome o (IsTried action)) → IfOk r (λ o. IfNone o (IsNotAccepted agrees limits shell e (action_view action)))
       → IfOk r (Instead agrees limits shell e other names)
   unloads other names action is none (Ok o) tried refused = by_unload other names action is none o tried refused
   unloads other names action is none (Err refusal) tried refused = tt

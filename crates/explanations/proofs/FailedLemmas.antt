@@ -20,7 +20,7 @@ use Rattle.shelltext.specs.declared.shell.Shell.{Shell}
 use Rattle.tclrules.specs.declared.limits.Limits.{Limits}
 use Rattle.givenup.specs.Causes.{is_given_up}
 use Rattle.explanations.specs.FailedPaths.{IsAnswer, IsLookedAt, is_kept}
-use Rattle.explanations.proofs.AdviceLemmas.{Answers, accepted_by, refused_by}
+use Rattle.explanations.proofs.AdviceLemmas.{Answers, done_by, refused_by}
 
 -- the path that was kept last is kept
 last_kept : (kept : Vec (String Global) Global) (older : List (String Global)) (path : String Global) → vec_items kept ≡ older ++ path ∷ [] → is_kept kept (string_bytes path) ≡ true
@@ -71,7 +71,7 @@ module _ (agrees : Files → Listings → Type 0) (fails : Type 0) (failed : Lis
         (All-pop (λ p. failed p ≡ true) (map string_bytes (vec_items kept)) (map string_bytes older) (Some (string_bytes path)) texts there).1,
         f.3,
       )
-  answered (Ok changed) kept older last before now items old new h over there None is none = inl (accepted_by agrees limits shell e fails action (Ok changed) changed refl over)
+  answered (Ok changed) kept older last before now items old new h over there None is none = inl (done_by agrees limits shell e fails action (Ok changed) changed refl over)
   answered (Err refusal) kept older last before now items old new h over there None is none = inr (refused_by agrees limits shell e fails action (Err refusal) refusal refl none over)
 
 pub both_ok : (r : Result (Option (String Global)) AllocError) (P Q R : Option (String Global) → Type 0) → IfOk r P → IfOk r Q

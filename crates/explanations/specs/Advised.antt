@@ -1,7 +1,7 @@
 -- What is advised where a request is refused (own): by the reason, another request that would be accepted, or what is
 -- known; or nothing.
 use Rattle.std.specs.Prelude.{◌≡◌, ◌⊎◌, Bool, true, false, List, [], ◌∷◌, ◌++◌, All, codes, Option, Some, None}
-use Rattle.std.specs.Prelude.{Contains, is_some, Result, Err, string_bytes}
+use Rattle.std.specs.Prelude.{Contains, is_some, Result, Ok, Err, string_bytes}
 use Rattle.std.specs.List.{flat_map}
 use Rattle.envloaded.specs.Loaded.{Entry, loaded_in, names_of}
 use Rattle.envvars.specs.Environment.{Environment}
@@ -17,6 +17,7 @@ use Rattle.requests.specs.RequestViews.{action_view}
 use Rattle.requests.specs.Requests.{RequestedAction, load, unload, switch}
 use Rattle.requests.specs.Steps.{Done, RequestStep, modulepath, request_context_in}
 use Rattle.search.specs.Reasons.{FindReason, not_found}
+use Rattle.shelltext.specs.Printing.{LacksText}
 use Rattle.shelltext.specs.declared.print.PrintFault.TheVariants as prints
 use Rattle.shelltext.specs.declared.shell.Shell.{Shell}
 use Rattle.tclrules.specs.Derivation.{Halt, LeftOut}
@@ -118,9 +119,20 @@ module _ (agrees : Files → Listings → Type 0) (limits : Limits) (shell : She
     pub reason : RequestReason
     pub refused : ComesTo action (Err reason)
 
+  -- in each pair it does the same, and its changes have no text in the shell
+  pub record IsUnsaid (action : RequestedAction) : Type 0 where
+    pub done : Done
+    pub comes : ComesTo action (Ok done)
+    pub name : Text
+    pub lacks : LacksText shell e done.env name
+
+  -- it isn't accepted
+  abbrev pub IsNotAccepted : RequestedAction → Type 0
+  IsNotAccepted action = IsRefused action ⊎ IsUnsaid action
+
   -- none of the switches from this module to one of the names is accepted
   abbrev pub NoSwitch : Text → List Text → Type 0
-  NoSwitch other names = All (λ name. IsRefused (switch (Some other) name)) names
+  NoSwitch other names = All (λ name. IsNotAccepted (switch (Some other) name)) names
 
   -- the switch to the first of the names for which it is accepted
   pub record IsFirstSwitch (other : Text) (names : List Text) (advised : RequestedAction) : Type 0 where
@@ -138,7 +150,7 @@ module _ (agrees : Files → Listings → Type 0) (limits : Limits) (shell : She
 
   -- or nothing, where neither is accepted
   abbrev pub Instead : Text → List Text → Option Advice → Type 0
-  Instead other names None = NoSwitch other names × IsRefused (unload (other ∷ []))
+  Instead other names None = NoSwitch other names × IsNotAccepted (unload (other ∷ []))
   Instead other names (Some (advices.Try action)) = IsInstead other names (action_view action)
   Instead other names (Some (advices.TryAutomated asked action)) = ⊥
   Instead other names (Some (advices.Known line)) = ⊥

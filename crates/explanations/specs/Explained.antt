@@ -5,6 +5,7 @@ use Rattle.envvars.specs.Environment.{Environment}
 use Rattle.envvars.specs.Texts.{Text}
 use Rattle.filetree.specs.Agreement.{Files, Listings, InEachPair}
 use Rattle.filetree.specs.Causes.{Cause, memory, device, because}
+use Rattle.shelltext.specs.Reading.{SaysDifference}
 use Rattle.shelltext.specs.declared.shell.Shell.{Shell}
 use Rattle.tclrules.specs.declared.limits.Limits.{Limits}
 use Rattle.modulefile.specs.Files.{FileReason}
@@ -34,11 +35,18 @@ pub record IsWhy (agrees : Files → Listings → Type 0) (limits : Limits) (she
       RequestStep (request_context_in limits shell files listings) e action (Err (file_refused reason)))
   pub located : Locates agrees limits shell e action (words_of fault) x
 
--- in each pair of maps that agrees the request is accepted, and comes to the same
+-- in each pair of maps that agrees the step of the request is done, and comes to the same
+abbrev pub StepIsDone : (Files → Listings → Type 0) → Limits → Shell → Environment → RequestedAction → Type 0
+StepIsDone agrees limits shell e action = (d : Done) × ComesTo agrees limits shell e action (Ok d)
+
+-- a text of the shell says the difference
+abbrev pub HasText : Shell → Environment → Environment → Type 0
+HasText shell old new = (text : Text) × SaysDifference shell text old new
+
+-- The request is accepted: its step is done, and a text of the shell says what that changes.
 abbrev pub IsAccepted : (Files → Listings → Type 0) → Limits → Shell → Environment → RequestedAction → Type 0
 IsAccepted agrees limits shell e action =
-    (d : Done) × InEachPair agrees (λ files listings.
-    RequestStep (request_context_in limits shell files listings) e action (Ok d))
+    (d : Done) × ComesTo agrees limits shell e action (Ok d) × HasText shell e d.env
 
 -- What is advised would be accepted in the environment at hand.
 abbrev pub IsSound : (Files → Listings → Type 0) → Limits → Shell → Environment → Advice → Type 0
@@ -65,11 +73,11 @@ IsFile agrees limits shell e action (file_refused reason) None =
 IsFile agrees limits shell e action (file_refused reason) (Some x) = IsWhy agrees limits shell e action x
 IsFile agrees limits shell e action reason o = o ≡ None
 
--- Of a request that is accepted nothing is said; of one that is refused, what the reason asks for.
+-- Of a request whose step is done nothing is said; of one that is refused, what the reason asks for.
 abbrev pub IsOfOutcome : (Files → Listings → Type 0) → Limits → Shell → Environment → RequestedAction → Explanation
     → Type 0
 IsOfOutcome agrees limits shell e action x =
-    (IsAccepted agrees limits shell e action × (x.file ≡ None) × (x.advice ≡ None))
+    (StepIsDone agrees limits shell e action × (x.file ≡ None) × (x.advice ≡ None))
     ⊎ ((reason : RequestReason) × ComesTo agrees limits shell e action (Err reason)
     × IsFile agrees limits shell e action reason x.file
     × IsAdvised agrees limits shell e action reason x.advice)

@@ -14,7 +14,7 @@ use Rattle.requests.specs.Steps.{request_context_in}
 use Rattle.shelltext.specs.declared.shell.Shell.{Shell}
 use Rattle.tclrules.specs.declared.limits.Limits.{Limits}
 use Rattle.explanations.specs.Advised.{IsRefused}
-use Rattle.explanations.specs.Explained.{IsAccepted}
+use Rattle.explanations.specs.Explained.{StepIsDone}
 
 -- the cause is the device only where this holds, as that it has failed in the call
 abbrev pub IsDeviceOnlyIf : {R : Type 0} → Cause R → Type 0 → Type 0
@@ -30,10 +30,11 @@ IsLookedAt agrees limits shell e action path =
     InEachPair agrees (λ files listings.
     RequestLooksAt (request_context_in limits shell files listings) e action path)
 
--- The device has failed, at this path, at which the request looks; or the request is accepted, or refused for a reason.
+-- The device has failed, at this path, at which the request looks; or the step of the request is done, or refused for a
+-- reason.
 abbrev pub IsAnswer : (Files → Listings → Type 0) → Type 0 → (Text → Bool) → Limits → Shell → Environment
     → RequestedAction → Option (String Global) → Type 0
 IsAnswer agrees fails failed limits shell e action (Some path) =
     fails × (failed (string_bytes path) ≡ true) × IsLookedAt agrees limits shell e action (string_bytes path)
 IsAnswer agrees fails failed limits shell e action None =
-    IsAccepted agrees limits shell e action ⊎ IsRefused agrees limits shell e action
+    StepIsDone agrees limits shell e action ⊎ IsRefused agrees limits shell e action

@@ -6,6 +6,9 @@ use Rattle.envvars.specs.Environment.{Environment}
 use Rattle.envvars.specs.Texts.{Text, texts_in}
 use Rattle.filetree.specs.Agreement.{Files, Listings}
 use Rattle.filetree.specs.Causes.{Cause, memory, device, because}
+use Rattle.envvars.specs.Changes.{NewValue}
+use Rattle.shelltext.specs.Printing.{IsUnsayable}
+use Rattle.shelltext.specs.Reading.{TextSays}
 use Rattle.shelltext.specs.declared.shell.Shell.{Shell}
 use Rattle.tclrules.specs.declared.limits.Limits.{Limits}
 use Rattle.modulerun.specs.Running.{file_reason_of}
@@ -26,6 +29,13 @@ abbrev pub IfBecause : {R : Type 0} → Cause R → (R → Type 0) → Type 0
 IfBecause memory P = Unit {0}
 IfBecause device P = Unit {0}
 IfBecause (because reason) P = P reason
+
+-- a text of the shell says the changes; or none does, and the first that no line says has a name
+abbrev pub IsSaid : Shell → List NewValue → Type 0
+IsSaid shell changes = (text : Text) × TextSays shell text changes
+
+abbrev pub IsNotSaid : Shell → List NewValue → Type 0
+IsNotSaid shell changes = (name : Text) × IsUnsayable shell changes name
 
 -- this action is to be tried
 abbrev pub IsTried : Action → Advice → Type 0

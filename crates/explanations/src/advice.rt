@@ -1,6 +1,7 @@
 //! What to do about a refusal: a request that would be accepted, or what is known.
-ghost use Rattle.std.specs.Prelude.{◌≡◌, ◌∷◌, [], Some, None, true, IfNone, IfOk, IfSome, map, string_bytes};
+ghost use Rattle.std.specs.Prelude.{◌≡◌, ◌∷◌, [], Some, None, true, false, IfNone, IfOk, IfSome, map, string_bytes};
 ghost use Rattle.std.specs.Prelude.{◌<◌, IfErr};
+ghost use Rattle.envvars.specs.Changes.{new_value_of};
 ghost use Rattle.filetree.specs.Agreement.{ReadsOn};
 ghost use Rattle.search.specs.Answers.{cause_of as find_cause};
 ghost use Rattle.modulerun.specs.Running.{eval_reason, file_reason_of};
@@ -8,9 +9,9 @@ ghost use Rattle.modules.specs.Answers.{cause_of};
 ghost use Rattle.requests.specs.RequestViews.{action_view};
 ghost use Rattle.requests.specs.Requests as actions;
 ghost use Rattle.explanations.specs.Advised as spec;
-ghost use Rattle.explanations.specs.Advised.{IsRefused};
+ghost use Rattle.explanations.specs.Advised.{IsNotAccepted};
 ghost use Rattle.explanations.specs.Explained.{IsSound};
-ghost use Rattle.explanations.specs.Views.{IfBecause, IsSwitchOrNone, IsTried, is_known};
+ghost use Rattle.explanations.specs.Views.{IfBecause, IsNotSaid, IsSaid, IsSwitchOrNone, IsTried, is_known};
 ghost use Rattle.explanations.specs.FailedPaths.{IsDeviceOnlyIf};
 
 use crate::automatic::{for_need, for_needed};
@@ -19,9 +20,11 @@ use crate::refused::RefusedRequest;
 use crate::replacements::instead_of;
 use crate::unknown::for_unknown;
 use envloaded::{is_loaded, loaded};
+use envvars::Change;
 use filetree::Tree;
 use givenup::unless_given_up;
 use modules::{Action, EvalFault, FindFault, Refusal, Request, RunFault, run_changes};
+use shelltext::{PrintFault, Shell, print_changes};
 use std::alloc::{AllocError, Global};
 
 /// What to do about a refusal.
@@ -40,7 +43,19 @@ pub enum Advice {
     Known(String),
 }
 
-/// Advises this action where it would be accepted in the environment of the request.
+/// Whether a text of the shell says these changes.
+fn has_text(alloc: Global, shell: Shell, changes: &[Change]) -> Result<bool, AllocError>
+    ensures said { IfOk result (λ is. is ≡ true → IsSaid shell (map new_value_of changes.now)) }
+    ensures unsaid { IfOk result (λ is. is ≡ false → IsNotSaid shell (map new_value_of changes.now)) }
+{
+    match print_changes(alloc, shell, changes) {
+        Ok(_) => Ok(true),
+        Err(PrintFault::NotSayable(_)) => Ok(false),
+        Err(PrintFault::OutOfMemory) => Err(AllocError),
+    }
+}
+
+/// Advises this action where it would be accepted in the environment of the request, and its changes have a text.
 ///
 /// It fails where memory ran out, or the device failed.
 fn if_accepted<T: Tree>(
@@ -54,7 +69,7 @@ fn if_accepted<T: Tree>(
     ensures advised { IfOk result (λ o. IfSome o (IsSound (T.agrees tree.new) refused.entry.limits
         refused.entry.request.now.shell refused.entry.env.now)) }
     ensures tried { IfOk result (λ o. IfSome o (IsTried action)) }
-    ensures none { IfOk result (λ o. IfNone o (IsRefused (T.agrees tree.new) refused.entry.limits
+    ensures none { IfOk result (λ o. IfNone o (IsNotAccepted (T.agrees tree.new) refused.entry.limits
         refused.entry.request.now.shell refused.entry.env.now (action_view action))) }
 {
     let request = Request {
@@ -63,7 +78,13 @@ fn if_accepted<T: Tree>(
     };
     let outcome = run_changes(refused.alloc, &request, refused.env, tree, refused.limits);
     match unless_given_up(outcome)? {
-        Ok(_) => Ok(Some(Advice::Try(request.action))),
+        Ok(changed) => {
+            if has_text(refused.alloc, request.shell, changed.changes.as_slice())? {
+                Ok(Some(Advice::Try(request.action)))
+            } else {
+                Ok(None)
+            }
+        }
         Err(_) => Ok(None),
     }
 }

@@ -1,6 +1,8 @@
-//! The subcommands that load and unload, where they have options or are automated. What is put in goes to standard error.
+//! The subcommands that load and unload, where they have options or are automated. What is put in goes to standard error,
+//! and why nothing is done.
 
 use crate::collection_commands::{tell, write};
+use crate::explaining::say_more_of_automatic;
 use crate::given::Given;
 use crate::refusal::Refusal;
 use autohandling::{AutomaticAnswer, load_automatically, unload_automatically};
@@ -166,7 +168,11 @@ fn do_automatic(
     };
     Some(match done {
         Ok(()) => ExitCode::SUCCESS,
-        Err(refusal) => refusal.tell(rt),
+        Err(refusal) => {
+            let status = refusal.tell(rt);
+            say_more_of_automatic(rt, shell, given, subcommand, names);
+            status
+        }
     })
 }
 

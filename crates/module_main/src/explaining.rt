@@ -1,6 +1,7 @@
 //! Says more of a command that the program `modulecmd` has refused.
 
 use crate::given::Given;
+use crate::tried::refused_words;
 use explanations::{Explanation, advice_line, explain, failed_path, log_line, user_lines};
 use filetree::DiskTree;
 use modules::{STANDARD_LIMITS, request};
@@ -8,6 +9,7 @@ use shelltext::Shell;
 use std::fs::{self, File};
 use std::io::{self, ErrorKind, IsTerminal, Write};
 use std::process::ExitCode;
+use subcommands::Subcommand;
 use terminaltext::shown;
 
 /// Writes to standard error; what isn't written is only an explanation less.
@@ -106,6 +108,23 @@ pub fn say_more(rt: &HostRuntime, shell: Shell, given: &Given, words: &[String])
             }
         }
         Err(_) => tell_path(rt, shell, given, words, is_user),
+    }
+}
+
+/// Says more of a refused automated load or unload of these names, where the user wants that: of the names with which it
+/// ended.
+pub fn say_more_of_automatic(
+    rt: &HostRuntime,
+    shell: Shell,
+    given: &Given,
+    subcommand: Subcommand,
+    asked: &[String],
+) {
+    if is_unwanted(given) {
+        return;
+    }
+    if let Ok(words) = refused_words(rt, shell, given, subcommand, asked) {
+        say_more(rt, shell, given, words.as_slice());
     }
 }
 

@@ -17,6 +17,7 @@ mod program;
 mod refusal;
 mod reports;
 mod shown_modules;
+mod tried;
 mod unloaded;
 
 use automatic_commands::do_automatic_command;

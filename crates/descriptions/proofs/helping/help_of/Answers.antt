@@ -1,41 +1,17 @@
-use Rattle.std.proofs.Common.{Result, Ok, Err, string_bytes, ap, ◌∙◌, map, sym}
+use Rattle.std.proofs.lemmas.Result.{err_from_is_err_and}
 use Rattle.search.specs.Answers.{found_view}
-use Rattle.modulerun.specs.Running.{file_reason_of}
-use Rattle.modulerun.specs.declared.run.FileRun.{FileRun}
-use Rattle.modulerun.specs.declared.run_fault.RunFault.{RunFault}
-use Rattle.descriptions.specs.Helps.{DescribesFound, HelpsFound, joined, with_call}
-use Rattle.descriptions.specs.Views.{context_for, help_view}
-use Rattle.descriptions.proofs.HelpLemmas.{gives_wider, helps, of_text, unhelped, without_help}
+use Rattle.modules.specs.Answers.{cause_of}
+use Rattle.descriptions.specs.Views.{context_for}
+use Rattle.descriptions.proofs.HelpLemmas.{called_found, refused_found}
 use Rattle.descriptions.proofs.helping.help_of.Goals as goal
 
-pub returns-in-Ok : goal.returns-in-Ok
-returns-in-Ok c =
+pub returns-in_err-description : goal.returns-in_err-description
+returns-in_err-description c =
+    let p = err_from_is_err_and c.from_residual.result c.from_residual.ensures.1 in
     let m = found_view c.args.found.now in
-    let limits = c.args.request.limits in
-    let context = context_for c.args.request m c.args.env.now in
-    let called = c.as_str-2.ensures.value ∙ c.in_ok-text.ensures ∙ ap with_call c.as_str.ensures.value in
-    let result : Result FileRun RunFault = Ok c.in-Ok.ran in
-    let ran = of_text limits context (with_call m.text) c.as_str-2.result.now result called c.in-Ok.ensures in
-    helps limits context m c.in-Ok.ran ran.0 (string_bytes c.in_ok-joined-in-Ok.field-0) ran.1
-    (c.in_ok-joined-in-Ok.ensures ∙ ap (λ l. joined (map string_bytes l)) c.as_slice.ensures.value)
-
-pub returns-then-lacks_help : goal.returns-then-lacks_help
-returns-then-lacks_help c =
-    let m = found_view c.args.found.now in
-    let limits = c.args.request.limits in
-    let context = context_for c.args.request m c.args.env.now in
-    let called = c.as_str-2.ensures.value ∙ c.in_ok-text.ensures ∙ ap with_call c.as_str.ensures.value in
-    let result : Result FileRun RunFault = Err c.in-Err.fault in
-    let ran = of_text limits context (with_call m.text) c.as_str-2.result.now result called c.in-Err.ensures in
-    gives_wider help_view c.described.result (DescribesFound limits context m) (HelpsFound limits context m)
-    (without_help limits context m (file_reason_of c.in-Err.fault) (sym c.lacks_help.ensures ∙ c.if-lacks_help.true) ran) c.described.ensures
+    rw (p.1, p.2) (refused_found c.args.request.limits (context_for c.args.request m c.args.env.now) m (cause_of c.in_err-description.field-0.0) c.in_err-description.ensures)
 
 pub returns : goal.returns
 returns c =
     let m = found_view c.args.found.now in
-    let limits = c.args.request.limits in
-    let context = context_for c.args.request m c.args.env.now in
-    let called = c.as_str-2.ensures.value ∙ c.in_ok-text.ensures ∙ ap with_call c.as_str.ensures.value in
-    let result : Result FileRun RunFault = Err c.in-Err.fault in
-    let ran = of_text limits context (with_call m.text) c.as_str-2.result.now result called c.in-Err.ensures in
-    unhelped limits context m (file_reason_of c.in-Err.fault) (sym c.lacks_help.ensures ∙ c.if-lacks_help.false) ran
+    called_found c.args.request.limits (context_for c.args.request m c.args.env.now) m _ c.called.result c.in_ok-description.ensures c.called.ensures

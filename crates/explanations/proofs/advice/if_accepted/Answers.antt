@@ -1,21 +1,33 @@
-use Rattle.std.proofs.Common.{◌≡◌, false, Result, sym, subst, ◌∙◌}
-use Rattle.std.specs.Prelude.{IfErr}
+use Rattle.std.proofs.Common.{◌≡◌, false, List, Result, inl, sym, subst, ◌∙◌}
+use Rattle.std.specs.Prelude.{IfErr, map}
+use Rattle.envvars.specs.Changes.{new_value_of}
+use Rattle.envvars.specs.declared.change.Change.{Change}
 use Rattle.givenup.specs.Causes.{is_given_up}
 use Rattle.modules.specs.Answers.{cause_of}
 use Rattle.modules.specs.declared.refusal.Refusal.{Refusal}
 use Rattle.modules.specs.declared.reply.RequestChanges.{RequestChanges}
 use Rattle.requests.specs.RequestViews.{action_view}
-use Rattle.explanations.proofs.AdviceLemmas.{accepted_by, refused_by}
+use Rattle.explanations.specs.Views.{IsNotSaid, IsSaid}
+use Rattle.explanations.proofs.AdviceLemmas.{accepted_by, refused_by, unsaid_by}
 use Rattle.explanations.proofs.advice.if_accepted.Goals as goal
 
-pub returns-in-Ok-clause-advised : goal.returns-in-Ok-clause-advised
-returns-in-Ok-clause-advised g c =
-    accepted_by (g.T.Tree.agrees c.run_changes-outcome.new.tree) c.args.refused.limits c.args.refused.request.now.shell c.args.refused.env.now _ (action_view c.args.action)
-    c.run_changes-outcome.result c.in-Ok.field-0 (sym c.in_ok-unless_given_up.ensures.same ∙ c.in-Ok.is) c.run_changes-outcome.ensures.over_tree
+pub returns-then-branch-clause-advised : goal.returns-then-branch-clause-advised
+returns-then-branch-clause-advised g c =
+    let shell = c.args.refused.request.now.shell in
+    accepted_by (g.T.Tree.agrees c.run_changes-outcome.new.tree) c.args.refused.limits shell c.args.refused.env.now _ (action_view c.args.action)
+    c.run_changes-outcome.result c.in-Ok.changed (sym c.in_ok-unless_given_up.ensures.same ∙ c.in-Ok.is) c.run_changes-outcome.ensures.over_tree c.run_changes-outcome.ensures.exact
+    (subst (λ (l : List Change). IsSaid shell (map new_value_of l)) c.as_slice-in-Ok.ensures.value (c.in_ok-has_text-in-Ok.ensures.said c.if-branch.true))
+
+pub returns-else-branch-clause-none : goal.returns-else-branch-clause-none
+returns-else-branch-clause-none g c =
+    let shell = c.args.refused.request.now.shell in
+    unsaid_by (g.T.Tree.agrees c.run_changes-outcome.new.tree) c.args.refused.limits shell c.args.refused.env.now _ (action_view c.args.action)
+    c.run_changes-outcome.result c.in-Ok.changed (sym c.in_ok-unless_given_up.ensures.same ∙ c.in-Ok.is) c.run_changes-outcome.ensures.over_tree c.run_changes-outcome.ensures.exact
+    (subst (λ (l : List Change). IsNotSaid shell (map new_value_of l)) c.as_slice-in-Ok.ensures.value (c.in_ok-has_text-in-Ok.ensures.unsaid c.if-branch.false))
 
 pub returns-in-Err-clause-none : goal.returns-in-Err-clause-none
 returns-in-Err-clause-none g c =
-    refused_by (g.T.Tree.agrees c.run_changes-outcome.new.tree) c.args.refused.limits c.args.refused.request.now.shell c.args.refused.env.now _ (action_view c.args.action)
+    inl (refused_by (g.T.Tree.agrees c.run_changes-outcome.new.tree) c.args.refused.limits c.args.refused.request.now.shell c.args.refused.env.now _ (action_view c.args.action)
     c.run_changes-outcome.result c.in-Err.field-0 (sym c.in_ok-unless_given_up.ensures.same ∙ c.in-Err.is)
     (subst (λ (r : Result RequestChanges Refusal). IfErr r (λ refusal. is_given_up (cause_of refusal) ≡ false)) c.in-Err.is c.in_ok-unless_given_up.ensures.kept)
-    c.run_changes-outcome.ensures.over_tree
+    c.run_changes-outcome.ensures.over_tree)

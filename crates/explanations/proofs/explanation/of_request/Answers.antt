@@ -5,14 +5,14 @@ use Rattle.modules.specs.Answers.{cause_of}
 use Rattle.modules.specs.declared.refusal.Refusal.{Refusal}
 use Rattle.modules.specs.declared.reply.RequestChanges.{RequestChanges}
 use Rattle.requests.specs.RequestViews.{action_view}
-use Rattle.explanations.proofs.AdviceLemmas.{accepted_by}
+use Rattle.explanations.proofs.AdviceLemmas.{done_by}
 use Rattle.explanations.proofs.ExplainedLemmas.{outcomes_of, whys}
 use Rattle.explanations.proofs.explanation.of_request.Goals as goal
 
 pub returns-in-Ok-clause-said : goal.returns-in-Ok-clause-said
 returns-in-Ok-clause-said g c =
     inl (
-      accepted_by (g.T.Tree.agrees c.run_changes-outcome.new.tree) c.args.refused.limits c.args.refused.request.now.shell c.args.refused.env.now _ (action_view c.args.refused.request.now.action)
+      done_by (g.T.Tree.agrees c.run_changes-outcome.new.tree) c.args.refused.limits c.args.refused.request.now.shell c.args.refused.env.now _ (action_view c.args.refused.request.now.action)
           c.run_changes-outcome.result c.in-Ok.field-0 (sym c.in_ok-unless_given_up.ensures.same ∙ c.in-Ok.is) c.run_changes-outcome.ensures.over_tree,
       refl,
       refl,
