@@ -20,7 +20,7 @@ ghost use Rattle.explanations.specs.EvaluatedViews as views;
 ghost use Rattle.explanations.specs.EvaluatedViews.{IsPassed, file_context, files_view, module_view, part_view};
 ghost use Rattle.explanations.specs.FailedPaths.{IsDeviceOnlyIf};
 
-use crate::refused::{RefusedRequest, searched_path};
+use crate::refused::RefusedRequest;
 use envloaded::{Loaded, loaded, names_of};
 use envvars::Env;
 use envvars::fields::owned;
@@ -29,7 +29,7 @@ use givenup::{is_search_given_up, unless_given_up};
 use lookup::EvaluatedDefaultFiles;
 use modulefile::Mode;
 use modules::{Action, Refusal, Request, make_changes};
-use requests::last_meant;
+use requests::{last_meant, modulepath};
 use search::locate;
 use std::alloc::{AllocError, Global};
 
@@ -121,13 +121,7 @@ fn found<T: Tree>(
     let default_files = EvaluatedDefaultFiles {
         limits: refused.limits,
     };
-    match locate(
-        refused.alloc,
-        tree,
-        &default_files,
-        searched_path(env),
-        name,
-    ) {
+    match locate(refused.alloc, tree, &default_files, modulepath(env), name) {
         Ok(module) => Ok(Some(ModulePath {
             name: module.name,
             path: module.path,

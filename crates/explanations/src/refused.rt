@@ -1,6 +1,4 @@
 //! A request that is refused.
-ghost use Rattle.std.specs.Prelude.{◌≡◌};
-ghost use Rattle.requests.specs.Steps.{modulepath};
 
 use envvars::Env;
 use modules::Request;
@@ -14,14 +12,4 @@ pub(crate) struct RefusedRequest<'a> {
     pub(crate) request: &'a Request,
     pub(crate) env: &'a Env,
     pub(crate) limits: Limits,
-}
-
-/// The MODULEPATH of an environment, or the empty text where it is unset.
-pub(crate) fn searched_path(env: &Env) -> &str
-    ensures { result.now ≡ modulepath env.entry.now }
-{
-    match env.get("MODULEPATH") {
-        Some(text) => text,
-        None => "",
-    }
 }

@@ -12,9 +12,10 @@ ghost use Rattle.explanations.specs.FailedPaths.{IsDeviceOnlyIf};
 use crate::advice::Advice;
 use crate::alike::names_like;
 use crate::known::{asked, known};
-use crate::refused::{RefusedRequest, searched_path};
+use crate::refused::RefusedRequest;
 use filetree::{Tree, TreeFault};
 use modules::Refusal;
+use requests::modulepath;
 use search::directories;
 
 /// Whether one of the directories is there.
@@ -48,18 +49,18 @@ pub(crate) fn for_unknown<T: Tree>(
         refused.entry.request.now.shell refused.entry.env.now (modulepath refused.entry.env.now) name.now) }
 {
     let alloc = refused.alloc;
-    let modulepath = searched_path(refused.env);
-    if modulepath.is_empty() {
+    let searched = modulepath(refused.env);
+    if searched.is_empty() {
         let line =
             "No MODULEPATH is set: \"module use DIRECTORY\" adds one, and a site has its own in etc/modulespath.";
         return Ok(known(alloc, Some(line))?);
     }
-    let directories = directories(alloc, modulepath)?;
+    let directories = directories(alloc, searched)?;
     if !is_one_there(tree, directories.as_slice())? {
         let mut line = String::from_str(alloc, "None of the directories of MODULEPATH is there: ")?;
-        line.push_str(modulepath)?;
+        line.push_str(searched)?;
         return Ok(known(alloc, Some(line.as_str()))?);
     }
-    let names = names_like(alloc, name, modulepath, tree, refused.limits)?;
+    let names = names_like(alloc, name, searched, tree, refused.limits)?;
     Ok(asked(alloc, names.as_slice())?)
 }

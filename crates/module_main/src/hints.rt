@@ -1,14 +1,12 @@
 //! What a user at a terminal is told where a report is empty.
 
-use envvars::{Env, Vars};
+use envvars::Env;
+use requests::modulepath;
 use terminaltext::shown;
-
-/// The variable with the directories that are searched.
-pub const MODULEPATH: &str = "MODULEPATH";
 
 /// Says why no module is found: along no MODULEPATH, by texts, or in the directories.
 pub fn say_why(rt: &HostRuntime, env: &Env, has_texts: bool) {
-    let directories = env.get(MODULEPATH).unwrap_or("");
+    let directories = modulepath(env);
     if directories.is_empty() {
         let _ = eprintln!(rt; "No MODULEPATH is set.");
     } else if has_texts {

@@ -2,7 +2,7 @@
 //! without words.
 
 use crate::given::Given;
-use crate::hints::{MODULEPATH, say_why};
+use crate::hints::say_why;
 use crate::refusal::Refusal;
 use crate::reports::{ReportPlace, write_report};
 use envvars::{Env, Vars};
@@ -10,6 +10,7 @@ use filetree::DiskTree;
 use hidingtree::HidingTree;
 use listings::{ListingFault, Terminal, avail_report, is_available_where_readable, loaded_report};
 use modules::STANDARD_LIMITS;
+use requests::modulepath;
 use shelltext::Shell;
 use std::process::ExitCode;
 use subcommands::{Subcommand, subcommand_of};
@@ -73,7 +74,7 @@ fn report_avail(rt: &HostRuntime, place: ReportPlace, env: &Env, words: &[String
 /// Reports which directories are searched, one a line.
 fn report_directories(rt: &HostRuntime, place: ReportPlace, env: &Env) -> Result<(), Refusal> {
     let mut is_none = true;
-    for directory in env.get(MODULEPATH).unwrap_or("").split(':') {
+    for directory in modulepath(env).split(':') {
         if !directory.is_empty() {
             write_report(rt, env, directory.as_bytes())?;
             write_report(rt, env, b"\n")?;

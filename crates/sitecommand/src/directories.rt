@@ -12,6 +12,7 @@ use crate::audit_fault::AuditFault;
 use envvars::Env;
 use envvars::fields::{join, slices};
 use filetree::Tree;
+use requests::modulepath;
 use search::directories;
 use std::alloc::{AllocError, Global};
 
@@ -108,10 +109,7 @@ pub(crate) fn judged_env(alloc: Global, env: Env, dirs: &[String]) -> Result<Env
 fn has_directory(alloc: Global, env: &Env) -> Result<bool, AllocError>
     ensures { IfOk result (λ has. has ≡ has_directory env.now) }
 {
-    match env.get("MODULEPATH") {
-        None => Ok(false),
-        Some(text) => Ok(!directories(alloc, text)?.is_empty()),
-    }
+    Ok(!directories(alloc, modulepath(env))?.is_empty())
 }
 
 /// Whether there is a site: the MODULEPATH that is judged has a directory.

@@ -2,24 +2,14 @@
 ghost use Rattle.std.specs.Prelude.{◌≡◌, map, IfOk, string_bytes};
 ghost use Rattle.std.specs.List.{list_all};
 ghost use Rattle.envvars.specs.Texts.{has, slice_texts};
-ghost use Rattle.requests.specs.Steps.{modulepath};
 ghost use Rattle.sitecommand.specs.Audits as spec;
 
 use crate::readable::is_among;
 use envvars::Env;
+use requests::modulepath;
 use search::directories;
 use sitereport::ReadableAudit;
 use std::alloc::{AllocError, Global};
-
-/// MODULEPATH, or the empty text where it is unset.
-fn modulepath_of(env: &Env) -> &str
-    ensures { result.now ≡ modulepath env.now }
-{
-    match env.get("MODULEPATH") {
-        None => "",
-        Some(text) => text,
-    }
-}
 
 /// Whether each of the directories is among those that aren't there.
 fn are_missing(dirs: &[&str], missing: &[String]) -> bool
@@ -36,7 +26,7 @@ pub(crate) fn is_nothing_there(
 ) -> Result<bool, AllocError>
     ensures { IfOk result (λ nothing. nothing ≡ spec.is_nothing_there judged.now audit.now) }
 {
-    let dirs = directories(alloc, modulepath_of(judged))?;
+    let dirs = directories(alloc, modulepath(judged))?;
     let missing = audit.found.missing_directories.as_slice();
     Ok(audit.unreadable.is_empty() && are_missing(dirs.as_slice(), missing))
 }

@@ -13,8 +13,8 @@ returns-clause-fits g c =
     let limits = c.args.refused.limits in
     let shell = c.args.refused.request.now.shell in
     let e = c.args.refused.env.now in
-    let path : Text = c.searched_path-modulepath.result.now in
-    let same : path ≡ modulepath e = c.searched_path-modulepath.ensures in
+    let path : Text = c.modulepath-searched.result.now in
+    let same : path ≡ modulepath e = c.modulepath-searched.ensures in
     subst (λ (p : Text). ForUnknown now limits shell e p c.args.name.now c.in_ok-asked.field-0) same
     (likes_are_said before now limits shell e path c.args.name.now (slice_texts c.as_slice.result.now)
     (ap (λ (l : List (Bor Text)). slice_texts l) c.as_slice.ensures.value ∙ c.in_ok-directories.ensures)
