@@ -245,7 +245,9 @@ def test_without_end(place):
     for number in range(1200):
         with open(os.path.join(path, f"{number}"), "w", encoding="utf-8") as file:
             file.write(f"#%Module\nprereq endless/{number + 1}\n")
-    found = place.run(place.module, ["load", "--auto", "endless/0"], place.start)
+    # (An explanation tries it all once more.)
+    env = {**place.start, "MODULECMD_EXPLAIN": "no"}
+    found = place.run(place.module, ["load", "--auto", "endless/0"], env)
     same(found, (1, "", "ERROR: Missing one of 'endless/1001'\n"), "an endless chain")
 
 
