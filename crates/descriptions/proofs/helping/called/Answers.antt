@@ -9,16 +9,16 @@ use Rattle.descriptions.specs.Views.{context_for}
 use Rattle.descriptions.proofs.HelpLemmas.{helps, of_text, unhelped, without_help}
 use Rattle.descriptions.proofs.helping.called.Goals as goal
 
-pub returns-in-Ok : goal.returns-in-Ok
-returns-in-Ok c =
+pub returns-in_ok-said-in-Ok : goal.returns-in_ok-said-in-Ok
+returns-in_ok-said-in-Ok c =
     let m = found_view c.args.found.now in
     let limits = c.args.request.limits in
     let context = context_for c.args.request m c.args.env.now in
     let called = c.as_str-2.ensures.value ∙ c.in_ok-text.ensures ∙ ap with_call c.as_str.ensures.value in
     let result : Result FileRun RunFault = Ok c.in-Ok.ran in
     let ran = of_text limits context (with_call m.text) c.as_str-2.result.now result called c.in-Ok.ensures in
-    helps limits context m (string_bytes c.args.description) c.in-Ok.ran ran.0 _ (string_bytes c.in_ok-said-in-Ok.said) ran.1 c.said_or-in-Ok.ensures
-    (c.in_ok-said-in-Ok.ensures ∙ ap (λ l. joined (map string_bytes l)) c.as_slice-in-Ok.ensures.value)
+    helps limits context m (string_bytes c.args.description) c.in-Ok.ran ran.0 _ (string_bytes c.in_ok-said-in-Ok.said) ran.1 c.said_or.ensures
+    (c.in_ok-said-in-Ok.ensures ∙ ap (λ l. joined (map string_bytes l)) c.as_slice.ensures.value)
 
 pub returns-then-lacks_help : goal.returns-then-lacks_help
 returns-then-lacks_help c =

@@ -21,3 +21,6 @@ returns-clause-ended g c = λ files listings agreed.
     (rw (c.in_ok-action.ensures, c.in_default.is) at (c.in_ok-refusal.ensures.answered files listings agreed))
     c.in_ok-changes.ensures.ok (c.in_ok-lost.ensures ∙ ap (λ (l : List Text). unset_among back l) was)
     (left_so (texts_in c.in_ok-names.names) cs lost (trial_view c.trial_of.result) c.in_ok-names.ensures c.trial_of.ensures)
+
+pub returns-in-Err-clause-failed : goal.returns-in-Err-clause-failed
+returns-in-Err-clause-failed g c = rw (c.in_ok-action.ensures, c.in-Err.is) at c.in_ok-refusal.ensures.failed
