@@ -17,8 +17,8 @@
 #                ONLY="NAME..." those suites alone, over the programs in build/bin, or in PROGRAMS=build/unproved
 #   make bench   a table of ratios beside a native program, Environment Modules and Lmod, and instructions where
 #                something grows (some minutes)
-#   make deps    installs by apt-get what try, build, demo, package, test and bench need; each of them does so where something is
-#                missing
+#   make deps    installs by apt-get what try, build, demo, package, test and bench need; each of them does so where
+#                something is missing
 
 PREFIX ?= /opt/modulecmd
 DESTDIR ?=

@@ -4,8 +4,9 @@
 
 leaves in the folder (build/dist): modulecmd-VERSION-x86_64-linux.tar.gz, whose install.sh lays the product out below any
 prefix; modulecmd_VERSION_amd64.deb, where there is a dpkg-deb; modulecmd-VERSION-1.x86_64.rpm, where there is an
-rpmbuild; and SHA256SUMS of these. Where a package isn't made, the last line says so, and the status is 1. The same tree gives the same bytes: names are sorted, owners are root, and times are
-SOURCE_DATE_EPOCH, or the last commit's, or VERSION's.
+rpmbuild; and SHA256SUMS of these. Where a package isn't made, the last line says so, and the status is 1.
+The same tree gives the same bytes: names are sorted, owners are root, and times are SOURCE_DATE_EPOCH, or the last
+commit's, or VERSION's.
 """
 
 import gzip

@@ -5,8 +5,9 @@
 #   tools/product.sh try DESTDIR PREFIX PROGRAM...
 #   tools/product.sh uninstall DESTDIR PREFIX
 #
-# A program of `make try`, of which nothing is proved, is refused by `install`; `try` takes it. PREFIX is where it will stand, and is written into the files that name one another; DESTDIR (empty, or a directory) is
-# put in front of it for whoever makes a package. A relative DESTDIR or PROGRAM begins where the caller stands. An install
+# `install` refuses a program of `make try`, of which nothing is proved; `try` takes it. PREFIX is where the product will
+# stand, and is written into the files that name one another. DESTDIR (empty, or a directory) is put in front of it for
+# whoever makes a package. A relative DESTDIR or PROGRAM begins where the caller stands. An install
 # that fails leaves what stood there as it was.
 set -eu
 umask 022
