@@ -3,7 +3,9 @@
 //! It is one of the names of the program `module`; it has no clause, so it has little code.
 #![tactic(auto)]
 
-use modulecmd::{DiskTree, GivenEnvironment, JudgingInput, judging_input, modcheck, write_refusal};
+use modulecmd::{
+    DiskTree, GivenEnvironment, JudgingInput, judging_input, run_check, write_refusal,
+};
 use std::process::ExitCode;
 
 /// Checks standard input by what the process is given, and gives the status of the check, with which the process has to
@@ -22,7 +24,7 @@ pub fn run(rt: HostRuntime) -> ExitCode {
     let GivenEnvironment { env, not_utf8 } = given;
     let alloc = rt.alloc();
     let mut tree = DiskTree::new(rt);
-    let status = modcheck(
+    let exit = run_check(
         alloc,
         arguments.as_slice(),
         &mut input,
@@ -32,5 +34,5 @@ pub fn run(rt: HostRuntime) -> ExitCode {
         &mut out,
         &mut err,
     );
-    ExitCode::from(status)
+    ExitCode::from(exit.status())
 }

@@ -1,5 +1,5 @@
 //! Runs a check (modcheck(1)): the lines of an input, what their requests would change, and the verdicts on modules.
-ghost use Rattle.std.specs.Prelude.{◌≡◌, map, Ok, Err, IfOk, IfErr, string_bytes};
+ghost use Rattle.std.specs.Prelude.{◌≡◌, [], map, Ok, Err, IfOk, IfErr, string_bytes};
 ghost use Rattle.filetree.specs.Agreement.{FailsOnlyAt, ReadsOn};
 ghost use Rattle.modulecmd.specs.Checking as spec;
 ghost use Rattle.modulecmd.specs.Checking.{CheckOfInputLooksAt, EndsCheck, IsCheckFault, check_status};
@@ -153,13 +153,12 @@ pub fn run_check<T: Tree, R: Read, W: Write, E: Write>(
     }
 }
 
-/// Checks lines as `run_check` does, and answers the status of the process.
+/// Checks lines as `run_check` does for a process whose variables are all UTF-8, and answers the status of the process.
 pub fn modcheck<T: Tree, R: Read, W: Write, E: Write>(
     alloc: Global,
     args: &[String],
     input: &mut R,
     env: Env,
-    not_utf8: &[String],
     tree: &mut T,
     out: &mut W,
     err: &mut E,
@@ -167,10 +166,10 @@ pub fn modcheck<T: Tree, R: Read, W: Write, E: Write>(
     ensures reads { ReadsOn T.agrees T.failures tree.old tree.new }
     ensures ended { (exit : CheckExit) × (result ≡ check_status exit)
         × EndsCheck exit (T.agrees tree.new) (T.failures tree.old) (T.failures tree.new) env
-        (map string_bytes not_utf8.now) (map string_bytes args.now) (R.remaining input.old) (R.remaining input.new)
+        [] (map string_bytes args.now) (R.remaining input.old) (R.remaining input.new)
         (W.contents out.old) (W.contents out.new) (E.contents err.old) (E.contents err.new) }
     ensures failed { FailsOnlyAt T.agrees T.failed tree.old tree.new
         (CheckOfInputLooksAt (map string_bytes args.now) (R.remaining input.old) (R.remaining input.new) env) }
 {
-    run_check(alloc, args, input, env, not_utf8, tree, out, err).status()
+    run_check(alloc, args, input, env, &[], tree, out, err).status()
 }
