@@ -14,7 +14,8 @@
 #   make package leaves in build/dist an archive with an install.sh for every Linux, Debian's package and an RPM
 #   make demo    installs them below build/demo, and shows loads, a switch, a check, unloads and an audit in a POSIX shell
 #   make test    the merge gate `rt ci`, the tests over real folders and real shells, and what each part took; with
-#                ONLY="NAME..." those suites alone, over the programs in build/bin, or in PROGRAMS=build/unproved
+#                ONLY="NAME..." those suites, or folders of tests/, alone, over the programs in build/bin, or in
+#                PROGRAMS=build/unproved
 #   make bench   a table of ratios beside a native program, Environment Modules and Lmod, and instructions where
 #                something grows (some minutes)
 #   make deps    installs by apt-get what try, build, demo, package, test and bench need; each of them does so where

@@ -1,7 +1,7 @@
 """What pytest gives the suites: the built programs, folders of modulefiles, the product as it is installed, and libraries
 that make calls fail.
 
-    python3 -B -m pytest tests/program.py -k reader
+    python3 -B -m pytest tests/core/program.py -k reader
 
 At the end stands what wasn't run and why, and then how many cases passed and how many failed. A case that compares rows
 counts as that many, and a property that holds as many as it had examples.
@@ -18,8 +18,8 @@ import pytest
 from hypothesis import HealthCheck, settings
 from hypothesis.configuration import set_hypothesis_home_dir
 
-from tests import harness, properties
-from tests.harness import Folder, are_tried, installed, refuser
+from tests.lib import harness, properties
+from tests.lib.harness import Folder, are_tried, installed, refuser
 
 sys.dont_write_bytecode = True
 

@@ -19,7 +19,7 @@ TRIED = os.path.join(TOP, "build", "unproved")
 sys.path += [TOP, os.path.join(TOP, "tools")]
 
 import link  # noqa: E402
-from tests.times import Sampler, children_seconds, table  # noqa: E402
+from tests.lib.times import Sampler, children_seconds, table  # noqa: E402
 
 COUNTS = re.compile(r"(\d+) passed, (\d+) failed")
 
@@ -39,55 +39,53 @@ MODULES = {"pytest": "python3-pytest", "hypothesis": "python3-hypothesis"}
 
 # The tests outside the gate: files below tests/, or a folder of them, that pytest runs.
 SUITES = (
-    "program.py",
-    "modulefiles.py",
-    "commands.py",
-    "sites.py",
-    "documents.py",
-    "public_names.py",
-    "sentence.py",
-    "certified.py",
-    "hands.py",
-    "losses.py",
-    "modcheck.py",
-    "modaudit.py",
-    "modport.py",
-    "site.py",
-    "function.py",
-    "explanations.py",
-    "saving.py",
-    "auto.py",
-    "plain.py",
-    "memory.py",
-    "numbers.py",
-    "device.py",
-    "available.py",
-    "hostile.py",
-    "search.py",
-    "shells",
-    "in_python.py",
-    "pages.py",
-    "allocations.py",
-    "systems.py",
+    "product/documents.py",
+    "product/public_names.py",
+    "core/program.py",
+    "core/modulefiles.py",
+    "core/commands.py",
+    "core/sentence.py",
+    "core/hands.py",
+    "core/modcheck.py",
+    "core/plain.py",
+    "core/available.py",
+    "core/search.py",
+    "core/costs.py",
     "tcl/compare.py",
     "tcl/values.py",
     "tcl/scripts.py",
     "tcl/commands.py",
     "tcl/memory.py",
-    "package.py",
-    "unproved.py",
-    "moved.py",
-    "costs.py",
-    "runs.py",
+    "shells",
+    "module/function.py",
+    "module/explanations.py",
+    "module/saving.py",
+    "module/auto.py",
+    "module/in_python.py",
+    "audit/certified.py",
+    "audit/losses.py",
+    "audit/modaudit.py",
+    "port/modport.py",
+    "port/moved.py",
+    "faults/failed_allocations.py",
+    "faults/device.py",
+    "faults/hostile.py",
+    "faults/systems.py",
+    "sites/styles.py",
+    "sites/whole.py",
+    "models/runs.py",
+    "product/pages.py",
+    "product/package.py",
+    "product/unproved.py",
 )
 
 
 # What `make smoke` runs of them, over the programs of `make try`, and with which words for pytest.
 SMOKE = {
-    "documents.py": (),
-    "modulefiles.py": (),
-    "commands.py": (),
-    "search.py": ("-k", "test_searches and not turns"),
+    "product/documents.py": (),
+    "core/modulefiles.py": (),
+    "core/commands.py": (),
+    "core/search.py": ("-k", "test_searches and not turns"),
     "shells": ("-k", "bash"),
 }
 
@@ -200,14 +198,24 @@ def suite(python, script, programs, words=()):
     return *counts, children_seconds() - before
 
 
+def suites_of(name):
+    """The suites that a name means, with or without `.py`: one, those of a folder, or else the only one that has this
+    name in its folder."""
+    name = name.removesuffix(".py").rstrip("/")
+    known = {script.removesuffix(".py"): script for script in SUITES}
+    found = [script for path, script in known.items() if f"{path}/".startswith(f"{name}/")]
+    alone = [script for path, script in known.items() if path.endswith(f"/{name}")]
+    return found or (alone if len(alone) == 1 else [])
+
+
 def chosen(names):
-    """The suites of these names, each with or without `.py`; all where none is named."""
-    wanted = {name.removesuffix(".py") for name in names}
-    known = [script.removesuffix(".py") for script in SUITES]
-    unknown = wanted.difference(known)
+    """The suites of these names, in their order; all where none is named."""
+    unknown = [name for name in names if not suites_of(name)]
     if unknown:
-        sys.exit(f"no suite is called {' '.join(sorted(unknown))}; there are: {' '.join(known)}")
-    return [it for it, name in zip(SUITES, known) if not names or name in wanted]
+        known = " ".join(script.removesuffix(".py") for script in SUITES)
+        sys.exit(f"no suite, or more than one, is called {' '.join(unknown)}; there are: {known}")
+    wanted = {script for name in names for script in suites_of(name)}
+    return [script for script in SUITES if not names or script in wanted]
 
 
 def words():
@@ -217,7 +225,7 @@ def words():
         nargs="+",
         metavar="NAME",
         default=[],
-        help="run no gate, and of the suites these alone, as `program` or `tcl/scripts`",
+        help="run no gate, and of the suites these alone, as `core/program`, `program`, or a folder",
     )
     parser.add_argument(
         "--program-dir", default=BUILT, help="with --only: the folder of the programs (build/bin)", metavar="FOLDER"

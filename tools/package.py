@@ -27,7 +27,7 @@ import rpm_package
 TOP = os.path.dirname(os.path.dirname(os.path.abspath(__file__)))
 
 # What `tools/product.sh` reads, and what the archive has to be read.
-FOLDERS = ("init", "libexec", "completion", "man", "etc", "docs", "tests/sites")
+FOLDERS = ("init", "libexec", "completion", "man", "etc", "docs", "tests/sites/examples")
 FILES = ("tools/product.sh", "VERSION", "README.md", "CHANGELOG.md", "SECURITY.md", "LICENSE")
 LEFT_OUT = shutil.ignore_patterns(".*", "*~")
 

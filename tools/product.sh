@@ -124,7 +124,7 @@ fill() {
             return
             ;;
         share/examples/*)
-            cat -- "tests/sites/${1#share/examples/}"
+            cat -- "tests/sites/examples/${1#share/examples/}"
             return
             ;;
         etc/modulespath.example) set -- etc/modulespath ;;

@@ -7,7 +7,7 @@ import shutil
 
 import pytest
 
-from tests.harness import same
+from tests.lib.harness import same
 from tests.shells.session import LINES, MARKS, ODD_NAME, Session, changed, same_environment
 from tests.shells.shells import content, in_csh
 from tests.shells.texts import word

@@ -2,7 +2,7 @@
 
 import pytest
 
-from tests.harness import same
+from tests.lib.harness import same
 from tests.shells.session import changed, same_environment
 
 

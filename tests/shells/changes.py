@@ -9,7 +9,7 @@ import subprocess
 
 import pytest
 
-from tests.harness import NOBODY, SECONDS, encoded, same, true
+from tests.lib.harness import NOBODY, SECONDS, encoded, same, true
 from tests.shells.session import ODD_NAME
 from tests.shells.shells import FAMILIES, content
 from tests.shells.texts import text

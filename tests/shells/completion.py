@@ -3,7 +3,7 @@ program."""
 
 import os
 
-from tests.harness import same, true
+from tests.lib.harness import same, true
 from tests.shells.shells import content, in_shells
 
 where_completed = in_shells(lambda it: it.completes)

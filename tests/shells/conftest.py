@@ -7,7 +7,7 @@ import subprocess
 
 import pytest
 
-from tests.harness import installed
+from tests.lib.harness import installed
 from tests.shells.session import Session, Terminal
 from tests.shells.shells import SHELLS
 from tests.shells.texts import StandIn

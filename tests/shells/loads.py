@@ -2,7 +2,7 @@
 
 import os
 
-from tests.harness import same, true
+from tests.lib.harness import same, true
 from tests.shells.session import LINES, MARKS, REFUSAL, changed, same_environment
 from tests.shells.shells import in_csh, in_shells
 from tests.shells.texts import text, word

@@ -7,7 +7,7 @@ import subprocess
 
 import pytest
 
-from tests.harness import same, true
+from tests.lib.harness import same, true
 from tests.shells.changes import Changes
 from tests.shells.shells import content, without_own
 

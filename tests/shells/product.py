@@ -7,14 +7,14 @@ import subprocess
 
 import pytest
 
-from tests.harness import loaded, same, true
+from tests.lib.harness import loaded, same, true
 from tests.shells.shells import FAMILIES, content, in_sh, in_shells
 
 HERE = os.path.dirname(os.path.abspath(__file__))
 TOP = os.path.dirname(os.path.dirname(HERE))
 
 # The modulefiles that the pages show.
-SITES = os.path.join(TOP, "tests", "sites")
+SITES = os.path.join(TOP, "tests", "sites", "examples")
 EXAMPLES = sorted(
     os.path.relpath(os.path.join(at, name), SITES) for at, _, names in os.walk(SITES) for name in names
 )

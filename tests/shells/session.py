@@ -8,7 +8,7 @@ import subprocess
 import termios
 import time
 
-from tests.harness import SECONDS, Failed, encoded
+from tests.lib.harness import SECONDS, Failed, encoded
 from tests.shells.shells import content
 from tests.shells.texts import text, word
 

@@ -7,7 +7,7 @@ import typing
 
 import pytest
 
-from tests.harness import SECONDS, Failed, same
+from tests.lib.harness import SECONDS, Failed, same
 
 # The names of shells that the program is told, each with its family.
 FAMILIES = {"sh": "sh", "bash": "sh", "ksh": "sh", "zsh": "sh", "csh": "csh", "tcsh": "csh", "fish": "fish"}

@@ -6,7 +6,7 @@ import shutil
 
 import pytest
 
-from tests.harness import same, true
+from tests.lib.harness import same, true
 from tests.shells.session import pages
 from tests.shells.shells import at_terminals, content, in_tcsh
 

@@ -5,7 +5,7 @@ import re
 import subprocess
 from concurrent.futures import ThreadPoolExecutor
 
-from tests.harness import same
+from tests.lib.harness import same
 
 HERE = os.path.dirname(os.path.abspath(__file__))
 SECONDS = 600

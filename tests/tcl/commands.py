@@ -5,7 +5,7 @@ Where the profile differs from Tcl 8.6 the answer stands here, with its rule."""
 import os
 import subprocess
 
-from tests.harness import SECONDS, same
+from tests.lib.harness import SECONDS, same
 from tests.tcl.answers import HERE, tclsh
 
 CRATE = os.path.join(HERE, "..", "..", "crates", "cases_tcl")

@@ -4,7 +4,7 @@ import subprocess
 
 import pytest
 
-from tests.harness import SECONDS, refuses_each, true
+from tests.lib.harness import SECONDS, refuses_each, true
 from tests.tcl.answers import word
 
 SCRIPT = 'setenv A {b c} "d\\n$e(f) [g h]"\n# i\nj {*}$k \\x41\n'

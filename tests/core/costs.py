@@ -1,0 +1,87 @@
+"""Counts the instructions of some commands, or their calls of the system, and compares them with what
+tests/core/costs.txt says.
+
+A count that is more than a tenth above the one that is written there fails. Counts don't move with the machine's other
+work; those of a C library of another version differ a little.
+"""
+
+import os
+import re
+import shutil
+import subprocess
+import tempfile
+
+import pytest
+
+import goals  # in bench/
+from link import is_static  # in tools/
+from tests.lib.harness import HERE, true
+
+ABOVE = 1.1
+
+# What makes the counts of each function of bench/, and shows whether it can.
+COUNTERS = {
+    goals.instructions: ["valgrind", "--version"],
+    goals.system_calls: ["strace", "-f", "-o", os.devnull, "true"],
+}
+
+GOALS = {goal.title: goal for goal in goals.GOALS}
+
+NUMBER = re.compile(r"[0-9]{1,3}(,[0-9]{3})*(\.[0-9]+)?")
+
+
+def count_in(line):
+    """The title and the count of a line of the file."""
+    title, _, count = line.rstrip("\n").rpartition(": ")
+    true(title in GOALS and NUMBER.fullmatch(count), f"tests/core/costs.txt has titles of bench/goals.py with counts: {line!r}")
+    return title, float(count.replace(",", ""))
+
+
+def said():
+    """The counts that are written down, by their titles."""
+    with open(os.path.join(HERE, "core", "costs.txt"), encoding="utf-8") as lines:
+        return dict(count_in(line) for line in lines if not line.startswith("#"))
+
+
+def hindrance(words):
+    """Why a program can't count here, or None where it can."""
+    if not shutil.which(words[0]):
+        return f"{words[0]}, which counts, isn't there"
+    done = subprocess.run(words, stdin=subprocess.DEVNULL, capture_output=True, check=False)
+    if done.returncode != 0:
+        said_last = done.stderr.decode(errors="replace").strip().rpartition("\n")[2]
+        return f"{words[0]}, which counts, isn't permitted here: {said_last}"
+    return None
+
+
+class Counts:
+    """What the goals with these titles count of a program. Those of one program that counts are made at once."""
+
+    def __init__(self, program, folder):
+        self.program, self.folder, self.found = program, folder, {}
+
+    def count(self, title):
+        """The count of a title. Where it can't be made, the test isn't run."""
+        counter = GOALS[title].counter
+        if counter not in self.found:
+            hindered = hindrance(COUNTERS[counter])
+            titles = [other for other in said() if GOALS[other].counter == counter]
+            self.found[counter] = hindered or goals.counts(self.program, self.folder, titles)
+        if isinstance(self.found[counter], str):
+            pytest.skip(self.found[counter])
+        return self.found[counter][title]
+
+
+@pytest.fixture(scope="module")
+def counts(program):
+    if not is_static(program):
+        pytest.skip("the program is linked dynamically, and the counts are those of a static link")
+    with tempfile.TemporaryDirectory(prefix="modulecmd-costs-") as folder:
+        yield Counts(program, folder)
+
+
+@pytest.mark.parametrize("title, most", said().items(), ids=list(said()))
+def test_what_is_written_down(title, most, counts, note):
+    count = counts.count(title)
+    note(f"{goals.written(count)}, written down {goals.written(most)}")
+    true(count <= ABOVE * most, "it is more than a tenth above")
