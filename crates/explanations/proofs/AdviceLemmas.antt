@@ -106,8 +106,7 @@ module _ (agrees : Files → Listings → Type 0) (limits : Limits) (shell : She
   accepted_by failed action result changed is h exact (text, says) = (
     changed_view e changed,
     subst (λ (r : Result RequestChanges Refusal). Answers failed action r) is h,
-    text,
-    record { changes = new_values_in changed.changes; exact = subst AreExact is exact; says = says },
+    (text, record { changes = new_values_in changed.changes; exact = subst AreExact is exact; says = says }),
   )
 
   pub unsaid_by : (failed : Type 0) (action : RequestedAction) (result : Result RequestChanges Refusal) (changed : RequestChanges)

@@ -51,7 +51,7 @@ not_automatic before now failed shell e Comes (automatic.Unprinted (prints.NotSa
 -- the step of an answer is accepted
 pub accepted_answer : (agrees : Files → Listings → Type 0) (limits : Limits) (shell : Shell) (e : Environment) (action : RequestedAction) (a : AutomaticAnswer)
     → IsAnswer agrees shell e (λ files listings. RequestStep (request_context_in limits shell files listings) e action) a → IsAccepted agrees limits shell e action
-accepted_answer agrees limits shell e action a (d, comes, text, messages, loaded) = (d, comes, string_bytes a.text, text)
+accepted_answer agrees limits shell e action a (d, comes, text, messages, loaded) = (d, comes, (string_bytes a.text, text))
 
 -- what is advised is sound where its action is accepted
 pub sound_automated : (agrees : Files → Listings → Type 0) (limits : Limits) (shell : Shell) (e : Environment) (asked : List Text) (action : Action) (advice : Advice)

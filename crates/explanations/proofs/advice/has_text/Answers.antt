@@ -4,5 +4,6 @@ use Rattle.explanations.proofs.advice.has_text.Goals as goal
 pub returns-in-Ok-clause-said : goal.returns-in-Ok-clause-said
 returns-in-Ok-clause-said c = λ is. (string_bytes c.in-Ok.field-0, c.in-Ok.ensures.text)
 
-pub returns-in-NotSayable-in-Err-clause-unsaid : goal.returns-in-NotSayable-in-Err-clause-unsaid
-returns-in-NotSayable-in-Err-clause-unsaid c = λ is. (string_bytes c.in-NotSayable-in-Err.field-0, c.in-NotSayable-in-Err.ensures.fault)
+pub returns-in-Err-NotSayable-clause-unsaid : goal.returns-in-Err-NotSayable-clause-unsaid
+returns-in-Err-NotSayable-clause-unsaid c = λ is.
+    (string_bytes c.in-Err-NotSayable.field-0-0, rw c.in-Err-NotSayable.field-0-is at c.in-Err-NotSayable.ensures.fault)

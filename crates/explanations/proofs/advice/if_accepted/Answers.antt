@@ -15,19 +15,19 @@ pub returns-then-branch-clause-advised : goal.returns-then-branch-clause-advised
 returns-then-branch-clause-advised g c =
     let shell = c.args.refused.request.now.shell in
     accepted_by (g.T.Tree.agrees c.run_changes-outcome.new.tree) c.args.refused.limits shell c.args.refused.env.now _ (action_view c.args.action)
-    c.run_changes-outcome.result c.in-Ok.changed (sym c.in_ok-unless_given_up.ensures.same ∙ c.in-Ok.is) c.run_changes-outcome.ensures.over_tree c.run_changes-outcome.ensures.exact
-    (subst (λ (l : List Change). IsSaid shell (map new_value_of l)) c.as_slice-in-Ok.ensures.value (c.in_ok-has_text-in-Ok.ensures.said c.if-branch.true))
+    c.run_changes-outcome.result c.in-Ok.changed (sym c.in_ok-changed.ensures.same ∙ c.in-Ok.is) c.run_changes-outcome.ensures.over_tree c.run_changes-outcome.ensures.exact
+    (subst (λ (l : List Change). IsSaid shell (map new_value_of l)) c.as_slice.ensures.value (c.in_ok-has_text-in-Ok.ensures.said c.if-branch.true))
 
 pub returns-else-branch-clause-none : goal.returns-else-branch-clause-none
 returns-else-branch-clause-none g c =
     let shell = c.args.refused.request.now.shell in
     unsaid_by (g.T.Tree.agrees c.run_changes-outcome.new.tree) c.args.refused.limits shell c.args.refused.env.now _ (action_view c.args.action)
-    c.run_changes-outcome.result c.in-Ok.changed (sym c.in_ok-unless_given_up.ensures.same ∙ c.in-Ok.is) c.run_changes-outcome.ensures.over_tree c.run_changes-outcome.ensures.exact
-    (subst (λ (l : List Change). IsNotSaid shell (map new_value_of l)) c.as_slice-in-Ok.ensures.value (c.in_ok-has_text-in-Ok.ensures.unsaid c.if-branch.false))
+    c.run_changes-outcome.result c.in-Ok.changed (sym c.in_ok-changed.ensures.same ∙ c.in-Ok.is) c.run_changes-outcome.ensures.over_tree c.run_changes-outcome.ensures.exact
+    (subst (λ (l : List Change). IsNotSaid shell (map new_value_of l)) c.as_slice.ensures.value (c.in_ok-has_text-in-Ok.ensures.unsaid c.if-branch.false))
 
 pub returns-in-Err-clause-none : goal.returns-in-Err-clause-none
 returns-in-Err-clause-none g c =
     inl (refused_by (g.T.Tree.agrees c.run_changes-outcome.new.tree) c.args.refused.limits c.args.refused.request.now.shell c.args.refused.env.now _ (action_view c.args.action)
-    c.run_changes-outcome.result c.in-Err.field-0 (sym c.in_ok-unless_given_up.ensures.same ∙ c.in-Err.is)
-    (subst (λ (r : Result RequestChanges Refusal). IfErr r (λ refusal. is_given_up (cause_of refusal) ≡ false)) c.in-Err.is c.in_ok-unless_given_up.ensures.kept)
+    c.run_changes-outcome.result c.in-Err.field-0 (sym c.in_ok-changed.ensures.same ∙ c.in-Err.is)
+    (subst (λ (r : Result RequestChanges Refusal). IfErr r (λ refusal. is_given_up (cause_of refusal) ≡ false)) c.in-Err.is c.in_ok-changed.ensures.kept)
     c.run_changes-outcome.ensures.over_tree)
