@@ -38,13 +38,13 @@ returns-then-is_nothing-clause-refused g c =
     let wanted = wanted_view c.args.wanted.now in
     let found = rw (c.in_ok-judged.ensures.set, c.as_slice-directories.ensures.value, c.as_slice.ensures.value) at c.in_ok-audit.ensures.found in
     none_there wanted.without c.in_ok-audit.audit found.found.directories found.found.exact
-    (rw c.in_ok-judged.ensures.set at (sym c.in_ok-is_nothing.ensures ∙ c.if-is_nothing.true))
+    (rw (c.in_ok-judged.ensures.set, c.as_slice-directories.ensures.value) at (sym c.in_ok-is_nothing.ensures ∙ c.if-is_nothing.true))
 
 pub returns-clause-answered : goal.returns-clause-answered
 returns-clause-answered g c = record {
   audit = c.in_ok-audit.audit;
   tried = rw (c.in_ok-judged.ensures.set, c.as_slice-directories.ensures.value, c.as_slice.ensures.value) at c.in_ok-audit.ensures.found;
-  there = rw c.in_ok-judged.ensures.set at (sym c.in_ok-is_nothing.ensures ∙ c.if-is_nothing.false);
+  there = rw (c.in_ok-judged.ensures.set, c.as_slice-directories.ensures.value) at (sym c.in_ok-is_nothing.ensures ∙ c.if-is_nothing.false);
   certified = c.is_all_certified.ensures;
   report = c.in_ok-report.ensures;
 }
