@@ -1368,6 +1368,9 @@ def test_none_more_can_be_certified(program, tmp_path, data):
     top = sentence.emptied(tmp_path / "top")
     site = data.draw(certified.sites("sh", (f"{top}/tree/one", f"{top}/tree/two")))
     site.tree.write()
+    # A site without a module has its directories all the same: an audit of none is refused.
+    for directory in site.modulepath.split(":"):
+        os.makedirs(directory, exist_ok=True)
     found = certified.audit_of(program, site, site.at_hand)["modules"]
     places = {(module["name"], module["path"]) for module in found if module["standing"] == "certified"}
     sure = [module for module in site.modules if (module.name, module.path) in places]

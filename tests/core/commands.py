@@ -75,6 +75,8 @@ class Session:
         if given is None:
             return
         text, said, ended = self.checks(words(line)[0], given)
+        # (modcheck also names the variables that aren't UTF-8, which the program passes over)
+        said = "".join(it for it in said.splitlines(True) if not it.startswith("# environment: "))
         if status == 0:
             said = said.split("\n")[0] + "\n"
         if err.endswith(UNSAYABLE):

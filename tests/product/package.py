@@ -42,7 +42,7 @@ FOLDERS = """usr/bin usr/lib usr/lib64 dev tmp root opt modules/foo etc/zsh etc/
 # Folders that other packages have, so that dpkg doesn't remove them.
 OF_OTHERS = (
     "etc/profile.d", "etc/csh/cshrc.d", "etc/alternatives", "usr/share/fish/vendor_conf.d", "usr/share/doc",
-    "usr/share/man/man1",
+    "usr/share/man/man1", "usr/share/man/man5",
 )  # fmt: skip
 LIBRARY = re.compile(r"(/\S+) \(0x")
 
