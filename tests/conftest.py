@@ -58,17 +58,17 @@ def pytest_configure(config):
 
 
 @pytest.fixture(scope="session")
-def programs(pytestconfig):
+def program_folder(pytestconfig):
     """The folder of the built programs."""
     return folder_of_programs(pytestconfig)
 
 
 @pytest.fixture(scope="session")
-def built(programs):
+def built(program_folder):
     """Gives the path of the built program of a name."""
 
     def path_of(name):
-        path = os.path.join(programs, name)
+        path = os.path.join(program_folder, name)
         if not os.path.isfile(path):
             pytest.fail(f"there is no {path}; CONTRIBUTING.md says what builds it (Tests alone)", pytrace=False)
         return path
@@ -77,10 +77,10 @@ def built(programs):
 
 
 @pytest.fixture(scope="session")
-def as_shipped(programs):
+def as_shipped(program_folder):
     """Has a case run over programs as they are shipped alone. Those of `make try` have a sanitizer, which takes time and
     memory, and gives the program memory in the C library's place."""
-    if are_tried(programs):
+    if are_tried(program_folder):
         pytest.skip("it says nothing of programs of `make try`, which have a sanitizer")
 
 
@@ -107,10 +107,10 @@ def place():
 
 
 @pytest.fixture(scope="session")
-def product(place, programs, built):
+def product(place, program_folder, built):
     """The prefix of the product over the program."""
     built("modulecmd")
-    return installed(os.path.join(place, "the program"), programs)
+    return installed(os.path.join(place, "the program"), program_folder)
 
 
 @pytest.fixture(scope="session")

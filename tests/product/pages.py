@@ -96,10 +96,10 @@ def blocks(text, language):
 
 
 @pytest.fixture
-def install(programs, built):
+def install(program_folder, built):
     """Installs the product below a prefix."""
     built("modulecmd")
-    return lambda prefix: installed(prefix, programs)
+    return lambda prefix: installed(prefix, program_folder)
 
 
 class Typed:

@@ -35,10 +35,10 @@ def shell(request):
 
 
 @pytest.fixture(scope="session")
-def scripted_product(place, programs, built):
+def scripted_product(place, program_folder, built):
     """The prefix of the product with the script that stands in for the program."""
     built("modulecmd")
-    prefix = installed(os.path.join(place, "stand in, (1) #;<~^=:@"), programs)
+    prefix = installed(os.path.join(place, "stand in, (1) #;<~^=:@"), program_folder)
     program = shutil.copy(os.path.join(HERE, "stand_in.sh"), os.path.join(prefix, "bin", "modulecmd"))
     os.chmod(program, 0o755)
     return prefix

@@ -83,9 +83,9 @@ def below(path):
 
 
 @pytest.mark.usefixtures("as_shipped")
-def test_install_lays_out_every_file_and_uninstall_takes_it_away(folder, programs):
+def test_install_lays_out_every_file_and_uninstall_takes_it_away(folder, program_folder):
     place = os.path.join(folder.path, b"new place").decode()
-    made("install", f"PROGRAMS={programs}", f"PREFIX={place}")
+    made("install", f"PROGRAMS={program_folder}", f"PREFIX={place}")
     same(below(place), sorted(FILES), "the files")
     for name in FILES:
         text = content(os.path.join(place, name))
@@ -97,10 +97,10 @@ def test_install_lays_out_every_file_and_uninstall_takes_it_away(folder, program
 
 
 @pytest.mark.usefixtures("as_shipped")
-def test_install_for_a_package_names_the_final_place(folder, programs):
+def test_install_for_a_package_names_the_final_place(folder, program_folder):
     here = folder.path.decode()
     stage, final = os.path.join(here, "stage"), os.path.join(here, "final place")
-    made("install", f"PROGRAMS={programs}", f"DESTDIR={stage}", f"PREFIX={final}/")
+    made("install", f"PROGRAMS={program_folder}", f"DESTDIR={stage}", f"PREFIX={final}/")
     same(below(stage + final), sorted(FILES), "the files")
     for name in FILES:
         true(os.fsencode(stage) not in content(stage + os.path.join(final, name)), f"{name} doesn't name DESTDIR")
@@ -114,14 +114,14 @@ def test_install_for_a_package_names_the_final_place(folder, programs):
 
 
 @pytest.mark.usefixtures("as_shipped")
-def test_install_keeps_the_site_s_own_file(folder, programs):
+def test_install_keeps_the_site_s_own_file(folder, program_folder):
     place = os.path.join(folder.path, b"p").decode()
-    made("install", f"PROGRAMS={programs}", f"PREFIX={place}")
+    made("install", f"PROGRAMS={program_folder}", f"PREFIX={place}")
     own = os.path.join(place, "etc/modulespath")
     same(content(own), content(os.path.join(place, "etc/modulespath.example")), "the first")
     with open(own, "wb") as file:
         file.write(b"/site\n")
-    made("install", f"PROGRAMS={programs}", f"PREFIX={place}")
+    made("install", f"PROGRAMS={program_folder}", f"PREFIX={place}")
     same(content(own), b"/site\n", "behind a second install")
     made("uninstall", f"PREFIX={place}")
     same(below(place), ["etc/modulespath"], "what uninstall leaves")
@@ -149,10 +149,10 @@ def test_an_exported_cdpath_leads_no_script_astray(folder):
 
 
 @pytest.mark.usefixtures("as_shipped")
-def test_install_refuses_a_prefix_that_shells_would_misread(folder, programs):
+def test_install_refuses_a_prefix_that_shells_would_misread(folder, program_folder):
     marks = ("'", '"', "`", "$$", "!", "\\", "|", "&", "*", "?", "[", "]", "{", "}")
     for prefix in ("relative", "", "/", *(f"/a{mark}b" for mark in marks)):
-        done = make("install", f"PROGRAMS={programs}", f"PREFIX={prefix}", f"DESTDIR={folder.path.decode()}/no")
+        done = make("install", f"PROGRAMS={program_folder}", f"PREFIX={prefix}", f"DESTDIR={folder.path.decode()}/no")
         true(done.returncode != 0, f"the prefix {prefix} is refused")
     same(os.path.exists(folder.path + b"/no"), False, "nothing is laid out")
 
