@@ -1,5 +1,6 @@
 """What the documents name, and whether it is there: the functions, clauses and definitions in the tables of the crates'
-pages, the lists and paths of docs/ARCHITECTURE.md, and the files, crates and suites that any page names."""
+pages, the lists and paths of docs/ARCHITECTURE.md, the definitions of docs/SPECIFICATION.md, and the files, crates and
+suites that any page names."""
 
 import functools
 import os
@@ -8,6 +9,7 @@ import re
 from tests.lib.harness import HERE, Failed, true
 
 import rooms  # in tools/, which harness puts into the path
+import specification
 
 TOP = os.path.dirname(HERE)
 CRATES = os.path.join(TOP, "crates")
@@ -25,27 +27,30 @@ OF_FAULTS = {"number", "numbered"}
 # What is public for the crates above alone, which CLAIMS omits.
 HELPERS = {
     "envvars": ("escapes", "fields", "table"),
-    "sitelaws": ("directory_set",),
+    "audit_laws": ("directory_set",),
 }
 
 # A citation of a file of definitions or lemmas; what the prover makes has other homes.
-CITATION = re.compile(r"\bRattle\.(\w+)\.(specs|proofs)\.(?!declared\b|contracts\b)([A-Z]\w*)")
+CITATION = re.compile(r"\bRattle\.(\w+)\.(specs|proofs)\.(?!declared\b|contracts\b)((?:[a-z]\w*\.)?[A-Z]\w*)")
 
 # ARCHITECTURE is read before the first change.
 MOST_BYTES = 12_000
 
 # The crates of other layers that those of some layers may list, as ARCHITECTURE says.
 BOUNDARIES = {
-    ("Texts of Tcl", "Evaluation of Tcl"): {"message"},
-    ("Environment",): {"message", "modulename"},
+    ("Core: Tcl",): {"message"},
+    ("Core: environment",): {"message", "modulename"},
 }
+
+# The groups of crates.txt whose crates may list crates of every group: the program that is all tools, and rows.
+FREE_GROUPS = ("Program of the tools", "Programs of rows")
 
 # What begins like a path of the repository: a folder at its top, or one of a crate.
 FOLDERS = "bench|completion|crates|demo|docs|etc|init|libexec|man|tests|tools"
 PATH = re.compile(rf"(?:{FOLDERS})/|\w+/(?:src|specs|proofs|must-fail)/")
 FILE = re.compile(r"[\w.-][\w./-]*\.(?:antt|c|edit|fish|md|py|rt|sh|txt)")
 WORD = re.compile(r"[A-Za-z]+(?:_\w+|[a-z][A-Z]\w*)")
-CRATE = re.compile(r"tcl(?!sh$)[a-z]+|env(?!iron)[a-z]+|cases_\w+")
+CRATE = re.compile(r"tcl(?!sh$)[a-z]+|env(?!iron)[a-z]+|cases_\w+|audit_\w+")
 
 # A row of the table in REFUSALS.md, what stands there for what a refusal names, and the rows of the program.
 REFUSAL = re.compile(r"^\| `\w+`[^|]*\| ([0-9, ]+) \| ([^|]*) \|", re.MULTILINE)
@@ -64,7 +69,7 @@ LIKE_A_CRATE = re.compile(r"[a-z]\w*")
 NO_CRATES = {"std", "a"}
 
 # The homes of a file, in parentheses behind it.
-HOMES = re.compile(r"\(in ((?:`\w+`(?:, | and )?)+)")
+HOMES = re.compile(r"\(in ((?:`[\w:]+`(?:, | and )?)+)")
 LINK = re.compile(r"\]\(([^)#]+)\)")
 BLOCK = re.compile(r"^ *```.*?^ *```$", re.DOTALL | re.MULTILINE)
 
@@ -126,8 +131,10 @@ def functions_in(text):
 
 @functools.cache
 def sources(crate):
-    folder = os.path.join(CRATES, crate, "src")
-    return {name[:-3]: content("crates", crate, "src", name) for name in sorted(os.listdir(folder))}
+    """The texts of a crate's source files by their paths below src/, without the ending."""
+    top = os.path.join(CRATES, crate, "src")
+    paths = [os.path.relpath(os.path.join(at, name), top) for at, _, names in os.walk(top) for name in names]
+    return {path[:-3]: content("crates", crate, "src", path) for path in sorted(paths)}
 
 
 @functools.cache
@@ -135,15 +142,16 @@ def functions_of(crate):
     return [function for text in sources(crate).values() for function in functions_in(text)]
 
 
-def exported(crate):
-    """What users of a crate can name: what its lib.rt hands on, and what it or a public module defines."""
+def exported(crate, root="lib"):
+    """What users of a crate can name: what a root file hands on, and what it or a public module defines."""
     texts = sources(crate)
-    if "lib" not in texts:
+    if root not in texts:
         return set()
-    names = set(re.findall(r"\w+", " ".join(re.findall(r"pub use [^;]*;", texts["lib"]))))
-    for module in ["lib", *re.findall(r"pub mod (\w+);", texts["lib"])]:
+    names = set(re.findall(r"\w+", " ".join(re.findall(r"pub use [^;]*;", texts[root]))))
+    names |= {function.name for function in functions_in(texts[root]) if not function.owner}
+    for module in re.findall(r"pub mod (\w+);", texts[root]):
         if module not in HELPERS.get(crate, ()):
-            names |= {function.name for function in functions_in(texts[module]) if not function.owner}
+            names |= {module} | exported(crate, module if root == "lib" else f"{root}/{module}")
     return names
 
 
@@ -189,7 +197,8 @@ def check_claims():
 def check_examples():
     """The examples that show what a premise is for are clauses of their functions, and CLAIMS names each of these."""
     shown = [word for _, where in cells(content("docs", "CLAIMS.md"), PREMISES) for word in SPAN.findall(where)]
-    functions = [it for crate in ("reversal", "handchanges") for it in functions_in(sources(crate)["examples"])]
+    homes = (("reversal", "examples"), ("requests", "hand_changes/examples"))
+    functions = [it for crate, file in homes for it in functions_in(sources(crate)[file])]
     examples = {clause for it in functions for clause in it.clauses if clause}
     known = examples | {it.name for it in [*functions, *functions_in(sources("reversal")["laws"])]}
     other = (examples - set(shown)) | (set(shown) - known)
@@ -268,6 +277,16 @@ def check_rooms():
     true(is_made, "`python3 tools/rooms.py --write` made the lists of ARCHITECTURE")
 
 
+def check_specification():
+    """SPECIFICATION is the page that tools/specification.py makes of the definitions as they stand in specs/."""
+    try:
+        made = specification.page()
+    except (OSError, ValueError) as fault:
+        raise Failed(str(fault)) from fault
+    is_made = content("docs", "SPECIFICATION.md") == made
+    true(is_made, "`python3 tools/specification.py --write` made SPECIFICATION")
+
+
 def check_doors():
     """ARCHITECTURE is short, and a path on it begins at the top of the repository, in crates/ or beside the page."""
     architecture = content("docs", "ARCHITECTURE.md")
@@ -300,6 +319,15 @@ def check_boundaries():
         true(outside == allowed, f"{wanted}: {sorted(outside)}")
 
 
+def check_tools():
+    """The crates of base and core list no tool; those of a tool list crates of base, core and their own group alone."""
+    home = {crate: group for group, crates in rooms.groups() for crate in crates}
+    for crate, listed in rooms.lists().items():
+        allowed = {home[crate]} | {group for group in home.values() if group.startswith(("Base", "Core"))}
+        other = {lower for lower in listed if lower in home and home[lower] not in allowed}
+        true(not other or home[crate] in FREE_GROUPS, f"{crate}, of {home[crate]}, lists {sorted(other)}")
+
+
 def check_heads():
     """Each crate has a page, which begins with the first two lines of its root file: what it knows, and what it may
     touch."""
@@ -319,9 +347,11 @@ def check_crates():
             if CRATE.fullmatch(crate) or (rest and LIKE_A_CRATE.fullmatch(crate) and crate not in NO_CRATES):
                 true(crate in crates, f"{page} names a crate that is there: {crate}")
             if crate in crates and rest:
-                known = {it.name for it in functions_of(crate)} | exported(crate) | set(sources(crate))
+                modules = {part for path in sources(crate) for part in path.split("/")}
+                known = {it.name for it in functions_of(crate)} | exported(crate) | modules
                 true(rest[-1].strip("(),") in known, f"{page} names a function that is there: {name}")
-        for crate in SPAN.findall(" ".join(HOMES.findall(text))):
+        for home in SPAN.findall(" ".join(HOMES.findall(text))):
+            crate = home.split("::")[0]
             true(crate in crates, f"{page} names a crate that is there: {crate}")
 
 
@@ -330,7 +360,10 @@ def check_citations():
     for path in files():
         if path.endswith((".antt", ".rt")):
             for crate, kind, name in CITATION.findall(content(path)):
-                file = os.path.join(CRATES, crate, kind, f"{name}.antt")
+                part, _, last = name.rpartition(".")
+                if kind == "proofs" and part and not os.path.exists(os.path.join(CRATES, crate, kind, f"{part}.antt")):
+                    continue  # a type of a source file, with a folder for each of its functions
+                file = os.path.join(CRATES, crate, kind, part, f"{last}.antt")
                 is_there = crate not in rooms.lists() or os.path.exists(file)
                 true(is_there, f"{path} cites a file where it stands: Rattle.{crate}.{kind}.{name}")
 

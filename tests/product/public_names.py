@@ -15,23 +15,23 @@ ITEM = re.compile(r"(fn|struct|enum|trait|impl) ([\w:]+(?: for \w+)?)")
 
 # A change of a source, and the item that is missed, or has another form, then.
 CHANGES = {
-    "a struct is renamed": ("tclcache/src/kept.rt", "pub struct Kept ", "pub struct KeptTrees ", "tcleval: Kept"),
-    "a crate hands a name on no longer": ("tcleval/src/lib.rt", "pub use tclcache::Kept;", "", "tcleval: Kept"),
+    "a struct is renamed": ("tcleval/src/cache/kept.rt", "pub struct Kept ", "pub struct KeptTrees ", "tcleval: Kept"),
+    "a crate hands a name on no longer": ("tcleval/src/lib.rt", "pub use crate::cache::Kept;", "", "tcleval: Kept"),
     "a crate hands it on by another name": (
-        "tcleval/src/lib.rt", "tclcache::Kept;", "tclcache::Kept as Trees;", "tcleval: Kept"),
-    "a method is renamed": ("tclcache/src/kept.rt", "pub fn script(", "pub fn script_index(", "tcleval: Kept::script"),
+        "tcleval/src/lib.rt", "crate::cache::Kept;", "crate::cache::Kept as Trees;", "tcleval: Kept"),
+    "a method is renamed": ("tcleval/src/cache/kept.rt", "pub fn script(", "pub fn script_index(", "tcleval: Kept::script"),
     "a method is public no longer": ("envvars/src/env.rt", "pub fn names(", "fn names(", "envstate: Env::names"),
-    "a parameter has another type": ("tclpattern/src/lib.rt", "pattern: &str", "pattern: &[u8]", "tcltext: glob_match"),
+    "a parameter has another type": ("tcltext/src/pattern.rt", "pattern: &str", "pattern: &[u8]", "tcltext: glob_match"),
     "there is one parameter more": (
-        "tclchars/src/number.rt", "read_number(text: &str)", "read_number(text: &str, n: u8)", "tcltext: read_number"),
+        "tcltext/src/chars/number.rt", "read_number(text: &str)", "read_number(text: &str, n: u8)", "tcltext: read_number"),
     "a result has another type": ("modulename/src/version.rt", "-> Ordering", "-> bool", "lookup: version_order"),
     "a variant is renamed": ("tclrules/src/host.rt", "    Unknown,", "    Unsupported,", "tcleval: HostAnswer"),
     "a variant holds something else": (
-        "tclchars/src/fault.rt", "OpenBrace(usize)", "OpenBrace(u32)", "tcltext: TextFault"),
+        "tcltext/src/chars/fault.rt", "OpenBrace(usize)", "OpenBrace(u32)", "tcltext: TextFault"),
     "a field is renamed": ("tclrules/src/limits.rt", "pub depth: u32", "pub nesting: u32", "tcleval: Limits"),
     "a field is public no longer": ("tclrules/src/limits.rt", "pub depth: u32", "depth: u32", "lookup: Limits"),
     "a trait has a method less": ("tclrules/src/host.rt", "    fn read_env(", "    fn variable(", "tcleval: Host"),
-    "a law is renamed": ("envstacks/src/laws.rt", "pub fn stacks()", "pub fn value_stacks()", "envstate: laws::stacks"),
+    "a law is renamed": ("envstate/src/stacks/laws.rt", "pub fn stacks()", "pub fn value_stacks()", "envstate: laws::stacks"),
     "a type implements a trait no longer": (
         "envvars/src/env.rt", "impl Vars for Env", "impl Variables for Env", "envstate: Vars for Env"),
 }  # fmt: skip

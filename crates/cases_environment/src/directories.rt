@@ -3,7 +3,7 @@
 use crate::shown::shown;
 use crate::texts::words;
 use envstate::{End, Env, Vars};
-use modulepath::{
+use module_words::modulepath::{
     ModulePathFault, directories_to_unuse, directories_to_use, unuse_directories, use_directories,
 };
 use std::alloc::{AllocError, Global};

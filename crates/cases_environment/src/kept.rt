@@ -1,7 +1,7 @@
 //! Collections, as their texts are read and written.
 
 use crate::texts::{first_word, meant, parts, push_all};
-use collections::{Collection, read_collection, save_text};
+use module_collections::texts::{Collection, read_collection, save_text};
 use std::alloc::{AllocError, Global};
 use std::io;
 

@@ -26,11 +26,11 @@
 //! directories behind `+`, and for the text of directories and modules (`save DIRECTORIES MODULES`, with commas between,
 //! `-` for none). Each line is shown after `> `, and a fault behind `!`.
 //!
-//! `requests` asks calls of `modules` and `sessions` over files in memory and variables, which its lines share; each is
+//! `requests` asks calls of `modules` and of its rehearsals over files in memory and variables, which its lines share; each is
 //! shown after `> `. `module PATH TEXT` puts a modulefile behind its cookie, `folder PATH NAME...` a directory, `from
 //! NAME=VALUE...` are the variables from there on, and `vars` shows them. `ask SHELL WORD...` answers what a request
 //! changes, and below that its report; `nameless KIND` what one without names does, as no words make one; `verdict
-//! NAME` what is said of a module; `trial NAME PATH` what its load and its unload do; `rehearse SHELL REQUEST, SHELL
+//! NAME` what is said of a module; `dry_run NAME PATH` what its load and its unload do; `rehearse SHELL REQUEST, SHELL
 //! REQUEST...` for each request `accepted` and the text that it prints, or `none`, and then the variables at the end.
 //! Behind `!` stand the number and the text of a refusal.
 //!

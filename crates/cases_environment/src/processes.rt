@@ -3,7 +3,7 @@
 use crate::shown::starved;
 use crate::texts::{bytes_of, first_word};
 use envstate::Env;
-use processinput::{arguments, environment_block};
+use process::{arguments, environment_block};
 use std::alloc::{AllocError, Global};
 use std::env;
 

@@ -1,17 +1,17 @@
-//! Requests, verdicts and trials over a tree in memory, with the number and the text of each refusal.
+//! Requests, verdicts and dry runs over a tree in memory, with the number and the text of each refusal.
 
 use crate::shown::{listed, shown};
 use crate::texts::{bytes_of, first_word, meant, push_all, words};
 use crate::variables::set_one;
+use audit_dry_runs::{DryRun, dry_run_module};
 use envstate::Env;
 use filetree::MemoryTree;
+use modules::rehearsals::rehearse;
 use modules::{
     Action, Refusal, Request, STANDARD_LIMITS, Shell, Verdict, request, run_changes, verdict,
 };
-use sessions::rehearse;
 use std::alloc::{AllocError, Global};
 use std::io;
-use trials::{Trial, try_module};
 
 /// What the lines share: files, and variables.
 #[derive(Drop)]
@@ -41,10 +41,10 @@ fn verdict_line(verdict: Verdict) -> &'static str {
 }
 
 /// What was found, and by which number and text a refusal is.
-fn trial_line(alloc: Global, trial: &Trial) -> Result<String, AllocError> {
-    match trial {
-        Trial::Returns => String::from_str(alloc, "returns\n"),
-        Trial::Leaves(names) => {
+fn dry_run_line(alloc: Global, dry_run: &DryRun) -> Result<String, AllocError> {
+    match dry_run {
+        DryRun::Returns => String::from_str(alloc, "returns\n"),
+        DryRun::Leaves(names) => {
             let mut text = String::from_str(alloc, "leaves")?;
             for name in names {
                 push_all(&mut text, &[" ", name.as_str()])?;
@@ -52,14 +52,14 @@ fn trial_line(alloc: Global, trial: &Trial) -> Result<String, AllocError> {
             text.push_str("\n")?;
             Ok(text)
         }
-        Trial::LoadRefused(refusal) => {
+        DryRun::LoadRefused(refusal) => {
             format!(in alloc; "load !{} {refusal}\n", refusal.number())
         }
-        Trial::UnloadRefused(refusal) => {
+        DryRun::UnloadRefused(refusal) => {
             format!(in alloc; "unload !{} {refusal}\n", refusal.number())
         }
-        Trial::AlreadyLoaded => String::from_str(alloc, "already loaded\n"),
-        Trial::LoadsAnother { name, path } => format!(in alloc; "loads {name} {path}\n"),
+        DryRun::AlreadyLoaded => String::from_str(alloc, "already loaded\n"),
+        DryRun::LoadsAnother { name, path } => format!(in alloc; "loads {name} {path}\n"),
     }
 }
 
@@ -169,7 +169,7 @@ impl Place {
     /// What the load and the unload of a module do.
     fn try_one(&mut self, rest: &str) -> Result<String, Refusal> {
         let (name, path) = first_word(rest);
-        let trial = try_module(
+        let dry_run = dry_run_module(
             self.alloc,
             &self.env,
             &[],
@@ -178,7 +178,7 @@ impl Place {
             name,
             path,
         )?;
-        Ok(trial_line(self.alloc, &trial)?)
+        Ok(dry_run_line(self.alloc, &dry_run)?)
     }
 
     fn variables(&self) -> Result<String, Refusal> {
@@ -197,7 +197,7 @@ impl Place {
             "rehearse" => self.rehearse(rest),
             "nameless" => self.ask_nameless(rest),
             "verdict" => self.judge(rest),
-            "trial" => self.try_one(rest),
+            "dry_run" => self.try_one(rest),
             _ => self.variables(),
         }
     }

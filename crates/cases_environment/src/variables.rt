@@ -4,7 +4,7 @@ use crate::edits::edit;
 use crate::queries::answer_query;
 use crate::shown::{listed, shown, starved};
 use crate::texts::words;
-use envstate::{Env, EnvFault, Vars, WorkingCopy, changes};
+use envstate::{Env, EnvFault, Vars, Working, changes};
 use std::alloc::Global;
 use std::io;
 
@@ -128,7 +128,7 @@ fn changed(alloc: Global, env: &mut Env, words: &[String]) -> Result<(bool, Stri
 #[derive(Drop)]
 struct BothVariables<'a> {
     env: Env,
-    working: WorkingCopy<'a>,
+    working: Working<'a>,
 }
 
 /// The answer where both environments say the same.
@@ -143,7 +143,7 @@ fn agreed(alloc: Global, answer: String, is_same: bool) -> Result<String, EnvFau
 /// Whether the working environment answers to a call as the other one did.
 fn is_same(
     alloc: Global,
-    working: &mut WorkingCopy<'_>,
+    working: &mut Working<'_>,
     words: &[String],
     is_edit: bool,
     answer: &str,
@@ -166,16 +166,12 @@ fn changes_between(alloc: Global, old: &Env, env: &Env) -> Result<String, EnvFau
     Ok(listed(alloc, &changes(alloc, old, env)?)?)
 }
 
-fn changes_in(alloc: Global, working: WorkingCopy<'_>) -> Result<String, EnvFault> {
+fn changes_in(alloc: Global, working: Working<'_>) -> Result<String, EnvFault> {
     Ok(listed(alloc, &working.into_changes()?)?)
 }
 
 /// What has changed, where a working environment says the same.
-fn agreed_changes(
-    alloc: Global,
-    found: String,
-    working: WorkingCopy<'_>,
-) -> Result<String, EnvFault> {
+fn agreed_changes(alloc: Global, found: String, working: Working<'_>) -> Result<String, EnvFault> {
     let is_same = changes_in(alloc, working)? == found;
     agreed(alloc, found, is_same)
 }
@@ -210,7 +206,7 @@ fn print_answers(
 fn answer_over(rt: &HostRuntime, old: &Env, calls: &[String]) -> io::Result<()> {
     let mut both = BothVariables {
         env: starved(old.copy())?,
-        working: WorkingCopy::over(old),
+        working: Working::over(old),
     };
     print_answers(rt, &mut both, calls)?;
     print(rt, "changes", &starved(differences(rt.alloc(), old, both))?)

@@ -6,7 +6,7 @@ use crate::lines::Line;
 use crate::recorder::Recorder;
 use crate::scripts::{LIMITS, recorder};
 use std::alloc::Global;
-use tclcache::Kept;
+use tcleval::cache::Kept;
 use tcleval::evaluate_with;
 
 /// Whether a script is evaluated, and not refused.

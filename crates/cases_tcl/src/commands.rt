@@ -9,12 +9,12 @@ use std::alloc::{AllocError, Global};
 use tclcommands::{
     Value, append, consult, define, exists, get, global, increase, list_append, put, set, unset,
 };
-use tclexpr::{OwnedExpr, own_expr};
+use tclforms::substitution::{Control, Step, Stop, SubstitutionContext, advance};
+use tclforms::variables::{Local, Variables};
 use tclforms::{Form, SimpleForm, core_form};
 use tclrules::{EvalFault, Host, Limits};
-use tclsubstitution::{Control, Step, Stop, SubstitutionContext, advance};
+use tcltext::expr::{OwnedExpr, own_expr};
 use tclvalue::elements;
-use tclvariables::{Local, Variables};
 
 /// How many bytes a value may have.
 const LIMIT: usize = 64;

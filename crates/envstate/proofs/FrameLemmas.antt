@@ -10,22 +10,22 @@ use Rattle.envvars.specs.Environment.{Environment, lookup, with_value}
 use Rattle.envvars.specs.Reasons.{EnvReason, unless}
 use Rattle.envvars.proofs.TextLemmas.{same_text, bytes_eq-same, or_left, or_right}
 use Rattle.envvars.proofs.EnvLemmas.{same_environment, lookup-with_value}
-use Rattle.envpaths.specs.PathTexts.{state_of, elements_text, pairs_text}
-use Rattle.envpaths.specs.PathVariables.{path_in, value_reason, added_path, dropped_path, with_path, written_path}
-use Rattle.envpaths.specs.PathOrder.{IsPathInOrder}
-use Rattle.envpaths.specs.Paths.{add_all, drop_all}
-use Rattle.envpaths.specs.declared.adding.End.{End}
-use Rattle.envpaths.proofs.PathOrderLemmas.{LeavesPath-added, LeavesPath-dropped}
-use Rattle.envstacks.specs.StackTexts.{items_in}
-use Rattle.envstacks.specs.StackVariables.{stack_in, stack_from, pushed_on, popped_from, pushed_value, popped_value}
-use Rattle.envstacks.specs.StackVariables.{IsStackInOrder}
-use Rattle.envstacks.proofs.StackAfter.{others_after_push, others_after_pop}
-use Rattle.envloaded.specs.LoadedTexts.{names_variable, files_variable, conflicts_variable, prereqs_variable}
-use Rattle.envloaded.specs.Loaded.{Entry, names_of, entries_in, names_text, files_text, conflicts_text, prereqs_text}
-use Rattle.envloaded.specs.Loaded.{loaded_in, with_loaded, AreLoadedInOrder, can_be_added, with_conflicts_once}
-use Rattle.envloaded.specs.Loaded.{without_entry, added_to, dropped_from, added_loaded, dropped_loaded}
-use Rattle.envloaded.proofs.LoadedAgain.{at_names, at_files, at_conflicts, at_prereqs}
-use Rattle.envloaded.proofs.LoadedEdits.{others_stay}
+use Rattle.envstate.specs.paths.PathTexts.{state_of, elements_text, pairs_text}
+use Rattle.envstate.specs.paths.PathVariables.{path_in, value_reason, added_path, dropped_path, with_path, written_path}
+use Rattle.envstate.specs.paths.PathOrder.{IsPathInOrder}
+use Rattle.envstate.specs.paths.Paths.{add_all, drop_all}
+use Rattle.envstate.specs.declared.paths.adding.End.{End}
+use Rattle.envstate.proofs.paths.PathOrderLemmas.{LeavesPath-added, LeavesPath-dropped}
+use Rattle.envstate.specs.stacks.StackTexts.{items_in}
+use Rattle.envstate.specs.stacks.StackVariables.{stack_in, stack_from, pushed_on, popped_from, pushed_value, popped_value}
+use Rattle.envstate.specs.stacks.StackVariables.{IsStackInOrder}
+use Rattle.envstate.proofs.stacks.StackAfter.{others_after_push, others_after_pop}
+use Rattle.envstate.specs.loaded_list.LoadedTexts.{names_variable, files_variable, conflicts_variable, prereqs_variable}
+use Rattle.envstate.specs.loaded_list.Loaded.{Entry, names_of, entries_in, names_text, files_text, conflicts_text, prereqs_text}
+use Rattle.envstate.specs.loaded_list.Loaded.{loaded_in, with_loaded, AreLoadedInOrder, can_be_added, with_conflicts_once}
+use Rattle.envstate.specs.loaded_list.Loaded.{without_entry, added_to, dropped_from, added_loaded, dropped_loaded}
+use Rattle.envstate.proofs.loaded_list.LoadedAgain.{at_names, at_files, at_conflicts, at_prereqs}
+use Rattle.envstate.proofs.loaded_list.LoadedEdits.{others_stay}
 use Rattle.envstate.specs.Roles.{VariableRole, role_of, is_editable}
 use Rattle.envstate.specs.Roles.VariableRole.{Variable, Counters, Stack, LoadedNames, LoadedFiles, LoadedConflicts}
 use Rattle.envstate.specs.Roles.VariableRole.{LoadedPrereqs, Other}

@@ -8,7 +8,7 @@ use Rattle.envvars.specs.Texts.{Text}
 use Rattle.envvars.specs.Names.{is_variable_name, is_protected, share_name, stack_name, name_reason}
 use Rattle.envvars.specs.Reasons.{EnvReason, bad_variable, protected}
 use Rattle.envvars.proofs.TextLemmas.{same_text}
-use Rattle.envloaded.specs.LoadedTexts.{names_variable, files_variable, conflicts_variable, prereqs_variable}
+use Rattle.envstate.specs.loaded_list.LoadedTexts.{names_variable, files_variable, conflicts_variable, prereqs_variable}
 use Rattle.envstate.specs.Roles.{VariableRole, is_editable, after_prefix, protected_role, role_of, IsNameOf}
 use Rattle.envstate.specs.Roles.VariableRole.{Variable, Counters, Stack, LoadedNames, LoadedFiles, LoadedConflicts}
 use Rattle.envstate.specs.Roles.VariableRole.{LoadedPrereqs, Other}

@@ -12,20 +12,20 @@ use Rattle.envvars.specs.Names.{stack_name}
 use Rattle.envvars.specs.Environment.{Environment, lookup}
 use Rattle.envvars.proofs.TextLemmas.{bytes_eq-symmetric, or_left, or_right}
 use Rattle.envvars.proofs.EditLemmas.{both_true, passes_each}
-use Rattle.envpaths.specs.PathTexts.{elements_text, pairs_text}
-use Rattle.envpaths.specs.PathVariables.{path_in}
-use Rattle.envpaths.specs.PathOrder.{IsPathInOrder}
-use Rattle.envstacks.specs.Stacks.{OwnedValue, StackState, is_owner, holds, items_or_bottom}
-use Rattle.envstacks.specs.StackTexts.{items_in, is_writable_owner, is_writable_stack, stack_text}
-use Rattle.envstacks.specs.StackRuns.{items_of, start_with_pushes}
-use Rattle.envstacks.specs.StackVariables.{stack_in, stack_from, is_loaded_owner, IsWrittenStack, IsStackInOrder}
-use Rattle.envstacks.proofs.StackAgain.{stack_again}
-use Rattle.envstacks.proofs.StackAfter.{name_owns}
-use Rattle.envloaded.specs.Loaded.{Entry, names_of, is_entry, is_path, is_group, names_text, files_text, conflicts_text}
-use Rattle.envloaded.specs.Loaded.{prereqs_text, loaded_in, with_loaded, AreLoadedInOrder, with_conflicts_once}
-use Rattle.envloaded.specs.Loaded.{without_entry, dropped_from, dropped_loaded}
-use Rattle.envloaded.proofs.LoadedAgain.{loaded_again}
-use Rattle.envloaded.proofs.LoadedEdits.{loaded_after_drop}
+use Rattle.envstate.specs.paths.PathTexts.{elements_text, pairs_text}
+use Rattle.envstate.specs.paths.PathVariables.{path_in}
+use Rattle.envstate.specs.paths.PathOrder.{IsPathInOrder}
+use Rattle.envstate.specs.stacks.Stacks.{OwnedValue, StackState, is_owner, holds, items_or_bottom}
+use Rattle.envstate.specs.stacks.StackTexts.{items_in, is_writable_owner, is_writable_stack, stack_text}
+use Rattle.envstate.specs.stacks.StackRuns.{items_of, start_with_pushes}
+use Rattle.envstate.specs.stacks.StackVariables.{stack_in, stack_from, is_loaded_owner, IsWrittenStack, IsStackInOrder}
+use Rattle.envstate.proofs.stacks.StackAgain.{stack_again}
+use Rattle.envstate.proofs.stacks.StackAfter.{name_owns}
+use Rattle.envstate.specs.loaded_list.Loaded.{Entry, names_of, is_entry, is_path, is_group, names_text, files_text, conflicts_text}
+use Rattle.envstate.specs.loaded_list.Loaded.{prereqs_text, loaded_in, with_loaded, AreLoadedInOrder, with_conflicts_once}
+use Rattle.envstate.specs.loaded_list.Loaded.{without_entry, dropped_from, dropped_loaded}
+use Rattle.envstate.proofs.loaded_list.LoadedAgain.{loaded_again}
+use Rattle.envstate.proofs.loaded_list.LoadedEdits.{loaded_after_drop}
 use Rattle.envstate.specs.EnvLaws.{IsStartOf, SamePath, SameStack, SameLoaded, AreSound}
 use Rattle.envstate.proofs.FrameLemmas.{accepted, texts_of}
 

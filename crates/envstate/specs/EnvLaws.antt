@@ -7,15 +7,15 @@ use Rattle.envvars.specs.Texts.{Text, has}
 use Rattle.envvars.specs.Fields.{without, are_distinct}
 use Rattle.envvars.specs.Names.{share_name, stack_name, name_reason}
 use Rattle.envvars.specs.Environment.{Environment, lookup, with_value}
-use Rattle.envpaths.specs.PathVariables.{path_in, added_path, dropped_path}
-use Rattle.envpaths.specs.PathOrder.{IsPathInOrder}
-use Rattle.envpaths.specs.declared.adding.End.{End}
-use Rattle.envstacks.specs.Stacks.{StackState, holds}
-use Rattle.envstacks.specs.StackRuns.{IsOwnedStart, start_with_pushes}
-use Rattle.envstacks.specs.StackVariables.{stack_in, pushed_value, popped_value, is_loaded_owner, IsStackInOrder}
-use Rattle.envloaded.specs.LoadedTexts.{names_variable, files_variable, conflicts_variable, prereqs_variable}
-use Rattle.envloaded.specs.Loaded.{Entry, names_of, is_path, loaded_in, AreLoadedInOrder, with_conflicts_once}
-use Rattle.envloaded.specs.Loaded.{without_entry, added_loaded, dropped_loaded}
+use Rattle.envstate.specs.paths.PathVariables.{path_in, added_path, dropped_path}
+use Rattle.envstate.specs.paths.PathOrder.{IsPathInOrder}
+use Rattle.envstate.specs.declared.paths.adding.End.{End}
+use Rattle.envstate.specs.stacks.Stacks.{StackState, holds}
+use Rattle.envstate.specs.stacks.StackRuns.{IsOwnedStart, start_with_pushes}
+use Rattle.envstate.specs.stacks.StackVariables.{stack_in, pushed_value, popped_value, is_loaded_owner, IsStackInOrder}
+use Rattle.envstate.specs.loaded_list.LoadedTexts.{names_variable, files_variable, conflicts_variable, prereqs_variable}
+use Rattle.envstate.specs.loaded_list.Loaded.{Entry, names_of, is_path, loaded_in, AreLoadedInOrder, with_conflicts_once}
+use Rattle.envstate.specs.loaded_list.Loaded.{without_entry, added_loaded, dropped_loaded}
 use Rattle.envstate.specs.Roles.{role_of, is_editable, IsNameOf}
 use Rattle.envstate.specs.Roles.VariableRole.{Variable, Counters, Stack, LoadedNames, LoadedFiles, LoadedConflicts}
 use Rattle.envstate.specs.Roles.VariableRole.{LoadedPrereqs, Other}

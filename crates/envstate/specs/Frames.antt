@@ -3,11 +3,11 @@ use Rattle.std.specs.Prelude.{◌≡◌, ℕ, true, false, List, [], ◌∷◌}
 use Rattle.envvars.specs.Texts.{Text, has}
 use Rattle.envvars.specs.Names.{share_name, stack_name}
 use Rattle.envvars.specs.Environment.{Environment, lookup}
-use Rattle.envpaths.specs.PathVariables.{path_in}
-use Rattle.envpaths.specs.PathOrder.{IsPathInOrder}
-use Rattle.envstacks.specs.StackVariables.{stack_in, IsStackInOrder}
-use Rattle.envloaded.specs.LoadedTexts.{names_variable, files_variable, conflicts_variable, prereqs_variable}
-use Rattle.envloaded.specs.Loaded.{loaded_in, AreLoadedInOrder}
+use Rattle.envstate.specs.paths.PathVariables.{path_in}
+use Rattle.envstate.specs.paths.PathOrder.{IsPathInOrder}
+use Rattle.envstate.specs.stacks.StackVariables.{stack_in, IsStackInOrder}
+use Rattle.envstate.specs.loaded_list.LoadedTexts.{names_variable, files_variable, conflicts_variable, prereqs_variable}
+use Rattle.envstate.specs.loaded_list.Loaded.{loaded_in, AreLoadedInOrder}
 use Rattle.envstate.specs.Roles.{is_editable}
 
 -- every variable but these is unchanged

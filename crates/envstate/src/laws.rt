@@ -10,9 +10,9 @@ ghost use Rattle.envstate.specs.EnvLaws.{LoadedLeavesRest, OrderGivesStart, Othe
 ghost use Rattle.envstate.specs.EnvLaws.{StackTextsAreUnique, ListTextsAreUnique, AddNames, DropNames, OrderGivesList};
 ghost use Rattle.envstate.specs.EnvLaws.{DropLeavesList};
 
-pub use envloaded::laws::{loaded_edits, loaded_orders, loaded_texts};
-pub use envpaths::laws::{counters, path_edits, path_steps, path_texts, paths};
-pub use envstacks::laws::{stack_edits, stack_orders, stack_steps, stack_texts, stacks};
+pub use crate::loaded_list::laws::{loaded_edits, loaded_orders, loaded_texts};
+pub use crate::paths::laws::{counters, path_edits, path_steps, path_texts, paths};
+pub use crate::stacks::laws::{stack_edits, stack_orders, stack_steps, stack_texts, stacks};
 pub use envvars::laws::{changes, variables};
 
 /// The name of a variable has one role: modulefiles may edit the variable, it holds the counters or the stack of such a

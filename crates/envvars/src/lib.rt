@@ -21,4 +21,4 @@ pub use env::Env;
 pub use fault::EnvFault;
 pub use names::{is_nul_free, is_protected, is_variable_name, judge_name, share_name, stack_name};
 pub use vars::{Vars, has_value};
-pub use working::WorkingCopy;
+pub use working::Working;

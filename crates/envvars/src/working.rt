@@ -15,7 +15,7 @@ use std::marker::Model;
 
 /// Edits over variables that stay unchanged: over an environment, or over another working one. The time of
 /// an edit depends on what it touches, and not on how many variables are set.
-pub struct WorkingCopy<'a, B: Vars = Env> {
+pub struct Working<'a, B: Vars = Env> {
     /// The variables below, which stay unchanged.
     old: &'a B,
     /// The names that were edited, with their values now.
@@ -25,9 +25,9 @@ pub struct WorkingCopy<'a, B: Vars = Env> {
 }
 
 // Not derived: it is dropped by one call, so a proof needn't look into its table at each exit.
-impl<'a, B: Vars> Drop for WorkingCopy<'a, B> {
+impl<'a, B: Vars> Drop for Working<'a, B> {
     fn drop(self) {
-        let WorkingCopy {
+        let Working {
             old: _old,
             touched: _touched,
             alloc: _alloc,
@@ -35,7 +35,7 @@ impl<'a, B: Vars> Drop for WorkingCopy<'a, B> {
     }
 }
 
-impl<'a, B: Vars> Model for WorkingCopy<'a, B> {
+impl<'a, B: Vars> Model for Working<'a, B> {
     ghost use Rattle.envvars.specs.Tables.{written_over};
     ghost use Rattle.envvars.specs.Edited.{Edited, edited_code};
 
@@ -46,23 +46,23 @@ impl<'a, B: Vars> Model for WorkingCopy<'a, B> {
     ghost view = { λ a. record { old = B.vars a.old.now; new = written_over (B.vars a.old.now) a.touched.entries } };
 }
 
-impl<'a> WorkingCopy<'a, Env> {
+impl<'a> Working<'a, Env> {
     /// A working environment over an environment, with no edit so far.
     pub fn over(old: &'a Env) -> Self
         ensures old { result.old ≡ old.entry.now }
         ensures new { result.new ≡ old.entry.now }
     {
-        WorkingCopy::over_vars(old.alloc(), old)
+        Working::over_vars(old.alloc(), old)
     }
 }
 
-impl<'a, B: Vars> WorkingCopy<'a, B> {
+impl<'a, B: Vars> Working<'a, B> {
     /// A working environment over any variables, with no edit so far.
     pub fn over_vars(alloc: Global, old: &'a B) -> Self
         ensures old { result.old ≡ B.vars old.entry.now }
         ensures new { result.new ≡ B.vars old.entry.now }
     {
-        WorkingCopy {
+        Working {
             old,
             touched: IndexMap::new(alloc),
             alloc,
@@ -75,7 +75,7 @@ impl<'a, B: Vars> WorkingCopy<'a, B> {
         ensures ok { IfOk result (λ v. AreChanges self.entry.old self.entry.new (new_values_in v)) }
         ensures only { IfErr result (λ e. e ≡ OutOfMemory) }
     {
-        let WorkingCopy {
+        let Working {
             old,
             touched,
             alloc,
@@ -89,7 +89,7 @@ impl<'a, B: Vars> WorkingCopy<'a, B> {
         ensures ok { IfOk result (λ v. applied (new_values_in v) self.entry.old ≡ self.entry.new) }
         ensures only { IfErr result (λ e. e ≡ OutOfMemory) }
     {
-        let WorkingCopy {
+        let Working {
             old: _old,
             touched,
             alloc,
@@ -98,7 +98,7 @@ impl<'a, B: Vars> WorkingCopy<'a, B> {
     }
 }
 
-impl<'a, B: Vars> Vars for WorkingCopy<'a, B> {
+impl<'a, B: Vars> Vars for Working<'a, B> {
     ghost vars = { λ working. working.new };
 
     ghost base = { λ working. working.old };

@@ -7,7 +7,7 @@ use Rattle.std.specs.Io.KnownBytes.{Consumes}
 use Rattle.filetree.specs.Known.{IsBegun}
 use Rattle.filetree.specs.Prefixes.{prefix_bytes}
 use Rattle.filetree.specs.Systems.{Answers, IsFault, IsFileThere, WasFile, file}
-use Rattle.filetree.specs.declared.begun.Begun.{Begun}
+use Rattle.filetree.specs.declared.begun.OpenFile.{OpenFile}
 use Rattle.filetree.specs.declared.tree.TreeFault.{TreeFault}
 
 -- the first bytes and the others are all
@@ -17,13 +17,13 @@ whole_there None left first bytes consumed whole = tt
 whole_there (Some all) None first bytes consumed whole = absurd consumed
 whole_there (Some all) (Some rest) first bytes consumed whole = whole ∙ sym consumed
 
-pub whole_file : {F : Type 0} (remaining : F → Option (List ℕ)) (Answered : Answers) (begun : Begun F) (path bytes : List ℕ) → string_bytes begun.path ≡ path
+pub whole_file : {F : Type 0} (remaining : F → Option (List ℕ)) (Answered : Answers) (begun : OpenFile F) (path bytes : List ℕ) → string_bytes begun.path ≡ path
     → IfSome (reader_remaining remaining begun.rest) (λ left. bytes ≡ prefix_bytes begun.prefix ++ left) → IsBegun remaining Answered begun → IsFileThere Answered path bytes
 whole_file remaining Answered begun path bytes at whole (there, opened, consumed) =
     (there, subst (λ p. Answered p (file (Ok there))) at opened, whole_there there (reader_remaining remaining begun.rest) (prefix_bytes begun.prefix) bytes consumed whole)
 
 -- reading it on can fail by any fault
-pub fault_of_begun : {F : Type 0} (remaining : F → Option (List ℕ)) (Answered : Answers) (begun : Begun F) (path : List ℕ) (fault : TreeFault) → string_bytes begun.path ≡ path
+pub fault_of_begun : {F : Type 0} (remaining : F → Option (List ℕ)) (Answered : Answers) (begun : OpenFile F) (path : List ℕ) (fault : TreeFault) → string_bytes begun.path ≡ path
     → WasFile Answered path → IsBegun remaining Answered begun → IsFault Answered path fault
 fault_of_begun remaining Answered begun path fault at was (there, opened, consumed) =
     inr (file (Ok there), subst (λ p. Answered p (file (Ok there))) at opened, (was, tt))
@@ -44,6 +44,6 @@ for_some {X = X} None P h x e = absurd (no e)
     no q = cc
 for_some (Some y) P h x e = let same : y ≡ x = cc in ∣ subst P same h ∣₁
 
-pub begun_too : {F : Type 0} (remaining : F → Option (List ℕ)) (Answered : Answers) (there : Option (Begun F)) → IfSome there (IsBegun remaining Answered)
+pub begun_too : {F : Type 0} (remaining : F → Option (List ℕ)) (Answered : Answers) (there : Option (OpenFile F)) → IfSome there (IsBegun remaining Answered)
     → ForSome there (λ begun. ∥ IsBegun remaining Answered begun ∥₁)
 begun_too remaining Answered there h = for_some there (IsBegun remaining Answered) h

@@ -9,7 +9,7 @@ use Rattle.filetree.specs.Prefixes.{prefix_bytes}
 use Rattle.filetree.specs.Systems as systems
 use Rattle.filetree.specs.Systems.{Answers, IsLooked, IsFileThere, IsBeginningThere, IsBegunThere, AreEntriesThere}
 use Rattle.filetree.specs.Systems.{IsFault, IsHiddenAndAbsent, WasFile}
-use Rattle.filetree.specs.declared.begun.Begun.{Begun}
+use Rattle.filetree.specs.declared.begun.OpenFile.{OpenFile}
 use Rattle.filetree.specs.declared.known.KnownPath.{KnownPath}
 use Rattle.filetree.specs.declared.known.KnownPath.TheVariants as known
 use Rattle.filetree.specs.declared.look.PathKind.{PathKind}
@@ -87,7 +87,7 @@ IsAnswered Answered path known.Directory = IsLooked Answered path (Ok path_kinds
 IsAnswered Answered path (known.Listing names) = AreEntriesThere Answered path (string_bytes names.text)
 
 -- A file that was begun is one that the system opened, less the bytes that were read of it.
-abbrev pub IsBegun : {F : Type 0} → (F → Option (List ℕ)) → Answers → Begun F → Type 0
+abbrev pub IsBegun : {F : Type 0} → (F → Option (List ℕ)) → Answers → OpenFile F → Type 0
 IsBegun remaining Answered begun =
     IsBegunThere Answered (string_bytes begun.path) (prefix_bytes begun.prefix) (reader_remaining remaining begun.rest)
 

@@ -1,3 +1,4 @@
+pub mod hiding
 -- Trees of files, modulefiles at paths, and the relations of calls over a tree.
 pub mod Agreement
 pub mod Causes

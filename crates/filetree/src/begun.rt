@@ -15,7 +15,7 @@ const AT_ONCE: usize = 4096;
 
 /// A file that is open, of which the first bytes were read.
 #[derive(Drop)]
-pub(crate) struct Begun<F: Read + Drop> {
+pub(crate) struct OpenFile<F: Read + Drop> {
     /// The path by which it was opened.
     path: String,
     /// The bytes that were read.
@@ -24,14 +24,14 @@ pub(crate) struct Begun<F: Read + Drop> {
     rest: BufReader<F>,
 }
 
-impl<F: Read + Drop> Begun<F> {
+impl<F: Read + Drop> OpenFile<F> {
     /// Reads so many first bytes of a file, at most `MOST`, that was opened by this path. `None` where it has fewer.
     pub(crate) fn begin(
         alloc: Global,
         path: &str,
         file: F,
         size: usize,
-    ) -> io::Result<Option<Begun<F>>>
+    ) -> io::Result<Option<OpenFile<F>>>
         requires { size ≤ MOST }
         ensures path { IfOk result (λ begun. IfSome begun (λ begun. string_bytes begun.path ≡ path.now)) }
         ensures size { IfOk result (λ begun. IfSome begun (λ begun. begun.prefix.size ≡ size)) }
@@ -44,7 +44,7 @@ impl<F: Read + Drop> Begun<F> {
         let mut rest = BufReader::with_capacity(alloc, AT_ONCE, file)?;
         match first_bytes(&mut rest, size)? {
             None => Ok(None),
-            Some(prefix) => Ok(Some(Begun { path, prefix, rest })),
+            Some(prefix) => Ok(Some(OpenFile { path, prefix, rest })),
         }
     }
 
@@ -60,7 +60,7 @@ impl<F: Read + Drop> Begun<F> {
         ensures { IfSome (reader_remaining F.remaining self.rest) (λ left. IfOk result (λ bytes.
             bytes.items ≡ prefix_bytes self.prefix ++ left)) }
     {
-        let Begun {
+        let OpenFile {
             path: _,
             prefix,
             mut rest,

@@ -11,10 +11,10 @@ ghost use Rattle.filetree.specs.Known.{is_read_in_part, is_unlisted};
 ghost use Rattle.filetree.specs.Systems.{IsFault, IsHiddenAndAbsent, IsHiddenIn};
 ghost use Rattle.filetree.specs.declared.known.KnownPath.{KnownPath};
 
-use crate::begun::Begun;
+use crate::begun::OpenFile;
 use crate::known::{KnownPath, USUAL};
 use crate::load::{
-    Start, load_begun, load_file, load_likely_directory, load_listing, load_names, load_prefix,
+    FileStart, load_begun, load_file, load_likely_directory, load_listing, load_names, load_prefix,
     load_rest,
 };
 use crate::system::System;
@@ -45,7 +45,7 @@ pub struct DiskTree<S: System + AllocGlobal + Clone + Drop> {
     /// How many directories were found in a row where files were asked for, at most `USUAL`.
     directories_in_row: u8,
     /// The last file that `begins_with` read, where it can be read on.
-    begun: Option<Begun<S::File>>,
+    begun: Option<OpenFile<S::File>>,
     ghost opened: { ForSome begun (λ begun. ∥ IsBegun S.File.remaining (S.answers system) begun ∥₁) },
     ghost answered: { ∥ ((path : List ℕ) (k : KnownPath) → get_by_text known path ≡ Some k
         → IsAnswered (S.answers system) path k) ∥₁ },
@@ -239,7 +239,7 @@ impl<S: System + AllocGlobal + Clone + Drop> DiskTree<S> {
             return Ok(KnownPath::Neither);
         }
         match load_begun(&self.system, path, size) {
-            Ok(Start { known, begun }) => {
+            Ok(FileStart { known, begun }) => {
                 self.begun = begun;
                 Ok(known)
             }

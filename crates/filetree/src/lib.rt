@@ -4,6 +4,7 @@
 
 mod begun;
 mod disk;
+pub mod hiding;
 mod known;
 mod laws;
 mod load;

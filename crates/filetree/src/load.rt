@@ -5,7 +5,7 @@ ghost use Rattle.filetree.specs.Known.{IsAnswered, IsBegun, IsLoaded, SaysNoLess
 ghost use Rattle.filetree.specs.Known.{is_read_in_part, is_unlisted};
 ghost use Rattle.filetree.specs.Systems.{IsFault, IsFileThere, IsLooked, WasDirectory, WasFile, is_directory, is_file};
 
-use crate::begun::Begun;
+use crate::begun::OpenFile;
 use crate::known::KnownPath;
 use crate::look::{PathKind, look};
 use crate::names::list;
@@ -63,7 +63,7 @@ pub(crate) fn load_file<S: System + AllocGlobal>(
 fn read_on<S: System + AllocGlobal>(
     system: &S,
     path: &str,
-    begun: Option<Begun<S::File>>,
+    begun: Option<OpenFile<S::File>>,
 ) -> Result<Vec<u8>, TreeFault>
     requires was { WasFile (S.answers system.now) path.now }
     requires begun { ForSome begun (λ begun. ∥ IsBegun S.File.remaining (S.answers system.now) begun ∥₁) }
@@ -86,7 +86,7 @@ pub(crate) fn load_rest<S: System + AllocGlobal>(
     system: &S,
     path: &str,
     prefix: &Prefix,
-    begun: Option<Begun<S::File>>,
+    begun: Option<OpenFile<S::File>>,
 ) -> Result<KnownPath, TreeFault>
     requires was { WasFile (S.answers system.now) path.now }
     requires begun { ForSome begun (λ begun. ∥ IsBegun S.File.remaining (S.answers system.now) begun ∥₁) }
@@ -173,9 +173,9 @@ pub(crate) fn load_likely_directory<S: System + AllocGlobal>(
 
 /// What is at a path, and the file there where its first bytes were read.
 #[derive(Drop)]
-pub(crate) struct Start<F: Read + Drop> {
+pub(crate) struct FileStart<F: Read + Drop> {
     pub(crate) known: KnownPath,
-    pub(crate) begun: Option<Begun<F>>,
+    pub(crate) begun: Option<OpenFile<F>>,
 }
 
 /// The file at a path where one was, of which the first `size` bytes are read, and which stays open. One that is shorter
@@ -184,7 +184,7 @@ fn begin_file<S: System + AllocGlobal>(
     system: &S,
     path: &str,
     size: usize,
-) -> Result<Start<S::File>, TreeFault>
+) -> Result<FileStart<S::File>, TreeFault>
     requires { WasFile (S.answers system.now) path.now }
     ensures answered { IfOk result (λ start. IsAnswered (S.answers system.now) path.now start.known) }
     ensures begun { IfOk result (λ start. IfSome start.begun (IsBegun S.File.remaining (S.answers system.now))) }
@@ -192,14 +192,14 @@ fn begin_file<S: System + AllocGlobal>(
 {
     if size <= MOST {
         let file = system.open(path)?;
-        if let Some(begun) = Begun::begin(system.alloc(), path, file, size)? {
-            return Ok(Start {
+        if let Some(begun) = OpenFile::begin(system.alloc(), path, file, size)? {
+            return Ok(FileStart {
                 known: KnownPath::File(begun.prefix),
                 begun: Some(begun),
             });
         }
     }
-    Ok(Start {
+    Ok(FileStart {
         known: KnownPath::WholeFile(read_file(system, path)?),
         begun: None,
     })
@@ -211,7 +211,7 @@ pub(crate) fn load_begun<S: System + AllocGlobal>(
     system: &S,
     path: &str,
     size: usize,
-) -> Result<Start<S::File>, TreeFault>
+) -> Result<FileStart<S::File>, TreeFault>
     ensures answered { IfOk result (λ start. IsAnswered (S.answers system.now) path.now start.known) }
     ensures begun { IfOk result (λ start. IfSome start.begun (IsBegun S.File.remaining (S.answers system.now))) }
     ensures fault { IfErr result (IsFault (S.answers system.now) path.now) }
@@ -221,7 +221,7 @@ pub(crate) fn load_begun<S: System + AllocGlobal>(
         PathKind::Directory => KnownPath::Directory,
         PathKind::Nothing | PathKind::Other => KnownPath::Neither,
     };
-    Ok(Start { known, begun: None })
+    Ok(FileStart { known, begun: None })
 }
 
 /// The directory at a path where one was, with its names.

@@ -3,14 +3,15 @@
 //! It is one of the names of the program `module`; it has no clause, so it has little code.
 #![tactic(auto)]
 
+pub mod command;
 mod progress_line;
 
-use hidingtree::HidingTree;
+use crate::command::{AuditExit, Layout, run_audit};
+use filetree::hiding::HidingTree;
 use modulecmd::{
     CommandFault, DiskTree, GivenEnvironment, JudgingInput, judging_input, write_refusal,
 };
 use progress_line::ProgressLine;
-use sitecommand::{AuditExit, Layout, run_audit};
 use std::io::{IsTerminal, Stdout};
 use std::process::ExitCode;
 

@@ -1,5 +1,5 @@
 //! A line on a terminal that says how far an audit has come.
-use siteaudit::WalkProgress;
+use audit_site::WalkProgress;
 use std::io::{IsTerminal, Stderr, Write};
 use std::time::{Clock, Instant};
 

@@ -4,27 +4,27 @@ use Rattle.std.proofs.Common.{Option, Some, None, length, take, drop, map, appen
 use Rattle.std.proofs.lemmas.List.{drop-drop, length-drop, map-append, take-append-drop}
 use Rattle.std.proofs.lemmas.List.Folds.{flat_map-map}
 use Rattle.std.specs.Prelude.{flat_map, if◌then◌else◌, option_and_then}
-use Rattle.tclchars.specs.Runs.{Text}
-use Rattle.tclscript.specs.Tree.{Command}
-use Rattle.scripttext.specs.ScriptTexts.{is_script, script_in}
-use Rattle.computedwords.specs.Edits.{AreInOrder, edited, HasComputed}
-use Rattle.computedwords.proofs.Commands.{in_order}
-use Rattle.computedwords.specs.Answers.{Binding}
-use Rattle.computedwords.specs.Walks.{Edit}
-use Rattle.families.specs.Families.{Home}
-use Rattle.translation.specs.Notes.{Note}
-use Rattle.scripttext.specs.Pieces.{Piece, pieces_of}
-use Rattle.translation.specs.Translations.{change_of, line_at, note_of, notes_on, notes_on_all, or_kept, outcome_of}
-use Rattle.translation.specs.Translations.{written_for, written_for_all}
-use Rattle.translation.specs.TranslationViews.{HasTranslation}
-use Rattle.translation.specs.declared.notes.Outcome.{Outcome}
-use Rattle.scripttext.proofs.Joined.{joined}
-use Rattle.portforms.specs.Words.{commands_in}
-use Rattle.oneversion.specs.OneVersion.{has_conflict, inserted, is_plain, line_of, with_conflict}
+use Rattle.tcltext.specs.chars.Runs.{Text}
+use Rattle.tcltext.specs.script.Tree.{Command}
+use Rattle.port_reading.specs.script_text.ScriptTexts.{is_script, script_in}
+use Rattle.port_constants.specs.Edits.{AreInOrder, edited, HasComputed}
+use Rattle.port_constants.proofs.Commands.{in_order}
+use Rattle.port_constants.specs.Answers.{KnownVariable}
+use Rattle.port_constants.specs.Walks.{Edit}
+use Rattle.port_rewriting.specs.families.Families.{SiteContext}
+use Rattle.port_rewriting.specs.Notes.{Note}
+use Rattle.port_reading.specs.script_text.Pieces.{Piece, pieces_of}
+use Rattle.port_rewriting.specs.Translations.{change_of, line_at, note_of, notes_on, notes_on_all, or_kept, outcome_of}
+use Rattle.port_rewriting.specs.Translations.{written_for, written_for_all}
+use Rattle.port_rewriting.specs.TranslationViews.{HasTranslation}
+use Rattle.port_rewriting.specs.declared.notes.Outcome.{Outcome}
+use Rattle.port_reading.proofs.script_text.Joined.{joined}
+use Rattle.port_reading.specs.forms.Words.{commands_in}
+use Rattle.port_rewriting.specs.one_version.OneVersion.{has_conflict, inserted, is_plain, line_of, with_conflict}
 use Rattle.modport.specs.Accounts.{Accounts, AccountsForCommands, AreStretches, of_piece, Stretch, StayUnsaid}
 use Rattle.modport.specs.Lines.{Line}
-use Rattle.modport.specs.Ported.{added_lines, conflict_with, edit_line, IsAdded}
-use Rattle.modport.specs.Ported.{IsOneVersion, note_line, part_of}
+use Rattle.modport.specs.TranslatedFile.{added_lines, conflict_with, edit_line, IsAdded}
+use Rattle.modport.specs.TranslatedFile.{IsOneVersion, note_line, part_of}
 
 -- ---- what stays
 
@@ -105,7 +105,7 @@ of_edits given es h = (
   },
 )
 
-pub computed : (host : List Binding) (given written : Text) (es : List Edit) → HasComputed host given es written → Accounts given written (map (edit_line given) es)
+pub computed : (host : List KnownVariable) (given written : Text) (es : List Edit) → HasComputed host given es written → Accounts given written (map (edit_line given) es)
 computed host given written es (s, within, h) =
     subst (λ (t : Text). Accounts given t (map (edit_line given) es)) (sym h.text_is)
     (of_edits given es (in_order host given es written (s, within, h)))
@@ -117,19 +117,19 @@ pub unsaid_piece : (names : List Text) (line : ℕ) (text : Text) (outcome : Out
 unsaid_piece names line text outcome None h = refl
 unsaid_piece names line text outcome (Some change) h = cc
 
-pieces_said : (home : Option Home) (names : List Text) (text : Text) (ps : List Piece)
+pieces_said : (home : Option SiteContext) (names : List Text) (text : Text) (ps : List Piece)
     → flat_map (λ (p : Piece). map note_line (notes_on home names text p)) ps ≡ map note_line (notes_on_all home names text ps)
 pieces_said home names text [] = refl
 pieces_said home names text (p ∷ ps) =
     ap (λ (ls : List Line). map note_line (notes_on home names text p) ++ ls) (pieces_said home names text ps)
     ∙ sym (map-append note_line (notes_on home names text p) (notes_on_all home names text ps))
 
-pieces_stay : (home : Option Home) (names : List Text) (text : Text) (ps : List Piece) → StayUnsaid (map (of_piece home names text) ps)
+pieces_stay : (home : Option SiteContext) (names : List Text) (text : Text) (ps : List Piece) → StayUnsaid (map (of_piece home names text) ps)
 pieces_stay home names text [] = tt
 pieces_stay home names text (p ∷ ps) =
     (unsaid_piece names (line_at text p.start) p.text (outcome_of home p) (change_of home p), pieces_stay home names text ps)
 
-of_pieces : (home : Option Home) (names : List Text) (text : Text) (cs : List Command)
+of_pieces : (home : Option SiteContext) (names : List Text) (text : Text) (cs : List Command)
     → AreStretches (map (of_piece home names text) (pieces_of text cs)) text (written_for_all home (pieces_of text cs))
     (map note_line (notes_on_all home names text (pieces_of text cs)))
 of_pieces home names text cs = record {
@@ -139,7 +139,7 @@ of_pieces home names text cs = record {
   stay = pieces_stay home names text (pieces_of text cs);
 }
 
-pub translated : (home : Option Home) (names : List Text) (text written : Text) (notes : List Note) → HasTranslation home names text written notes
+pub translated : (home : Option SiteContext) (names : List Text) (text written : Text) (notes : List Note) → HasTranslation home names text written notes
     → AccountsForCommands home names text written (map note_line notes)
 translated home names text written notes (s, within, h) =
     let ss : List Stretch = map (of_piece home names text) (pieces_of text (commands_in s)) in (
@@ -150,7 +150,7 @@ translated home names text written notes (s, within, h) =
           (of_pieces home names text (commands_in s))),
     )
 
-pub forgotten : (home : Option Home) (names : List Text) (text written : Text) (lines : List Line) → AccountsForCommands home names text written lines
+pub forgotten : (home : Option SiteContext) (names : List Text) (text written : Text) (lines : List Line) → AccountsForCommands home names text written lines
     → Accounts text written lines
 forgotten home names text written lines (s, within, h) = (map (of_piece home names text) (pieces_of text (commands_in s)), h)
 

@@ -2,28 +2,28 @@
 use Rattle.std.proofs.Common.{◌≡◌, List, [], ◌∷◌, ◌++◌, Option, length, map, refl, sym, ap, ap₂, subst, ◌∙◌}
 use Rattle.std.proofs.lemmas.List.{map-append}
 use Rattle.std.specs.Prelude.{flat_map}
-use Rattle.tclchars.specs.Runs.{Text}
-use Rattle.tclscript.specs.Text.{IsWithin}
-use Rattle.tclscript.specs.Tree.{Command, Commands}
-use Rattle.tclscript.proofs.Whole.{one_tree}
-use Rattle.portforms.specs.Words.{commands_in}
-use Rattle.scripttext.specs.Pieces.{Piece, pieces_of}
-use Rattle.scripttext.proofs.Joined as whole
-use Rattle.computedwords.specs.Answers.{Binding}
-use Rattle.computedwords.specs.Edits.{ArePieces, behind_piece, edited_to, HasCommands, HasComputed}
-use Rattle.computedwords.specs.Walks.{Edit}
-use Rattle.computedwords.proofs.Commands.{commands}
-use Rattle.computedwords.proofs.Written.{behind_is, first_is}
-use Rattle.families.specs.Families.{Home}
-use Rattle.translation.specs.Notes.{Note}
-use Rattle.translation.specs.Translations.{change_of, line_at, notes_on, notes_on_all, outcome_of, written_for, written_for_all}
-use Rattle.translation.specs.TranslationViews.{HasTranslation, IsTranslation}
+use Rattle.tcltext.specs.chars.Runs.{Text}
+use Rattle.tcltext.specs.script.Text.{IsWithin}
+use Rattle.tcltext.specs.script.Tree.{Command, Commands}
+use Rattle.tcltext.proofs.script.Whole.{one_tree}
+use Rattle.port_reading.specs.forms.Words.{commands_in}
+use Rattle.port_reading.specs.script_text.Pieces.{Piece, pieces_of}
+use Rattle.port_reading.proofs.script_text.Joined as whole
+use Rattle.port_constants.specs.Answers.{KnownVariable}
+use Rattle.port_constants.specs.Edits.{ArePieces, behind_piece, edited_to, HasCommands, HasComputed}
+use Rattle.port_constants.specs.Walks.{Edit}
+use Rattle.port_constants.proofs.Commands.{commands}
+use Rattle.port_constants.proofs.Written.{behind_is, first_is}
+use Rattle.port_rewriting.specs.families.Families.{SiteContext}
+use Rattle.port_rewriting.specs.Notes.{Note}
+use Rattle.port_rewriting.specs.Translations.{change_of, line_at, notes_on, notes_on_all, outcome_of, written_for, written_for_all}
+use Rattle.port_rewriting.specs.TranslationViews.{HasTranslation, IsTranslation}
 use Rattle.modport.specs.FileAccounts.{Account, AccountsForFile, AreAccounts, StayUnsaid}
 use Rattle.modport.specs.Lines.{Line}
-use Rattle.modport.specs.Ported.{edit_line, note_line}
+use Rattle.modport.specs.TranslatedFile.{edit_line, note_line}
 use Rattle.modport.proofs.Accounted.{unsaid_piece}
 
-module _ (home : Option Home) (names : List Text) (given computed : Text) where
+module _ (home : Option SiteContext) (names : List Text) (given computed : Text) where
   -- the account of a piece, in which its own edits make another one
   abbrev account : List Edit → Piece → Piece → Account
   account own p q = record {
@@ -92,7 +92,7 @@ module _ (home : Option Home) (names : List Text) (given computed : Text) where
     stay (behind_piece p text) later ps qs more (behind_is text p ps j),
   )
 
-of_both : (home : Option Home) (names : List Text) (given computed written : Text) (es : List Edit) (notes : List Note) (s t u : Commands)
+of_both : (home : Option SiteContext) (names : List Text) (given computed written : Text) (es : List Edit) (notes : List Note) (s t u : Commands)
     → IsWithin given s → IsWithin computed t → ArePieces given es (pieces_of given (commands_in s)) (pieces_of computed (commands_in t))
     → IsWithin computed u → IsTranslation home names computed (commands_in u) written notes
     → AccountsForFile given written (map (edit_line given) es) (map note_line notes)
@@ -113,7 +113,7 @@ of_both home names given computed written es notes s t u within second h third k
       },
     )
 
-pub accounted : (host : List Binding) (home : Option Home) (names : List Text) (given computed written : Text) (es : List Edit) (notes : List Note)
+pub accounted : (host : List KnownVariable) (home : Option SiteContext) (names : List Text) (given computed written : Text) (es : List Edit) (notes : List Note)
     → HasComputed host given es computed → HasTranslation home names computed written notes
     → AccountsForFile given written (map (edit_line given) es) (map note_line notes)
 accounted host home names given computed written es notes c (u, third, k) =

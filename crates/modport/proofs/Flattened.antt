@@ -3,20 +3,20 @@ use Rattle.std.proofs.Common.{◌≡◌, ℕ, ◌-◌, Bool, true, false, List, 
 use Rattle.std.proofs.Common.{take, drop, map, append-nil}
 use Rattle.std.proofs.lemmas.List.{take-append-drop}
 use Rattle.std.specs.Prelude.{flat_map, if◌then◌else◌, option_and_then}
-use Rattle.tclchars.specs.Runs.{Text}
-use Rattle.tclscript.specs.Text.{script_of}
-use Rattle.tclscript.specs.Tree.{Command}
-use Rattle.portforms.specs.Words.{commands_in}
-use Rattle.filetext.specs.FileTexts.{Writing}
-use Rattle.scripttext.specs.ScriptTexts.{is_script}
-use Rattle.shownrecords.specs.Flattened.{flattened, if_says, saying, says}
-use Rattle.shownrecords.specs.People.{Person}
-use Rattle.shownrecords.specs.Shown.{shown_commands}
-use Rattle.shownrecords.specs.Writing.{commands_text}
+use Rattle.tcltext.specs.chars.Runs.{Text}
+use Rattle.tcltext.specs.script.Text.{script_of}
+use Rattle.tcltext.specs.script.Tree.{Command}
+use Rattle.port_reading.specs.forms.Words.{commands_in}
+use Rattle.port_reading.specs.file_text.FileTexts.{Writing}
+use Rattle.port_reading.specs.script_text.ScriptTexts.{is_script}
+use Rattle.port_flatten.specs.Flattened.{flattened, if_says, saying, says}
+use Rattle.port_flatten.specs.People.{UserValues}
+use Rattle.port_flatten.specs.Shown.{shown_commands}
+use Rattle.port_flatten.specs.Writing.{commands_text}
 use Rattle.modport.specs.Accounts.{Accounts, Stretch, StayUnsaid}
 use Rattle.modport.specs.Flattening.{command_line, IsFlattened}
 use Rattle.modport.specs.Lines.{Line}
-use Rattle.modport.specs.Ported.{Porting}
+use Rattle.modport.specs.TranslatedFile.{Porting}
 
 -- ---- what is written
 
@@ -28,12 +28,12 @@ some_of : (b : Bool) (flat text : Text) → Some flat ≡ (if b then Some text e
 some_of true flat text h = cc
 some_of false flat text h = let never : Some flat ≡ None = h in cc
 
-said_of : (person : Person) (commands : List (List Text)) (flat text : Text) (b : Bool) → Some flat ≡ option_and_then (if_says person commands) (if b then Some text else None)
+said_of : (person : UserValues) (commands : List (List Text)) (flat text : Text) (b : Bool) → Some flat ≡ option_and_then (if_says person commands) (if b then Some text else None)
     → flat ≡ text
 said_of person commands flat text true h = some_of (says person commands (script_of text)) flat text h
 said_of person commands flat text false h = let never : Some flat ≡ None = h in cc
 
-saying_front : (person : Person) (text flat : Text) (cs : List Command) (commands : List (List Text)) → Some flat ≡ saying person text cs commands → HasFront text cs flat
+saying_front : (person : UserValues) (text flat : Text) (cs : List Command) (commands : List (List Text)) → Some flat ≡ saying person text cs commands → HasFront text cs flat
 saying_front person text flat [] commands h = let never : Some flat ≡ None = h in cc
 saying_front person text flat (c ∷ cs) commands h = (
   c,
@@ -43,12 +43,12 @@ saying_front person text flat (c ∷ cs) commands h = (
   said_of person commands flat (take c.offset text ++ commands_text person commands) (is_script (take c.offset text ++ commands_text person commands)) h,
 )
 
-shown_front : (person : Person) (text flat : Text) (cs : List Command) (commands : Option (List (List Text))) → Some flat ≡ option_and_then (saying person text cs) commands
+shown_front : (person : UserValues) (text flat : Text) (cs : List Command) (commands : Option (List (List Text))) → Some flat ≡ option_and_then (saying person text cs) commands
     → HasFront text cs flat
 shown_front person text flat cs None h = let never : Some flat ≡ None = h in cc
 shown_front person text flat cs (Some commands) h = saying_front person text flat cs commands h
 
-front : (person : Person) (shown text flat : Text) (cs : List Command) → Some flat ≡ flattened person text cs shown → HasFront text cs flat
+front : (person : UserValues) (shown text flat : Text) (cs : List Command) → Some flat ≡ flattened person text cs shown → HasFront text cs flat
 front person shown text flat cs h = shown_front person text flat cs (shown_commands shown) h
 
 -- ---- the account
@@ -105,7 +105,7 @@ of_front given flat cs (c, rest, more, e, f) =
     subst (λ (t : Text). Accounts given t (map (command_line given) cs)) (sym f)
     (subst (λ (ds : List Command). Accounts given (take c.offset given ++ more) (map (command_line given) ds)) (sym e) (of_commands given more c rest))
 
-pub accounted : (person : Person) (shown given flat : Text) (cs : List Command) → Some flat ≡ flattened person given cs shown
+pub accounted : (person : UserValues) (shown given flat : Text) (cs : List Command) → Some flat ≡ flattened person given cs shown
     → Accounts given flat (map (command_line given) cs)
 accounted person shown given flat cs h = of_front given flat cs (front person shown given flat cs h)
 
@@ -117,7 +117,7 @@ unempty given [] after cs c rest e h =
     let never : [] ≡ command_line given c ∷ (map (command_line given) rest ++ after) = subst (λ (ds : List Command). [] ≡ map (command_line given) ds ++ after) e h in cc
 unempty given (l ∷ ls) after cs c rest e h = cc
 
-pub is_said : (port : Porting) (person : Person) (shown : Text) (how : Writing) (given written : Text) → IsFlattened port person shown how given written [] → ⊥
+pub is_said : (port : Porting) (person : UserValues) (shown : Text) (how : Writing) (given written : Text) → IsFlattened port person shown how given written [] → ⊥
 is_said port person shown how given written (s, within, (flat, e, (translated, notes, added, steps))) =
     let h = front person shown given flat (commands_in s) e in
     unempty given _ _ (commands_in s) h.0 h.1 h.3 steps.says

@@ -1,16 +1,16 @@
 -- The whole, of its steps.
 use Rattle.std.proofs.Common.{◌≡◌, Bool, List, [], ◌++◌, Option, refl, sym, ap, ◌∙◌, append_assoc}
 use Rattle.std.proofs.lemmas.Grind.{flat_map-append}
-use Rattle.tclchars.specs.Runs.{Text}
-use Rattle.filetext.specs.FileTexts.{Writing}
-use Rattle.computedwords.specs.Edits.{HasComputed}
-use Rattle.computedwords.specs.Walks.{Edit}
-use Rattle.aliases.specs.Aliases.{ShellScript}
-use Rattle.translation.specs.AliasingViews.{HasScripts}
-use Rattle.translation.specs.Notes.{Note}
-use Rattle.translation.specs.TranslationViews.{HasTranslation}
+use Rattle.tcltext.specs.chars.Runs.{Text}
+use Rattle.port_reading.specs.file_text.FileTexts.{Writing}
+use Rattle.port_constants.specs.Edits.{HasComputed}
+use Rattle.port_constants.specs.Walks.{Edit}
+use Rattle.port_rewriting.specs.aliases.Aliases.{ShellScript}
+use Rattle.port_rewriting.specs.AliasingViews.{HasScripts}
+use Rattle.port_rewriting.specs.Notes.{Note}
+use Rattle.port_rewriting.specs.TranslationViews.{HasTranslation}
 use Rattle.modport.specs.Lines.{Line, report, shown}
-use Rattle.modport.specs.Ported.{HasScriptsOf, IsOneVersion, IsReported, lines_of, Porting, status_of}
+use Rattle.modport.specs.TranslatedFile.{HasScriptsOf, IsOneVersion, IsReported, lines_of, Porting, status_of}
 use Rattle.modport.specs.declared.status.Status.{Status}
 
 pub reported : (port : Porting) (json : Bool) (path : Text) (how : Writing) (given computed translated written said : Text) (es : List Edit) (notes : List Note)

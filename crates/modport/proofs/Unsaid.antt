@@ -4,13 +4,13 @@ use Rattle.std.proofs.lemmas.Bool.{not-false}
 use Rattle.std.specs.Prelude.{flat_map, if◌then◌else◌, bytes_eq}
 use Rattle.std.specs.Str.{is_utf8}
 use Rattle.std.proofs.lemmas.Slice.Eq.{bytes_eq-Decides}
-use Rattle.tclchars.specs.Runs.{Text}
-use Rattle.filetext.specs.FileTexts.{from_latin, in_utf8, is_marked, text_of, unmarked, Writing, writing_of}
-use Rattle.computedwords.specs.Walks.{Edit}
-use Rattle.translation.specs.Notes.{Note}
+use Rattle.tcltext.specs.chars.Runs.{Text}
+use Rattle.port_reading.specs.file_text.FileTexts.{from_latin, in_utf8, is_marked, text_of, unmarked, Writing, writing_of}
+use Rattle.port_constants.specs.Walks.{Edit}
+use Rattle.port_rewriting.specs.Notes.{Note}
 use Rattle.modport.specs.Accounts.{Accounts, Stretch, StayUnsaid}
 use Rattle.modport.specs.Lines.{Line}
-use Rattle.modport.specs.Ported.{added_lines, edit_line, IsPorted, note_line, Porting, Steps, writing_line, writing_lines}
+use Rattle.modport.specs.TranslatedFile.{added_lines, edit_line, IsPorted, note_line, Porting, Steps, writing_line, writing_lines}
 use Rattle.modport.specs.declared.status.Status.{Status}
 use Rattle.modport.proofs.Accounted as accounted
 

@@ -1,11 +1,11 @@
 -- What the report accounts for in a file (own): each command of it, with what stands between it and the next, is written
 -- as it is, or a line of the report is said of it.
 use Rattle.std.specs.Prelude.{◌≡◌, List, [], ◌∷◌, flat_map, map}
-use Rattle.tclchars.specs.Runs.{Text}
-use Rattle.tclscript.specs.Text.{IsWithin}
-use Rattle.tclscript.specs.Tree.{Command, Commands}
-use Rattle.portforms.specs.Words.{commands_in}
-use Rattle.scripttext.specs.Pieces.{pieces_of}
+use Rattle.tcltext.specs.chars.Runs.{Text}
+use Rattle.tcltext.specs.script.Text.{IsWithin}
+use Rattle.tcltext.specs.script.Tree.{Command, Commands}
+use Rattle.port_reading.specs.forms.Words.{commands_in}
+use Rattle.port_reading.specs.script_text.Pieces.{pieces_of}
 use Rattle.modport.specs.Lines.{Line}
 
 -- a command with what stands between it and the next, what is written for it, and the lines on it: on what is computed in

@@ -3,4 +3,4 @@ pub mod FileAccounts
 pub mod Flattening
 pub mod Lines
 pub mod LineViews
-pub mod Ported
+pub mod TranslatedFile

@@ -3,20 +3,20 @@ use Rattle.std.specs.Prelude.{ℕ, List, [], ◌∷◌, ◌++◌, Bool, codes, d
 use Rattle.std.specs.Str.Lossy.{utf8_lossy}
 use Rattle.json.specs.Print.{print}
 use Rattle.json.specs.Token.{Token, begin_object, end_object, key, string, number}
-use Rattle.tclchars.specs.Bytes.{newline}
-use Rattle.tclchars.specs.Runs.{Text}
-use Rattle.modport.specs.declared.report_lines.Fate.{Fate}
-use Rattle.modport.specs.declared.report_lines.Fate.TheVariants.{Translated, Dropped, Computed, Flattened, Added, Default, LeftOut}
+use Rattle.tcltext.specs.chars.Bytes.{newline}
+use Rattle.tcltext.specs.chars.Runs.{Text}
+use Rattle.modport.specs.declared.report_lines.PieceOutcome.{PieceOutcome}
+use Rattle.modport.specs.declared.report_lines.PieceOutcome.TheVariants.{Translated, Dropped, Computed, Flattened, Added, Default, LeftOut}
 
 -- what is said of a part of a file, or, without a place, of the whole: what became of it, which it is, and what is
 -- written for it, where that is said; a place is a line of the file, from 1
 pub record Line : Type 0 where
   pub place : Option ℕ
-  pub fate : Fate
+  pub fate : PieceOutcome
   pub what : Text
   pub put : Option Text
 
-abbrev pub word_of : Fate → Text
+abbrev pub word_of : PieceOutcome → Text
 word_of Translated = codes "translated"
 word_of Dropped = codes "dropped"
 word_of Computed = codes "computed"

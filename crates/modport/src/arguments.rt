@@ -1,14 +1,14 @@
 //! What the words of a command line ask for.
 
 use crate::fault::PortFault;
-use crate::host::Host;
-use crate::kept::Kept;
-use otherdefaults::Program;
+use crate::host_names::HostNames;
+use crate::kept_values::KeptValues;
+use port_defaults::Program;
 use std::alloc::Global;
 
 /// What is translated, and where it is written.
 #[derive(Debug, Drop)]
-pub(crate) enum Job {
+pub(crate) enum PortTarget {
     /// How the program is called is said.
     Help,
     /// Standard input, to standard output.
@@ -16,12 +16,12 @@ pub(crate) enum Job {
     /// The file at this path, to standard output.
     File(String),
     /// The files below a path.
-    Tree(Walked),
+    Tree(WalkedFiles),
 }
 
 /// Files below a path.
 #[derive(Debug, Drop)]
-pub(crate) struct Walked {
+pub(crate) struct WalkedFiles {
     /// The path.
     pub from: String,
     /// The path that they are written below; none where nothing is written but the report.
@@ -34,45 +34,45 @@ pub(crate) struct Walked {
 
 /// What is asked for.
 #[derive(Debug, Drop)]
-pub(crate) struct Wanted {
+pub(crate) struct PortArguments {
     /// What is translated, and where it is written.
-    pub job: Job,
+    pub job: PortTarget,
     /// Whether each line of the report is JSON.
     pub json: bool,
     /// What is said besides.
-    pub said: Said,
+    pub said: ParsedArguments,
 }
 
 /// What the words behind options say.
 #[derive(Debug, Drop)]
-pub(crate) struct Said {
+pub(crate) struct ParsedArguments {
     /// Of the host that the modulefiles are for.
-    pub host: Host,
+    pub host: HostNames,
     /// Of whose environment modulefiles were shown in.
-    pub kept: Kept,
+    pub kept: KeptValues,
     /// The path of what was shown.
     pub shown: Option<String>,
     /// The program whose default of each folder is to be named.
     pub like: Option<Program>,
 }
 
-impl Said {
+impl ParsedArguments {
     /// Adds what a word says behind an option.
     ///
     /// The errors: want of memory; it says nothing, or what is said already.
-    fn add(&mut self, alloc: Global, option: Telling, word: &str) -> Result<(), PortFault> {
+    fn add(&mut self, alloc: Global, option: OptionWithValue, word: &str) -> Result<(), PortFault> {
         match option {
-            Telling::Host => self.host.add(alloc, word),
-            Telling::Kept => self.kept.add(alloc, word),
-            Telling::Shown if self.shown.is_none() => {
+            OptionWithValue::HostNames => self.host.add(alloc, word),
+            OptionWithValue::KeptValues => self.kept.add(alloc, word),
+            OptionWithValue::Shown if self.shown.is_none() => {
                 self.shown = Some(String::from_str(alloc, word)?);
                 Ok(())
             }
-            Telling::Like if self.like.is_none() => {
+            OptionWithValue::Like if self.like.is_none() => {
                 self.like = Some(program_of(word)?);
                 Ok(())
             }
-            Telling::Shown | Telling::Like => Err(PortFault::Usage),
+            OptionWithValue::Shown | OptionWithValue::Like => Err(PortFault::Usage),
         }
     }
 }
@@ -88,11 +88,11 @@ fn program_of(word: &str) -> Result<Program, PortFault> {
 
 /// An option behind which a word says something.
 #[derive(Clone, Copy)]
-enum Telling {
+enum OptionWithValue {
     /// `--host`
-    Host,
+    HostNames,
     /// `--kept`
-    Kept,
+    KeptValues,
     /// `--flatten`
     Shown,
     /// `--like`
@@ -108,7 +108,7 @@ struct Options {
     json: bool,
     one_version: bool,
     /// The last word, where one stands behind it that says something.
-    telling: Option<Telling>,
+    telling: Option<OptionWithValue>,
     /// Whether a word was `--`, behind which no word is an option.
     ended: bool,
 }
@@ -127,10 +127,10 @@ impl Options {
             "--check" => self.check = true,
             "--json" => self.json = true,
             "--one-version" => self.one_version = true,
-            "--host" => self.telling = Some(Telling::Host),
-            "--kept" => self.telling = Some(Telling::Kept),
-            "--flatten" => self.telling = Some(Telling::Shown),
-            "--like" => self.telling = Some(Telling::Like),
+            "--host" => self.telling = Some(OptionWithValue::HostNames),
+            "--kept" => self.telling = Some(OptionWithValue::KeptValues),
+            "--flatten" => self.telling = Some(OptionWithValue::Shown),
+            "--like" => self.telling = Some(OptionWithValue::Like),
             "--" => self.ended = true,
             _ => return Err(PortFault::Usage),
         }
@@ -140,7 +140,12 @@ impl Options {
     /// Whether the word is one that says something behind an option, which is added.
     ///
     /// The errors: want of memory; it says nothing.
-    fn tells(&mut self, alloc: Global, said: &mut Said, word: &str) -> Result<bool, PortFault> {
+    fn tells(
+        &mut self,
+        alloc: Global,
+        said: &mut ParsedArguments,
+        word: &str,
+    ) -> Result<bool, PortFault> {
         let Some(option) = self.telling else {
             return Ok(false);
         };
@@ -150,12 +155,12 @@ impl Options {
     }
 
     /// What is asked for, with these paths and this program.
-    fn job(self, like: Option<Program>, mut paths: Vec<String>) -> Result<Job, PortFault> {
+    fn job(self, like: Option<Program>, mut paths: Vec<String>) -> Result<PortTarget, PortFault> {
         if self.telling.is_some() {
             return Err(PortFault::Usage);
         }
         if self.help {
-            return Ok(Job::Help);
+            return Ok(PortTarget::Help);
         }
         let last = paths.pop();
         let first = paths.pop();
@@ -164,8 +169,8 @@ impl Options {
         }
         let is_of_trees = self.one_version || like.is_some();
         match (self.stdin, self.check, first, last) {
-            (true, false, None, None) if !is_of_trees => Ok(Job::Stdin),
-            (false, false, None, Some(file)) if !is_of_trees => Ok(Job::File(file)),
+            (true, false, None, None) if !is_of_trees => Ok(PortTarget::Stdin),
+            (false, false, None, Some(file)) if !is_of_trees => Ok(PortTarget::File(file)),
             (false, true, None, Some(from)) => Ok(self.tree(like, from, None)),
             (false, true, Some(from), Some(_to)) => Ok(self.tree(like, from, None)),
             (false, false, Some(from), Some(to)) => Ok(self.tree(like, from, Some(to))),
@@ -174,8 +179,8 @@ impl Options {
     }
 
     /// The files below a path.
-    fn tree(self, like: Option<Program>, from: String, to: Option<String>) -> Job {
-        Job::Tree(Walked {
+    fn tree(self, like: Option<Program>, from: String, to: Option<String>) -> PortTarget {
+        PortTarget::Tree(WalkedFiles {
             from,
             to,
             one_version: self.one_version,
@@ -187,7 +192,7 @@ impl Options {
 /// What the words of a command line ask for.
 ///
 /// The errors: want of memory; they ask for nothing that the program does.
-pub(crate) fn asked_for(alloc: Global, words: Vec<String>) -> Result<Wanted, PortFault> {
+pub(crate) fn asked_for(alloc: Global, words: Vec<String>) -> Result<PortArguments, PortFault> {
     let mut options = Options {
         help: false,
         stdin: false,
@@ -197,9 +202,9 @@ pub(crate) fn asked_for(alloc: Global, words: Vec<String>) -> Result<Wanted, Por
         telling: None,
         ended: false,
     };
-    let mut said = Said {
-        host: Host::new(alloc),
-        kept: Kept::new(),
+    let mut said = ParsedArguments {
+        host: HostNames::new(alloc),
+        kept: KeptValues::new(),
         shown: None,
         like: None,
     };
@@ -213,7 +218,7 @@ pub(crate) fn asked_for(alloc: Global, words: Vec<String>) -> Result<Wanted, Por
         return Err(PortFault::Usage);
     }
     let job = options.job(said.like, paths)?;
-    Ok(Wanted {
+    Ok(PortArguments {
         job,
         json: options.json,
         said,

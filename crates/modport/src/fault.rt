@@ -1,11 +1,11 @@
 //! Why nothing was translated, or not all.
 use filetree::TreeFault;
-use processinput::InputFault;
+use port_rewriting::TranslationFault;
+use process::InputFault;
 use std::alloc::{AllocError, AllocFailed};
 use std::error::Error;
 use std::fmt;
-use tclchars::TextFault;
-use translation::TranslationFault;
+use tcltext::chars::TextFault;
 
 /// How the program is called.
 pub(crate) const USAGE: &str = "Usage: modport [--json] [--host NAME=VALUE]... \

@@ -1,54 +1,56 @@
 //! A modulefile of which something is left out, flattened by what Environment Modules has shown of it.
 ghost use Rattle.std.specs.Prelude.{◌≡◌, IfOk, IfSome, MatchOption, Some, string_bytes};
 ghost use Rattle.std.specs.Option.{option_map};
-ghost use Rattle.aliases.specs.Views.{shell_scripts_view};
-ghost use Rattle.families.specs.Views.{home_view};
-ghost use Rattle.tclscript.specs.Text.{IsWithin};
-ghost use Rattle.tclscript.specs.Tree.{Commands};
-ghost use Rattle.tclscript.specs.View.{script_view};
-ghost use Rattle.portforms.specs.Words.{commands_in, texts};
-ghost use Rattle.scripttext.specs.ScriptTexts.{Parses};
-ghost use Rattle.shownrecords.specs.Views.{person_view};
-ghost use Rattle.translation.specs.TranslationViews.{HasTranslation, notes_view};
+ghost use Rattle.port_rewriting.specs.aliases.Views.{shell_scripts_view};
+ghost use Rattle.port_rewriting.specs.families.Views.{home_view};
+ghost use Rattle.tcltext.specs.script.Text.{IsWithin};
+ghost use Rattle.tcltext.specs.script.Tree.{Commands};
+ghost use Rattle.tcltext.specs.script.View.{script_view};
+ghost use Rattle.port_reading.specs.forms.Words.{commands_in, texts};
+ghost use Rattle.port_reading.specs.script_text.ScriptTexts.{Parses};
+ghost use Rattle.port_flatten.specs.Views.{person_view};
+ghost use Rattle.port_rewriting.specs.TranslationViews.{HasTranslation, notes_view};
 ghost use Rattle.modport.specs.Flattening as spec;
 ghost use Rattle.modport.specs.Flattening.{DoesNotServe, IsFlattenedSo, IsWritten};
 ghost use Rattle.modport.specs.Lines as lines;
-ghost use Rattle.modport.specs.Ported.{HasScriptsOf, IsReported};
+ghost use Rattle.modport.specs.TranslatedFile.{HasScriptsOf, IsReported};
 ghost use Rattle.modport.specs.LineViews.{coming_view, now, porting_view};
 ghost use Rattle.modport.specs.declared.status.Status.TheVariants.{Within};
 
 use crate::fault::PortFault;
-use crate::porting::{Manner, OneVersion, Ported, bytes_of, one_version_of};
+use crate::porting::{OneVersion, PortOptions, TranslatedFile, bytes_of, one_version_of};
 use crate::reporting::push_report;
-use crate::saying::{Coming, added_lines, command_lines, shown_lines, writing_lines};
+use crate::source_encoding::{
+    SourceEncoding, added_lines, command_lines, shown_lines, writing_lines,
+};
 use crate::status::{Status, has_left};
-use families::Home;
-use shownrecords::{Person, are_records, flattened};
+use port_flatten::{UserValues, are_records, flattened};
+use port_rewriting::families::SiteContext;
+use port_rewriting::{Note, Translation, translate};
 use std::alloc::{AllocError, Global};
-use tclscript::{Script, parse_script};
-use translation::{Note, Translation, translate};
+use tcltext::script::{Script, parse_script};
 
 /// A modulefile that is translated.
 #[derive(Clone, Copy)]
-pub(crate) struct Given<'g> {
+pub(crate) struct ShownModulefile<'g> {
     /// Its path.
     pub path: &'g str,
     /// How it came.
-    pub coming: Coming,
+    pub coming: SourceEncoding,
     /// Its text.
     pub text: &'g str,
     /// The site that it is of.
-    pub home: Option<Home<'g>>,
+    pub home: Option<SiteContext<'g>>,
     /// The name that it is to be in conflict with.
     pub name: Option<&'g str>,
 }
 
 /// The home without a folder for scripts: the aliases that were shown aren't those of the file.
-fn without_scripts(home: Option<Home<'_>>) -> Option<Home<'_>>
+fn without_scripts(home: Option<SiteContext<'_>>) -> Option<SiteContext<'_>>
     ensures { option_map home_view result ≡ spec.without_scripts (option_map home_view home.entry) }
 {
     match home {
-        Some(Home { site, name, .. }) => Some(Home {
+        Some(SiteContext { site, name, .. }) => Some(SiteContext {
             site,
             name,
             scripts_folder: None,
@@ -58,7 +60,7 @@ fn without_scripts(home: Option<Home<'_>>) -> Option<Home<'_>>
 }
 
 /// Whether a translation serves: nothing is left of it, and each of its commands is a record, for the person.
-fn serves(alloc: Global, person: Person, translation: &Translation) -> Result<bool, PortFault>
+fn serves(alloc: Global, person: UserValues, translation: &Translation) -> Result<bool, PortFault>
     ensures { IfOk result (λ serves. (t : Commands) × IsWithin (string_bytes translation.now.text) t
         × (serves ≡ spec.serves (person_view person.entry) (notes_view translation.now.notes.items) (commands_in t))) }
 {
@@ -71,7 +73,7 @@ fn serves(alloc: Global, person: Person, translation: &Translation) -> Result<bo
 fn report_on(
     alloc: Global,
     json: bool,
-    given: Given,
+    given: ShownModulefile,
     script: &Script<&str>,
     notes: &[Note],
     added: Option<&[u8]>,
@@ -96,10 +98,10 @@ fn report_on(
 fn written_flat(
     alloc: Global,
     json: bool,
-    given: Given,
+    given: ShownModulefile,
     script: &Script<&str>,
     translation: Translation,
-) -> Result<Ported, PortFault>
+) -> Result<TranslatedFile, PortFault>
     requires { Parses (string_bytes translation.text) }
     ensures parses { IfOk result (λ p. Parses (string_bytes p.text)) }
     ensures written { IfOk result (λ p. spec.IsPut (now given.entry.name) json given.entry.path.now
@@ -118,7 +120,7 @@ fn written_flat(
         notes.as_slice(),
         bytes_of(&added),
     )?;
-    Ok(Ported {
+    Ok(TranslatedFile {
         text,
         report,
         status: Status::Within,
@@ -129,8 +131,8 @@ fn written_flat(
 /// The translation of a flattened text, in whose home no scripts are written.
 fn flat_translation<'f>(
     alloc: Global,
-    manner: Manner,
-    home: Option<Home>,
+    manner: PortOptions,
+    home: Option<SiteContext>,
     flat: &'f str,
 ) -> Result<Translation<'f>, PortFault>
     ensures parses { IfOk result (λ t. Parses (string_bytes t.text)) }
@@ -144,11 +146,11 @@ fn flat_translation<'f>(
 #[tactic(auto, using(crate::proofs::Flat::refused_so))]
 fn of_flat(
     alloc: Global,
-    manner: Manner,
-    given: Given,
+    manner: PortOptions,
+    given: ShownModulefile,
     script: &Script<&str>,
     flat: &str,
-) -> Result<Option<Ported>, PortFault>
+) -> Result<Option<TranslatedFile>, PortFault>
     ensures parses { IfOk result (λ p. IfSome p (λ w. Parses (string_bytes w.text))) }
     ensures written { IfOk result (λ p. MatchOption p
         (spec.IsRefused (porting_view manner.entry given.entry.home given.entry.name)
@@ -170,10 +172,10 @@ fn of_flat(
 /// A file flattened by what is shown, where it serves.
 fn flattened_file(
     alloc: Global,
-    manner: Manner,
-    given: Given,
+    manner: PortOptions,
+    given: ShownModulefile,
     shown: &str,
-) -> Result<Option<Ported>, PortFault>
+) -> Result<Option<TranslatedFile>, PortFault>
     ensures parses { IfOk result (λ p. IfSome p (λ w. Parses (string_bytes w.text))) }
     ensures written { IfOk result (λ p. MatchOption p
         (DoesNotServe (porting_view manner.entry given.entry.home given.entry.name) (person_view manner.entry.person)
@@ -196,11 +198,11 @@ fn flattened_file(
 /// The errors: want of memory; what was shown isn't translated.
 pub(crate) fn or_flattened(
     alloc: Global,
-    manner: Manner,
-    given: Given,
+    manner: PortOptions,
+    given: ShownModulefile,
     shown: &str,
-    ported: Ported,
-) -> Result<Ported, PortFault>
+    ported: TranslatedFile,
+) -> Result<TranslatedFile, PortFault>
     requires parses { Parses (string_bytes ported.text) }
     requires reported { IsReported (porting_view manner given.home given.name) manner.json
         given.path.now (coming_view given.coming) given.text.now (string_bytes ported.text)
@@ -220,7 +222,7 @@ pub(crate) fn or_flattened(
         Status::Left => {}
     }
     match flattened_file(alloc, manner, given, shown)? {
-        Some(flat) => Ok(Ported {
+        Some(flat) => Ok(TranslatedFile {
             text: flat.text,
             report: flat.report,
             status: flat.status,

@@ -3,7 +3,7 @@
 use crate::fault::PortFault;
 use crate::texts::{joined, modulefile, read};
 use crate::walk::{MOST_DIRECTORIES, name_below, names_in};
-use otherdefaults::Program;
+use port_defaults::Program;
 use std::alloc::{AllocError, Global};
 use std::fs;
 

@@ -1,17 +1,17 @@
 //! Laws of what is written: functions that do nothing, whose contracts are theorems about the definitions.
 ghost use Rattle.std.specs.Prelude.{◌≡◌, List, [], ◌++◌, map, Option, Some};
-ghost use Rattle.tclchars.specs.Runs.{Text};
-ghost use Rattle.tclscript.specs.Tree.{Command};
-ghost use Rattle.filetext.specs.FileTexts.{text_of, Writing, writing_of};
-ghost use Rattle.computedwords.specs.Walks.{Edit};
-ghost use Rattle.translation.specs.Notes.{Note};
+ghost use Rattle.tcltext.specs.chars.Runs.{Text};
+ghost use Rattle.tcltext.specs.script.Tree.{Command};
+ghost use Rattle.port_reading.specs.file_text.FileTexts.{text_of, Writing, writing_of};
+ghost use Rattle.port_constants.specs.Walks.{Edit};
+ghost use Rattle.port_rewriting.specs.Notes.{Note};
 ghost use Rattle.modport.specs.Accounts.{Accounts, AccountsForCommands};
-ghost use Rattle.shownrecords.specs.Flattened.{flattened};
-ghost use Rattle.shownrecords.specs.People.{Person};
+ghost use Rattle.port_flatten.specs.Flattened.{flattened};
+ghost use Rattle.port_flatten.specs.People.{UserValues};
 ghost use Rattle.modport.specs.FileAccounts.{AccountsForFile};
 ghost use Rattle.modport.specs.Flattening.{command_line, IsFlattened};
 ghost use Rattle.modport.specs.Lines.{Line};
-ghost use Rattle.modport.specs.Ported.{added_lines, edit_line, IsPorted, note_line, Porting, Steps};
+ghost use Rattle.modport.specs.TranslatedFile.{added_lines, edit_line, IsPorted, note_line, Porting, Steps};
 ghost use Rattle.modport.specs.declared.status.Status.{Status};
 
 /// Each step accounts for what it changes: its text is cut into stretches, each line of the report is said of one, and
@@ -51,8 +51,8 @@ pub fn unsaid_is_same()
 /// What is flattened accounts for each command of the file: its text is cut where these begin, and each has a line. So
 /// something is said of each file that is flattened.
 pub fn flattened_accounted_for()
-    ensures commands { (person : Person) (shown given flat : Text) (cs : List Command)
+    ensures commands { (person : UserValues) (shown given flat : Text) (cs : List Command)
         → Some flat ≡ flattened person given cs shown → Accounts given flat (map (command_line given) cs) }
-    ensures said { (port : Porting) (person : Person) (shown : Text) (how : Writing) (given written : Text)
+    ensures said { (port : Porting) (person : UserValues) (shown : Text) (how : Writing) (given written : Text)
         → IsFlattened port person shown how given written [] → ⊥ }
 {}

@@ -7,30 +7,30 @@ mod arguments;
 mod fault;
 mod flattening;
 mod folders;
-mod host;
-mod kept;
+mod host_names;
+mod kept_values;
 mod laws;
 mod left_out;
 mod naming;
 mod porting;
 mod report_lines;
 mod reporting;
-mod saying;
 mod script_files;
 mod site_walk;
+mod source_encoding;
 mod status;
 mod texts;
 mod walk;
 
-use arguments::{Job, Said, Wanted, asked_for};
-use computedwords::Binding;
+use arguments::{ParsedArguments, PortArguments, PortTarget, asked_for};
 use fault::{PortFault, USAGE};
-use filetext::file_text;
-use kept::Kept;
+use kept_values::KeptValues;
 pub use laws::{accounted_for, file_accounted_for, flattened_accounted_for, unsaid_is_same};
 use left_out::LEFT_OUT;
-use porting::{Manner, Ported, port_file};
-use processinput::arguments as words_of;
+use port_constants::KnownVariable;
+use port_reading::file_text::file_text;
+use porting::{PortOptions, TranslatedFile, port_file};
+use process::arguments as words_of;
 use status::Status;
 use std::io::Write;
 use std::process::ExitCode;
@@ -41,7 +41,7 @@ use walk::walk_tree;
 /// and what was shown of it is in the file at another, where one is given.
 fn print(
     rt: &HostRuntime,
-    manner: Manner,
+    manner: PortOptions,
     path: &str,
     bytes: &[u8],
     shown: Option<&str>,
@@ -51,7 +51,7 @@ fn print(
         Some(shown) => shown_text(rt, shown)?,
         None => None,
     };
-    let Ported {
+    let TranslatedFile {
         text,
         report,
         status,
@@ -74,9 +74,13 @@ fn help(rt: &HostRuntime) -> Result<Status, PortFault> {
 }
 
 /// How modulefiles are translated, by what is known of the host, and of whose environment they were shown in.
-fn manner_of<'h>(json: bool, host: &'h [Binding<'h>], kept: &'h Kept) -> Manner<'h> {
+fn manner_of<'h>(
+    json: bool,
+    host: &'h [KnownVariable<'h>],
+    kept: &'h KeptValues,
+) -> PortOptions<'h> {
     let person = kept.person();
-    Manner {
+    PortOptions {
         json,
         host,
         left_out: &LEFT_OUT,
@@ -86,8 +90,8 @@ fn manner_of<'h>(json: bool, host: &'h [Binding<'h>], kept: &'h Kept) -> Manner<
 
 /// Does what the arguments ask for, and gives the status.
 fn port(rt: &HostRuntime) -> Result<Status, PortFault> {
-    let Wanted { job, json, said } = asked_for(rt.alloc(), words_of(rt)?)?;
-    let Said {
+    let PortArguments { job, json, said } = asked_for(rt.alloc(), words_of(rt)?)?;
+    let ParsedArguments {
         host,
         kept,
         shown,
@@ -97,13 +101,13 @@ fn port(rt: &HostRuntime) -> Result<Status, PortFault> {
     let manner = manner_of(json, bindings.as_slice(), &kept);
     let shown = shown.as_deref();
     match job {
-        Job::Help => help(rt),
-        Job::Stdin => print(rt, manner, "--stdin", read_input(rt)?.as_slice(), shown),
-        Job::File(path) => {
+        PortTarget::Help => help(rt),
+        PortTarget::Stdin => print(rt, manner, "--stdin", read_input(rt)?.as_slice(), shown),
+        PortTarget::File(path) => {
             let bytes = read(rt, path.as_str())?;
             print(rt, manner, path.as_str(), bytes.as_slice(), shown)
         }
-        Job::Tree(walked) => walk_tree(rt, manner, walked, shown),
+        PortTarget::Tree(walked) => walk_tree(rt, manner, walked, shown),
     }
 }
 

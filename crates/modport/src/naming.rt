@@ -4,18 +4,18 @@ use crate::fault::PortFault;
 use crate::folders::{Entries, Place, read_entries};
 use crate::texts::{joined, modulefile, read, write_new};
 use crate::walk::name_below;
-use filetext::file_text;
-use otherdefaults::{DefaultFile, Finding, Folder, Program, judge, statements_said, with_default};
+use port_defaults::{DefaultFile, Finding, Folder, Program, judge, statements_said, with_default};
+use port_reading::file_text::file_text;
 use std::alloc::{AllocError, Global};
 use std::{fs, str};
-use tclchars::TextFault;
+use tcltext::chars::TextFault;
 
 /// The least text of a default file.
 const EMPTY: &str = "#%Module\n";
 
 /// What was done for a folder.
 #[derive(Debug, Drop)]
-pub(crate) enum Naming {
+pub(crate) enum DefaultFileOutcome {
     /// Nothing.
     Same,
     /// This module was named.
@@ -26,29 +26,29 @@ pub(crate) enum Naming {
 
 /// A default file that is looked for.
 #[derive(Debug, Drop)]
-enum Reading {
+enum DefaultFileRead {
     /// None is there that counts.
     Nothing,
     /// It says this.
-    Said(DefaultFile),
+    Statements(DefaultFile),
     /// It isn't known what it says.
     Unclear,
 }
 
-impl Reading {
+impl DefaultFileRead {
     /// Whether it isn't known.
     fn is_unclear(&self) -> bool {
         match self {
-            Reading::Unclear => true,
-            Reading::Nothing | Reading::Said(_) => false,
+            DefaultFileRead::Unclear => true,
+            DefaultFileRead::Nothing | DefaultFileRead::Statements(_) => false,
         }
     }
 
     /// The default file, where one is there.
     fn file(self) -> Option<DefaultFile> {
         match self {
-            Reading::Said(file) => Some(file),
-            Reading::Nothing | Reading::Unclear => None,
+            DefaultFileRead::Statements(file) => Some(file),
+            DefaultFileRead::Nothing | DefaultFileRead::Unclear => None,
         }
     }
 }
@@ -73,18 +73,18 @@ fn borrowed_file(file: &Option<DefaultFile>) -> Option<&DefaultFile> {
 }
 
 /// What the text of a default file says, which is in a folder of modules of this name.
-fn said_in(alloc: Global, bytes: &[u8], folder: &str) -> Result<Reading, PortFault> {
+fn said_in(alloc: Global, bytes: &[u8], folder: &str) -> Result<DefaultFileRead, PortFault> {
     let file = file_text(alloc, bytes)?;
     let Ok(text) = str::from_utf8(file.text.as_slice()) else {
-        return Ok(Reading::Unclear);
+        return Ok(DefaultFileRead::Unclear);
     };
     match statements_said(alloc, text) {
-        Ok(Some(statements)) => Ok(Reading::Said(DefaultFile {
+        Ok(Some(statements)) => Ok(DefaultFileRead::Statements(DefaultFile {
             folder: String::from_str(alloc, folder)?,
             statements,
         })),
         Err(TextFault::OutOfMemory) => Err(PortFault::OutOfMemory),
-        Ok(None) | Err(_) => Ok(Reading::Unclear),
+        Ok(None) | Err(_) => Ok(DefaultFileRead::Unclear),
     }
 }
 
@@ -97,32 +97,32 @@ fn read_default_file(
     path: &str,
     folder: &str,
     name: &str,
-) -> Result<Reading, PortFault> {
+) -> Result<DefaultFileRead, PortFault> {
     let alloc = rt.alloc();
     let path = joined(alloc, path, name)?;
     let bytes = match read(rt, path.as_str()) {
         Ok(bytes) => bytes,
-        Err(PortFault::NoFile) => return Ok(Reading::Nothing),
-        Err(_) => return Ok(Reading::Unclear),
+        Err(PortFault::NoFile) => return Ok(DefaultFileRead::Nothing),
+        Err(_) => return Ok(DefaultFileRead::Unclear),
     };
     if modulefile(alloc, bytes.as_slice())?.is_some() {
         return said_in(alloc, bytes.as_slice(), folder);
     }
     match program {
-        Program::EnvironmentModules => Ok(Reading::Nothing),
-        Program::Lmod => Ok(Reading::Unclear),
+        Program::EnvironmentModules => Ok(DefaultFileRead::Nothing),
+        Program::Lmod => Ok(DefaultFileRead::Unclear),
     }
 }
 
 /// Adds what a default file says; whether that is known.
-fn push_known(files: &mut Vec<DefaultFile>, reading: Reading) -> Result<bool, AllocError> {
+fn push_known(files: &mut Vec<DefaultFile>, reading: DefaultFileRead) -> Result<bool, AllocError> {
     match reading {
-        Reading::Nothing => Ok(true),
-        Reading::Said(file) => {
+        DefaultFileRead::Nothing => Ok(true),
+        DefaultFileRead::Statements(file) => {
             files.push(file)?;
             Ok(true)
         }
-        Reading::Unclear => Ok(false),
+        DefaultFileRead::Unclear => Ok(false),
     }
 }
 
@@ -213,23 +213,27 @@ fn put(rt: &HostRuntime, path: &str, text: &str, named: &str) -> Result<(), Port
 }
 
 /// Names a version of a folder.
-fn name_version(rt: &HostRuntime, place: &Place, version: &str) -> Result<Naming, PortFault> {
+fn name_version(
+    rt: &HostRuntime,
+    place: &Place,
+    version: &str,
+) -> Result<DefaultFileOutcome, PortFault> {
     let alloc = rt.alloc();
     let path = match &place.to {
         Some(to) => joined(alloc, to.as_str(), ".modulerc")?,
         None => joined(alloc, place.from.as_str(), ".modulerc")?,
     };
     let Some(text) = text_at(rt, path.as_str())? else {
-        return Ok(Naming::Unjudged);
+        return Ok(DefaultFileOutcome::Unjudged);
     };
     let Some(text) = with_default(alloc, text.as_str(), place.name.as_str(), version)? else {
-        return Ok(Naming::Unjudged);
+        return Ok(DefaultFileOutcome::Unjudged);
     };
     if place.to.is_some() {
         let named = joined(alloc, place.from.as_str(), version)?;
         put(rt, path.as_str(), text.as_str(), named.as_str())?;
     }
-    Ok(Naming::Named(joined(alloc, place.name.as_str(), version)?))
+    Ok(DefaultFileOutcome::Named(joined(alloc, place.name.as_str(), version)?))
 }
 
 /// What another program takes of a folder with these default files, beside this one.
@@ -239,7 +243,7 @@ fn name_found(
     place: &Place,
     found: &Entries,
     files: &Files,
-) -> Result<Naming, PortFault> {
+) -> Result<DefaultFileOutcome, PortFault> {
     let alloc = rt.alloc();
     let versions = borrowed(alloc, found.versions.as_slice())?;
     let folders = borrowed(alloc, found.folders.as_slice())?;
@@ -256,9 +260,9 @@ fn name_found(
         },
     };
     match judge(alloc, program, folder)? {
-        Finding::Same => Ok(Naming::Same),
+        Finding::Same => Ok(DefaultFileOutcome::Same),
         Finding::Names(version) => name_version(rt, place, version),
-        Finding::Unjudged => Ok(Naming::Unjudged),
+        Finding::Unjudged => Ok(DefaultFileOutcome::Unjudged),
     }
 }
 
@@ -294,15 +298,15 @@ pub(crate) fn name_default(
     program: Program,
     top: &str,
     place: &Place,
-) -> Result<Naming, PortFault> {
+) -> Result<DefaultFileOutcome, PortFault> {
     let found = read_entries(rt, place)?;
     if found.is_one() {
-        return Ok(Naming::Same);
+        return Ok(DefaultFileOutcome::Same);
     }
     match read_files(rt, program, top, place)? {
         Some(files) if found.are_ordered_by(program) => {
             name_found(rt, program, place, &found, &files)
         }
-        _ => Ok(Naming::Unjudged),
+        _ => Ok(DefaultFileOutcome::Unjudged),
     }
 }

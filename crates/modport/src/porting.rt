@@ -1,48 +1,48 @@
 //! A modulefile translated, however it was written.
 ghost use Rattle.std.specs.Prelude.{◌≡◌, length, IfOk, string_bytes};
 ghost use Rattle.std.specs.Option.{option_map};
-ghost use Rattle.aliases.specs.Views.{shell_scripts_view};
-ghost use Rattle.scripttext.specs.ScriptTexts.{Parses};
-ghost use Rattle.computedwords.specs.Edits.{HasComputed};
-ghost use Rattle.computedwords.specs.Views.{bindings_view, edits_view};
-ghost use Rattle.translation.specs.TranslationViews.{notes_view};
+ghost use Rattle.port_rewriting.specs.aliases.Views.{shell_scripts_view};
+ghost use Rattle.port_reading.specs.script_text.ScriptTexts.{Parses};
+ghost use Rattle.port_constants.specs.Edits.{HasComputed};
+ghost use Rattle.port_constants.specs.Views.{bindings_view, edits_view};
+ghost use Rattle.port_rewriting.specs.TranslationViews.{notes_view};
 ghost use Rattle.modport.specs.Lines as lines;
-ghost use Rattle.modport.specs.Ported as spec;
-ghost use Rattle.modport.specs.Ported.{HasScriptsOf, IsReported};
+ghost use Rattle.modport.specs.TranslatedFile as spec;
+ghost use Rattle.modport.specs.TranslatedFile.{HasScriptsOf, IsReported};
 ghost use Rattle.modport.specs.LineViews.{coming_view, now, porting_view};
 ghost use Rattle.modport.specs.Flattening.{IsWritten};
-ghost use Rattle.shownrecords.specs.Views.{person_view};
+ghost use Rattle.port_flatten.specs.Views.{person_view};
 
 use crate::fault::PortFault;
-use crate::flattening::{Given, or_flattened};
+use crate::flattening::{ShownModulefile, or_flattened};
 use crate::reporting::push_report;
-use crate::saying::{Coming, added_lines, edit_lines, note_lines, writing_lines};
+use crate::source_encoding::{SourceEncoding, added_lines, edit_lines, note_lines, writing_lines};
 use crate::status::Status;
-use aliases::ShellScript;
-use computedwords::{Binding, Computed, Edit, compute};
-use families::Home;
-use filetext::FileText;
-use oneversion::with_one_version;
-use shownrecords::Person;
+use port_constants::{Edit, FoldedFile, KnownVariable, compute};
+use port_flatten::UserValues;
+use port_reading::file_text::FileText;
+use port_rewriting::aliases::ShellScript;
+use port_rewriting::families::SiteContext;
+use port_rewriting::one_version::with_one_version;
+use port_rewriting::{Note, Translation, translate};
 use std::alloc::{AllocError, Global};
-use translation::{Note, Translation, translate};
 
 /// How modulefiles are translated.
 #[derive(Clone, Copy)]
-pub struct Manner<'h> {
+pub struct PortOptions<'h> {
     /// Whether each line of the report is JSON.
     pub json: bool,
     /// What is known of the host that they are for.
-    pub host: &'h [Binding<'h>],
+    pub host: &'h [KnownVariable<'h>],
     /// The names of commands that the profile leaves out.
     pub left_out: &'h [&'h str],
     /// In whose environment modulefiles were shown.
-    pub person: Person<'h>,
+    pub person: UserValues<'h>,
 }
 
 /// What is written for a modulefile.
 #[derive(Debug, Drop)]
-pub struct Ported {
+pub struct TranslatedFile {
     /// Its text.
     pub text: String,
     /// The report.
@@ -75,7 +75,7 @@ fn text_of(bytes: Vec<u8>) -> Result<String, PortFault>
 }
 
 /// What is computed in a text.
-fn computed_of(alloc: Global, given: &str, host: &[Binding]) -> Result<Computed, PortFault>
+fn computed_of(alloc: Global, given: &str, host: &[KnownVariable]) -> Result<FoldedFile, PortFault>
     ensures { IfOk result (λ c. HasComputed (bindings_view host.now) given.now (edits_view c.edits.items)
         (string_bytes c.text)) }
 {
@@ -140,7 +140,7 @@ fn report_on(
     alloc: Global,
     json: bool,
     path: &str,
-    coming: Coming,
+    coming: SourceEncoding,
     text: &[u8],
     edits: &[Edit],
     notes: &[Note],
@@ -165,20 +165,20 @@ fn report_on(
 #[tactic(auto, using(crate::proofs::Reported::reported, crate::proofs::Reported::scripted))]
 fn port_text(
     alloc: Global,
-    manner: Manner,
+    manner: PortOptions,
     path: &str,
-    coming: Coming,
+    coming: SourceEncoding,
     given: &str,
-    home: Option<Home>,
+    home: Option<SiteContext>,
     name: Option<&str>,
-) -> Result<Ported, PortFault>
+) -> Result<TranslatedFile, PortFault>
     ensures parses { IfOk result (λ p. Parses (string_bytes p.text)) }
     ensures reported { IfOk result (λ p. IsReported (porting_view manner.entry home.entry name.entry) manner.entry.json
         path.now (coming_view coming) given.now (string_bytes p.text) p.report.items p.status) }
     ensures scripts { IfOk result (λ p. HasScriptsOf (porting_view manner.entry home.entry name.entry) given.now
         (shell_scripts_view p.scripts.items)) }
 {
-    let Computed {
+    let FoldedFile {
         text: computed,
         edits,
     } = computed_of(alloc, given, manner.host)?;
@@ -198,7 +198,7 @@ fn port_text(
         notes.as_slice(),
         bytes_of(&added),
     )?;
-    Ok(Ported {
+    Ok(TranslatedFile {
         text,
         report,
         status: Status::of(notes.as_slice()),
@@ -209,10 +209,10 @@ fn port_text(
 /// What is written for a text that came so: its translation, or what it is flattened to.
 fn port_given(
     alloc: Global,
-    manner: Manner,
-    given: Given,
+    manner: PortOptions,
+    given: ShownModulefile,
     shown: Option<&str>,
-) -> Result<Ported, PortFault>
+) -> Result<TranslatedFile, PortFault>
     ensures parses { IfOk result (λ p. Parses (string_bytes p.text)) }
     ensures written { IfOk result (λ p. IsWritten (porting_view manner.entry given.entry.home given.entry.name)
         (person_view manner.entry.person) (now shown.entry) manner.entry.json given.entry.path.now
@@ -242,13 +242,13 @@ fn port_given(
 /// The errors: want of memory; it isn't translated.
 pub fn port_file(
     alloc: Global,
-    manner: Manner,
+    manner: PortOptions,
     path: &str,
     file: FileText,
-    home: Option<Home>,
+    home: Option<SiteContext>,
     name: Option<&str>,
     shown: Option<&str>,
-) -> Result<Ported, PortFault>
+) -> Result<TranslatedFile, PortFault>
     // What is written is a script.
     ensures parses { IfOk result (λ p. Parses (string_bytes p.text)) }
 
@@ -268,13 +268,13 @@ pub fn port_file(
         latin,
         returns,
     } = file;
-    let coming = Coming {
+    let coming = SourceEncoding {
         mark,
         latin,
         returns,
     };
     let text = text_of(text)?;
-    let given = Given {
+    let given = ShownModulefile {
         path,
         coming,
         text: text.as_str(),

@@ -2,7 +2,7 @@
 
 /// What became of a part of a file.
 #[derive(Clone, Copy, Debug, PartialEq, Eq)]
-pub enum Fate {
+pub enum PieceOutcome {
     /// Another text is written for it.
     Translated,
     /// Nothing is written for it.
@@ -25,7 +25,7 @@ pub struct Line<'w, 'p> {
     /// The line of the file, from 1, that it is about; none where it is about the whole.
     pub place: Option<usize>,
     /// What became of it.
-    pub fate: Fate,
+    pub fate: PieceOutcome,
     /// Which it is.
     pub what: &'w [u8],
     /// What is written for it, where that is said.

@@ -5,24 +5,24 @@ ghost use Rattle.modport.specs.Lines as spec;
 ghost use Rattle.modport.specs.LineViews.{line_view, lines_view, now, AddsTokens};
 
 use crate::fault::PortFault;
-use crate::report_lines::{Fate, Line};
+use crate::report_lines::{Line, PieceOutcome};
 use itoa::Buffer;
 use json::Writer;
 use std::alloc::{AllocError, Global};
 
-impl Fate {
+impl PieceOutcome {
     /// How the report says it.
     fn word(self) -> &'static str
         ensures { result.now ≡ spec.word_of self }
     {
         match self {
-            Fate::Translated => "translated",
-            Fate::Dropped => "dropped",
-            Fate::Computed => "computed",
-            Fate::Flattened => "flattened",
-            Fate::Added => "added",
-            Fate::Default => "default",
-            Fate::LeftOut => "left out",
+            PieceOutcome::Translated => "translated",
+            PieceOutcome::Dropped => "dropped",
+            PieceOutcome::Computed => "computed",
+            PieceOutcome::Flattened => "flattened",
+            PieceOutcome::Added => "added",
+            PieceOutcome::Default => "default",
+            PieceOutcome::LeftOut => "left out",
         }
     }
 }
@@ -189,7 +189,7 @@ fn line_on(
     alloc: Global,
     json: bool,
     path: &str,
-    fate: Fate,
+    fate: PieceOutcome,
     what: &str,
 ) -> Result<Vec<u8>, AllocError> {
     let line = Line {
@@ -210,7 +210,7 @@ pub(crate) fn default_line(
     path: &str,
     name: &str,
 ) -> Result<Vec<u8>, AllocError> {
-    line_on(alloc, json, path, Fate::Default, name)
+    line_on(alloc, json, path, PieceOutcome::Default, name)
 }
 
 /// The line that says of the file of this path that something is left out.
@@ -220,7 +220,7 @@ pub(crate) fn left_out_line(
     path: &str,
     what: &str,
 ) -> Result<Vec<u8>, AllocError> {
-    line_on(alloc, json, path, Fate::LeftOut, what)
+    line_on(alloc, json, path, PieceOutcome::LeftOut, what)
 }
 
 /// The line that says of the file of this path why it isn't translated.

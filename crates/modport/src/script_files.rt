@@ -2,8 +2,8 @@
 
 use crate::fault::PortFault;
 use crate::texts::joined;
-use aliases::ShellScript;
-use processinput::absolute_path;
+use port_rewriting::aliases::ShellScript;
+use process::absolute_path;
 use std::alloc::Global;
 use std::env::VarError;
 use std::fs::OpenOptions;

@@ -3,10 +3,10 @@
 use crate::fault::PortFault;
 use crate::texts::{joined, kind_of, modulefile, read};
 use crate::walk::{MOST_DIRECTORIES, name_below, names_in};
-use families::{Site, families_said, symbols_said};
+use port_rewriting::families::{SiteFacts, families_said, symbols_said};
 use std::alloc::Global;
 use std::str;
-use tclchars::TextFault;
+use tcltext::chars::TextFault;
 
 /// A directory whose files are read.
 #[derive(Debug, Drop)]
@@ -26,7 +26,12 @@ fn unless_memory(done: Result<(), PortFault>) -> Result<(), PortFault> {
 }
 
 /// Adds the families that a text names, as those of a module.
-fn add_families(alloc: Global, site: &mut Site, text: &str, module: &str) -> Result<(), PortFault> {
+fn add_families(
+    alloc: Global,
+    site: &mut SiteFacts,
+    text: &str,
+    module: &str,
+) -> Result<(), PortFault> {
     match families_said(alloc, text) {
         Ok(names) => {
             for name in &names {
@@ -40,7 +45,12 @@ fn add_families(alloc: Global, site: &mut Site, text: &str, module: &str) -> Res
 }
 
 /// Adds the version symbols that the text of a default file says, in a directory with modules of that name.
-fn add_symbols(alloc: Global, site: &mut Site, text: &str, folder: &str) -> Result<(), PortFault> {
+fn add_symbols(
+    alloc: Global,
+    site: &mut SiteFacts,
+    text: &str,
+    folder: &str,
+) -> Result<(), PortFault> {
     match symbols_said(alloc, text, folder.as_bytes()) {
         Ok(symbols) => {
             for symbol in symbols {
@@ -56,7 +66,7 @@ fn add_symbols(alloc: Global, site: &mut Site, text: &str, folder: &str) -> Resu
 /// Adds what the text of a file of this name says, in a directory with modules of that name.
 fn add_text(
     alloc: Global,
-    site: &mut Site,
+    site: &mut SiteFacts,
     text: &str,
     folder: &str,
     name: &str,
@@ -70,7 +80,7 @@ fn add_text(
 /// Adds what the file at a path says, which has this name in a directory with modules of that name.
 fn add_file(
     rt: &HostRuntime,
-    site: &mut Site,
+    site: &mut SiteFacts,
     path: &str,
     folder: &str,
     name: &str,
@@ -87,7 +97,7 @@ fn add_file(
 /// Adds what is at a name of a directory, or the directory that is there to those that are still to be read.
 fn add_name(
     rt: &HostRuntime,
-    site: &mut Site,
+    site: &mut SiteFacts,
     below: &mut Vec<Folder>,
     folder: &Folder,
     name: &str,
@@ -109,7 +119,7 @@ fn add_name(
 /// Adds what is in a directory.
 fn add_folder(
     rt: &HostRuntime,
-    site: &mut Site,
+    site: &mut SiteFacts,
     below: &mut Vec<Folder>,
     folder: &Folder,
 ) -> Result<(), PortFault> {
@@ -122,7 +132,7 @@ fn add_folder(
 /// Adds what is in some directories, and gives those in them.
 fn add_folders(
     rt: &HostRuntime,
-    site: &mut Site,
+    site: &mut SiteFacts,
     folders: &[Folder],
 ) -> Result<Vec<Folder>, PortFault> {
     let mut below = Vec::new(rt.alloc());
@@ -141,9 +151,9 @@ pub(crate) fn module_of<'n>(folder: &'n str, name: &'n str) -> &'n str {
 /// directory by their names, before those of the directories in it.
 ///
 /// The error: want of memory. What can't be read says nothing.
-pub(crate) fn site_of(rt: &HostRuntime, from: &str) -> Result<Site, PortFault> {
+pub(crate) fn site_of(rt: &HostRuntime, from: &str) -> Result<SiteFacts, PortFault> {
     let alloc = rt.alloc();
-    let mut site = Site::new(alloc);
+    let mut site = SiteFacts::new(alloc);
     let mut folders = Vec::new(alloc);
     folders.push(Folder {
         path: String::from_str(alloc, from)?,

@@ -1,10 +1,10 @@
 //! With which status the program ends.
 ghost use Rattle.std.specs.Prelude.{◌≡◌};
 ghost use Rattle.std.specs.List.{list_any};
-ghost use Rattle.modport.specs.Ported as spec;
-ghost use Rattle.translation.specs.TranslationViews.{notes_view};
+ghost use Rattle.modport.specs.TranslatedFile as spec;
+ghost use Rattle.port_rewriting.specs.TranslationViews.{notes_view};
 
-use translation::{Note, Outcome};
+use port_rewriting::{Note, Outcome};
 
 /// How far what was read is within the profile.
 #[derive(Clone, Copy, Debug, PartialEq, Eq)]

@@ -1,7 +1,7 @@
 //! The texts of files and paths.
 
 use crate::fault::PortFault;
-use filetext::{FileText, file_text};
+use port_reading::file_text::{FileText, file_text};
 use std::alloc::{AllocError, Global};
 use std::fs;
 use std::fs::Metadata;

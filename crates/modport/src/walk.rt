@@ -1,18 +1,18 @@
 //! The files below a directory, translated below another.
 
-use crate::arguments::Walked;
+use crate::arguments::WalkedFiles;
 use crate::fault::PortFault;
 use crate::folders::{Place, places};
-use crate::naming::{Naming, name_default};
-use crate::porting::{Manner, bytes_of, port_file};
+use crate::naming::{DefaultFileOutcome, name_default};
+use crate::porting::{PortOptions, bytes_of, port_file};
 use crate::reporting::{default_line, fault_line, left_out_line};
 use crate::script_files::{ScriptFile, ScriptPlaces};
 use crate::site_walk::{module_of, site_of};
 use crate::status::Status;
 use crate::texts::{joined, kind_of, modulefile, read, shown_text, write_new};
-use families::{Home, Site};
 use filetree::{DiskTree, Tree};
-use otherdefaults::Program;
+use port_defaults::Program;
+use port_rewriting::families::{SiteContext, SiteFacts};
 use std::alloc::{AllocError, Global};
 use std::fs::{Metadata, Permissions};
 use std::io::Write;
@@ -39,13 +39,13 @@ struct Folder {
 pub(crate) struct Walk<'r> {
     rt: &'r HostRuntime,
     /// How files are translated.
-    manner: Manner<'r>,
+    manner: PortOptions<'r>,
     /// Whether each modulefile is to be in conflict with its own name.
     one_version: bool,
     /// The directory with what was shown of each, where there is one.
     shown: Option<&'r str>,
     /// What the files of the site say of its modules.
-    site: Site,
+    site: SiteFacts,
     /// Where scripts of aliases are written.
     script_places: ScriptPlaces,
     /// The scripts that are still to be written.
@@ -138,9 +138,13 @@ fn begin(rt: &HostRuntime, from: &str, to: &str) -> Result<(), PortFault> {
 }
 
 /// The home of a file of this module, where this is the folder for its scripts.
-fn home_with<'s>(site: &'s Site, module: &'s str, folder: &'s Option<String>) -> Home<'s> {
+fn home_with<'s>(
+    site: &'s SiteFacts,
+    module: &'s str,
+    folder: &'s Option<String>,
+) -> SiteContext<'s> {
     let scripts_folder = bytes_of(folder);
-    Home {
+    SiteContext {
         site,
         name: module.as_bytes(),
         scripts_folder,
@@ -334,12 +338,12 @@ impl<'r> Walk<'r> {
     fn default_of(&mut self, program: Program, top: &str, place: &Place) -> Result<(), PortFault> {
         let (alloc, json) = (self.rt.alloc(), self.manner.json);
         match name_default(self.rt, program, top, place)? {
-            Naming::Same => Ok(()),
-            Naming::Named(name) => {
+            DefaultFileOutcome::Same => Ok(()),
+            DefaultFileOutcome::Named(name) => {
                 let line = default_line(alloc, json, place.from.as_str(), name.as_str())?;
                 self.say(line.as_slice())
             }
-            Naming::Unjudged => self.leave(place.from.as_str(), "default"),
+            DefaultFileOutcome::Unjudged => self.leave(place.from.as_str(), "default"),
         }
     }
 
@@ -387,11 +391,11 @@ impl<'r> Walk<'r> {
 /// at one path is said on standard error.
 pub(crate) fn walk_tree<'r>(
     rt: &'r HostRuntime,
-    manner: Manner<'r>,
-    walked: Walked,
+    manner: PortOptions<'r>,
+    walked: WalkedFiles,
     shown: Option<&'r str>,
 ) -> Result<Status, PortFault> {
-    let Walked {
+    let WalkedFiles {
         from,
         to,
         one_version,

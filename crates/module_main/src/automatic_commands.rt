@@ -3,29 +3,29 @@
 
 use crate::collection_commands::{tell, write};
 use crate::explaining::say_more_of_automatic;
-use crate::given::Given;
+use crate::given::ProgramInput;
 use crate::refusal::Refusal;
-use autohandling::{AutomaticAnswer, load_automatically, unload_automatically};
-use envloaded::loaded;
+use envstate::loaded_list::loaded;
 use filetree::DiskTree;
+use module_auto::{AutomaticAnswer, load_automatically, unload_automatically};
+use module_words::subcommands::{CommandOption, Subcommand, WordFault, option_of, subcommand_of};
 use modulename::means;
 use modules::STANDARD_LIMITS;
 use requests::last_meant;
 use shelltext::Shell;
 use std::process::ExitCode;
-use subcommands::{CommandOption, Subcommand, WordFault, option_of, subcommand_of};
 
 /// The variable that is `1` where each load and unload is automated.
 const AUTO_HANDLING: &str = "MODULES_AUTO_HANDLING";
 
 /// Whether the variable says that each load and unload is automated.
-fn is_set(given: &Given) -> bool {
+fn is_set(given: &ProgramInput) -> bool {
     given.env.get(AUTO_HANDLING) == Some("1")
 }
 
 /// Whether a subcommand with these words is automated, and the names among the words.
 fn names_in<'a>(
-    given: &Given,
+    given: &ProgramInput,
     subcommand: Subcommand,
     words: &'a [String],
 ) -> (bool, &'a [String]) {
@@ -89,7 +89,7 @@ fn say_loaded(rt: &HostRuntime, asked: &[String], answer: &AutomaticAnswer) -> R
 /// Says what was unloaded with the modules that were asked for.
 fn say_unloaded(
     rt: &HostRuntime,
-    given: &Given,
+    given: &ProgramInput,
     asked: &[String],
     answer: &AutomaticAnswer,
 ) -> Result<(), Refusal> {
@@ -108,7 +108,12 @@ fn say_unloaded(
 }
 
 /// Loads the names with all that they need. Without names nothing is done.
-fn load(rt: &HostRuntime, shell: Shell, given: &Given, names: &[String]) -> Result<(), Refusal> {
+fn load(
+    rt: &HostRuntime,
+    shell: Shell,
+    given: &ProgramInput,
+    names: &[String],
+) -> Result<(), Refusal> {
     if names.is_empty() {
         return Ok(());
     }
@@ -126,7 +131,12 @@ fn load(rt: &HostRuntime, shell: Shell, given: &Given, names: &[String]) -> Resu
 }
 
 /// Unloads the names with all that needs them.
-fn unload(rt: &HostRuntime, shell: Shell, given: &Given, names: &[String]) -> Result<(), Refusal> {
+fn unload(
+    rt: &HostRuntime,
+    shell: Shell,
+    given: &ProgramInput,
+    names: &[String],
+) -> Result<(), Refusal> {
     let mut tree = DiskTree::new(rt);
     let answer = unload_automatically(
         rt.alloc(),
@@ -152,7 +162,7 @@ fn do_automatic(
     rt: &HostRuntime,
     shell: Shell,
     subcommand: Subcommand,
-    given: &Given,
+    given: &ProgramInput,
     words: &[String],
 ) -> Option<ExitCode> {
     let (is_automatic, names) = names_in(given, subcommand, words);
@@ -178,7 +188,7 @@ fn do_automatic(
 
 /// Does a command that loads or unloads, where it is automated, and refuses each option but `--auto`. Gives the
 /// program's status, or nothing where the command is another program's.
-pub fn do_automatic_command(rt: &HostRuntime, given: &Given) -> Option<ExitCode> {
+pub fn do_automatic_command(rt: &HostRuntime, given: &ProgramInput) -> Option<ExitCode> {
     let [shell, word, words @ ..] = given.arguments.as_slice() else {
         return None;
     };

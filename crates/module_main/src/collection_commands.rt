@@ -1,20 +1,20 @@
 //! The subcommands of collections: what is kept, restored, listed, shown and removed. Reports go to standard error.
 
-use crate::given::Given;
+use crate::given::ProgramInput;
 use crate::refusal::Refusal;
 use crate::reports::write_report;
-use collectionfiles::{
+use filetree::DiskTree;
+use module_collections::files::{
     DiskStorage, find_collection, list_collections, read_bytes, read_collection_file,
     remove_collection, save_collection,
 };
-use collectionrequests::{Restored, collection_of, reload, restore};
-use filetree::DiskTree;
+use module_restore::{Restored, collection_of, reload, restore};
+use module_words::subcommands::{Subcommand, subcommand_of};
 use modules::STANDARD_LIMITS;
 use shelltext::Shell;
 use std::io::Write;
 use std::process::ExitCode;
 use std::{env, process};
-use subcommands::{Subcommand, subcommand_of};
 
 /// What the program's name ends with where a site has it.
 const OWN_NAME: &str = "/libexec/module";
@@ -58,7 +58,7 @@ pub(crate) fn tell(rt: &HostRuntime, bytes: &[u8]) -> Result<(), Refusal> {
 }
 
 /// Reports the names of the collections.
-fn list(rt: &HostRuntime, given: &Given, words: &[String]) -> Result<(), Refusal> {
+fn list(rt: &HostRuntime, given: &ProgramInput, words: &[String]) -> Result<(), Refusal> {
     refuse_words(words)?;
     let mut storage = DiskStorage::new(rt);
     for name in &list_collections(rt.alloc(), &mut storage, &given.env)? {
@@ -69,7 +69,12 @@ fn list(rt: &HostRuntime, given: &Given, words: &[String]) -> Result<(), Refusal
 }
 
 /// Saves what is loaded, and what is searched without it.
-fn save(rt: &HostRuntime, shell: Shell, given: &Given, words: &[String]) -> Result<(), Refusal> {
+fn save(
+    rt: &HostRuntime,
+    shell: Shell,
+    given: &ProgramInput,
+    words: &[String],
+) -> Result<(), Refusal> {
     let name = name_in(words)?;
     let env = &given.env;
     let working = given.working.as_deref();
@@ -81,7 +86,7 @@ fn save(rt: &HostRuntime, shell: Shell, given: &Given, words: &[String]) -> Resu
 }
 
 /// Reports what is in the file of a collection.
-fn show(rt: &HostRuntime, given: &Given, words: &[String]) -> Result<(), Refusal> {
+fn show(rt: &HostRuntime, given: &ProgramInput, words: &[String]) -> Result<(), Refusal> {
     let name = name_in(words)?;
     let mut storage = DiskStorage::new(rt);
     let site = site_collection(rt);
@@ -93,7 +98,7 @@ fn show(rt: &HostRuntime, given: &Given, words: &[String]) -> Result<(), Refusal
 }
 
 /// Removes a collection.
-fn remove(rt: &HostRuntime, given: &Given, words: &[String]) -> Result<(), Refusal> {
+fn remove(rt: &HostRuntime, given: &ProgramInput, words: &[String]) -> Result<(), Refusal> {
     let [name] = words else {
         return Err(Refusal::BadArguments);
     };
@@ -116,7 +121,7 @@ pub(crate) fn write(rt: &HostRuntime, messages: &[String], text: &str) -> Result
 fn restored(
     rt: &HostRuntime,
     shell: Shell,
-    given: &Given,
+    given: &ProgramInput,
     words: &[String],
 ) -> Result<(), Refusal> {
     let name = name_in(words)?;
@@ -141,7 +146,7 @@ fn restored(
 fn reloaded(
     rt: &HostRuntime,
     shell: Shell,
-    given: &Given,
+    given: &ProgramInput,
     words: &[String],
 ) -> Result<(), Refusal> {
     refuse_words(words)?;
@@ -157,7 +162,7 @@ fn reloaded(
 }
 
 /// Does the command, where it is one of collections, and gives the program's status.
-pub fn do_collection_command(rt: &HostRuntime, given: &Given) -> Option<ExitCode> {
+pub fn do_collection_command(rt: &HostRuntime, given: &ProgramInput) -> Option<ExitCode> {
     let [shell, word, words @ ..] = given.arguments.as_slice() else {
         return None;
     };

@@ -1,17 +1,17 @@
 //! The subcommands that describe modules: `whatis` without names, `keyword`, and `help` with names.
 
 use crate::collection_commands::site_path;
-use crate::given::Given;
+use crate::given::ProgramInput;
 use crate::refusal::Refusal;
 use crate::reports::write_report;
-use descriptions::{Description, HelpText, describe_readable, help};
 use envvars::Env;
 use filetree::DiskTree;
-use hidingtree::HidingTree;
+use filetree::hiding::HidingTree;
+use module_reports::descriptions::{Description, HelpText, describe_readable, help};
+use module_words::subcommands::{Subcommand, subcommand_of};
 use modules::STANDARD_LIMITS;
 use shelltext::Shell;
 use std::process::ExitCode;
-use subcommands::{Subcommand, subcommand_of};
 
 /// The heading of the modules that are left out.
 const LEFT_OUT: &[u8] = b"Left out:\n";
@@ -30,7 +30,7 @@ fn report_description(rt: &HostRuntime, env: &Env, described: &Description) -> R
 fn whatis(
     rt: &HostRuntime,
     shell: Shell,
-    given: &Given,
+    given: &ProgramInput,
     sought: Option<&str>,
 ) -> Result<(), Refusal> {
     let alloc = rt.alloc();
@@ -44,7 +44,12 @@ fn whatis(
 }
 
 /// Reports which modules mention the only word.
-fn keyword(rt: &HostRuntime, shell: Shell, given: &Given, words: &[String]) -> Result<(), Refusal> {
+fn keyword(
+    rt: &HostRuntime,
+    shell: Shell,
+    given: &ProgramInput,
+    words: &[String],
+) -> Result<(), Refusal> {
     let [text] = words else {
         return Err(Refusal::BadArguments);
     };
@@ -87,7 +92,12 @@ fn push_help(text: &mut String, answer: &HelpText) -> Result<bool, Refusal> {
 
 /// Reports what the files of modules say of themselves, and of those that say nothing what they are; nothing where one
 /// of them is refused.
-fn help_on(rt: &HostRuntime, shell: Shell, given: &Given, words: &[String]) -> Result<(), Refusal> {
+fn help_on(
+    rt: &HostRuntime,
+    shell: Shell,
+    given: &ProgramInput,
+    words: &[String],
+) -> Result<(), Refusal> {
     let mut tree = DiskTree::new(rt);
     let mut text = String::new(rt.alloc());
     let mut is_described = false;
@@ -111,7 +121,7 @@ fn help_on(rt: &HostRuntime, shell: Shell, given: &Given, words: &[String]) -> R
 }
 
 /// Does the command, where it is one that describes modules, and gives the program's status.
-pub fn do_description_command(rt: &HostRuntime, given: &Given) -> Option<ExitCode> {
+pub fn do_description_command(rt: &HostRuntime, given: &ProgramInput) -> Option<ExitCode> {
     let [shell, word, words @ ..] = given.arguments.as_slice() else {
         return None;
     };

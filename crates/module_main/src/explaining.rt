@@ -1,16 +1,16 @@
 //! Says more of a command that the program `modulecmd` has refused.
 
-use crate::given::Given;
+use crate::given::ProgramInput;
 use crate::tried::refused_words;
-use explanations::{Explanation, advice_line, explain, failed_path, log_line, user_lines};
 use filetree::DiskTree;
+use module_explain::{Explanation, advice_line, explain, failed_path, log_line, user_lines};
+use module_words::subcommands::Subcommand;
 use modules::{STANDARD_LIMITS, request};
 use shelltext::Shell;
 use std::fs::{self, File};
 use std::io::{self, ErrorKind, IsTerminal, Write};
 use std::process::ExitCode;
-use subcommands::Subcommand;
-use terminaltext::shown;
+use terminal::text::shown;
 
 /// Writes to standard error; what isn't written is only an explanation less.
 fn say(rt: &HostRuntime, text: &str) {
@@ -62,7 +62,13 @@ fn cause_at(rt: &HostRuntime, path: &str) -> &'static str {
 }
 
 /// Says at which path reading failed.
-fn tell_path(rt: &HostRuntime, shell: Shell, given: &Given, words: &[String], is_user: bool) {
+fn tell_path(
+    rt: &HostRuntime,
+    shell: Shell,
+    given: &ProgramInput,
+    words: &[String],
+    is_user: bool,
+) {
     let Ok(wanted) = request(rt.alloc(), shell, words) else {
         return;
     };
@@ -81,12 +87,12 @@ fn tell_path(rt: &HostRuntime, shell: Shell, given: &Given, words: &[String], is
 }
 
 /// Whether the user wants no explanations.
-fn is_unwanted(given: &Given) -> bool {
+fn is_unwanted(given: &ProgramInput) -> bool {
     given.env.get("MODULECMD_EXPLAIN") == Some("no")
 }
 
 /// Says more of a refused command with these words, where the user wants that. It never changes anything.
-pub fn say_more(rt: &HostRuntime, shell: Shell, given: &Given, words: &[String]) {
+pub fn say_more(rt: &HostRuntime, shell: Shell, given: &ProgramInput, words: &[String]) {
     if is_unwanted(given) {
         return;
     }
@@ -116,7 +122,7 @@ pub fn say_more(rt: &HostRuntime, shell: Shell, given: &Given, words: &[String])
 pub fn say_more_of_automatic(
     rt: &HostRuntime,
     shell: Shell,
-    given: &Given,
+    given: &ProgramInput,
     subcommand: Subcommand,
     asked: &[String],
 ) {
@@ -129,7 +135,7 @@ pub fn say_more_of_automatic(
 }
 
 /// Explains a refused command, where this is asked for, and gives the program's status.
-pub fn do_explain(rt: &HostRuntime, given: &Given) -> Option<ExitCode> {
+pub fn do_explain(rt: &HostRuntime, given: &ProgramInput) -> Option<ExitCode> {
     let [shell, asked, words @ ..] = given.arguments.as_slice() else {
         return None;
     };

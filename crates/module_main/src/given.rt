@@ -1,16 +1,16 @@
 //! What the process is given: its arguments, its environment, and the working directory.
 
 use message::{NumberedMessage, RefusalKind};
-use processinput::{arguments, environment_block};
+use module_words::subcommands::{Subcommand, subcommand_of};
+use process::{arguments, environment_block};
 use std::env::VarError;
 use std::io::ErrorKind;
 use std::os::unix::fs::MetadataExt;
 use std::{env, fs};
-use subcommands::{Subcommand, subcommand_of};
 
 /// What the process is given.
 #[derive(Drop)]
-pub struct Given {
+pub struct ProgramInput {
     /// The arguments after the program's name.
     pub arguments: Vec<String>,
     /// The variables of its environment.
@@ -19,12 +19,12 @@ pub struct Given {
     pub working: Option<String>,
 }
 
-impl Given {
+impl ProgramInput {
     /// The arguments after the program's name, the environment, and the working directory.
     ///
     /// Errors: want of memory (31); a MODULEPATH that isn't UTF-8, where the command is about it (37); such an argument
     /// (56).
-    pub fn read(rt: &HostRuntime) -> Result<Given, NumberedMessage<'static>> {
+    pub fn read(rt: &HostRuntime) -> Result<ProgramInput, NumberedMessage<'static>> {
         let arguments = match arguments(rt) {
             Ok(arguments) => arguments,
             Err(fault) => return Err(fault.numbered()),
@@ -38,7 +38,7 @@ impl Given {
         if is_about_modulepath(arguments.as_slice()) {
             judge_modulepath(rt)?;
         }
-        Ok(Given {
+        Ok(ProgramInput {
             arguments,
             env,
             working: working_directory(rt)?,

@@ -2,7 +2,7 @@
 
 use envvars::Env;
 use requests::modulepath;
-use terminaltext::shown;
+use terminal::text::shown;
 
 /// Says why no module is found: along no MODULEPATH, by texts, or in the directories.
 pub fn say_why(rt: &HostRuntime, env: &Env, has_texts: bool) {

@@ -1,19 +1,21 @@
 //! The subcommands that say what can be loaded, or is, and where that is searched: `avail`, `list`, `is-avail`, and `use`
 //! without words.
 
-use crate::given::Given;
+use crate::given::ProgramInput;
 use crate::hints::say_why;
 use crate::refusal::Refusal;
 use crate::reports::{ReportPlace, write_report};
 use envvars::{Env, Vars};
 use filetree::DiskTree;
-use hidingtree::HidingTree;
-use listings::{ListingFault, Terminal, avail_report, is_available_where_readable, loaded_report};
+use filetree::hiding::HidingTree;
+use module_reports::listings::{
+    ListingFault, Terminal, avail_report, is_available_where_readable, loaded_report,
+};
+use module_words::subcommands::{Subcommand, subcommand_of};
 use modules::STANDARD_LIMITS;
 use requests::modulepath;
 use shelltext::Shell;
 use std::process::ExitCode;
-use subcommands::{Subcommand, subcommand_of};
 
 /// The variable that isn't empty where the terminal shows colours.
 const COLOURS: &str = "MODULECMD_COLOURS";
@@ -97,7 +99,7 @@ fn status(rt: &HostRuntime, answer: Result<bool, ListingFault>) -> ExitCode {
 }
 
 /// Does the command, where it says what can be loaded, or is, and gives the program's status.
-pub fn do_listing_command(rt: &HostRuntime, given: &Given) -> Option<ExitCode> {
+pub fn do_listing_command(rt: &HostRuntime, given: &ProgramInput) -> Option<ExitCode> {
     let [shell, word, words @ ..] = given.arguments.as_slice() else {
         return None;
     };

@@ -25,11 +25,11 @@ use collection_commands::do_collection_command;
 use completing::do_names_command;
 use description_commands::do_description_command;
 use explaining::do_explain;
-use functioncommand::{FunctionOutput, function_output};
-use given::Given;
+use given::ProgramInput;
 use listing_commands::do_listing_command;
 use message::{Message, RefusalKind};
 use missing::tell_missing;
+use module_words::function::{FunctionOutput, function_output};
 use own_commands::do_own_command;
 use program::{Program, called_as};
 use shown_modules::do_module_report;
@@ -52,7 +52,7 @@ fn print(rt: &HostRuntime, output: &FunctionOutput) -> ExitCode {
 }
 
 /// Does the command where it is one of these, and gives the status with which the process ends.
-fn do_one(rt: &HostRuntime, given: &Given) -> Option<ExitCode> {
+fn do_one(rt: &HostRuntime, given: &ProgramInput) -> Option<ExitCode> {
     do_own_command(rt, given)
         .or_else(|| do_names_command(rt, given))
         .or_else(|| do_explain(rt, given))
@@ -66,7 +66,7 @@ fn do_one(rt: &HostRuntime, given: &Given) -> Option<ExitCode> {
 
 /// Does the command of the process's arguments, and gives the status with which the process ends.
 fn run_module(rt: &HostRuntime) -> ExitCode {
-    let given = match Given::read(rt) {
+    let given = match ProgramInput::read(rt) {
         Ok(given) => given,
         Err(refusal) => return refused(rt, refusal.message),
     };

@@ -1,13 +1,13 @@
 //! What `help` alone and `--version` say, and the site's directories: what the function asks for at its start.
 
 use crate::collection_commands::site_path;
-use crate::given::Given;
+use crate::given::ProgramInput;
 use crate::refusal::Refusal;
-use collectionfiles::{DiskStorage, read_bytes};
-use functioncommand::site_directories;
+use module_collections::files::{DiskStorage, read_bytes};
+use module_words::function::site_directories;
+use module_words::subcommands::{Subcommand, subcommand_of};
 use std::io::Write;
 use std::process::ExitCode;
-use subcommands::{Subcommand, subcommand_of};
 
 /// The usage, without where the pages are.
 const USAGE: &str = r#"usage: module SUBCOMMAND [OPTION...] [NAME...]
@@ -103,7 +103,7 @@ fn write_directories(rt: &HostRuntime, path: &str) -> Result<(), Refusal> {
 }
 
 /// Does the command, where it is one of these, and gives the program's status.
-pub fn do_own_command(rt: &HostRuntime, given: &Given) -> Option<ExitCode> {
+pub fn do_own_command(rt: &HostRuntime, given: &ProgramInput) -> Option<ExitCode> {
     let [_, word, words @ ..] = given.arguments.as_slice() else {
         return None;
     };

@@ -1,10 +1,10 @@
 //! Why a command is refused.
 
-use autohandling::AutomaticFault;
-use collectionfiles::FileFault;
-use collectionrequests::{KeepFault, RestoreFault};
 use envvars::EnvFault;
 use message::RefusalKind;
+use module_auto::AutomaticFault;
+use module_collections::files::FileFault;
+use module_restore::{KeepFault, RestoreFault};
 use modules::Refusal as RequestRefusal;
 use std::alloc::{AllocError, AllocFailed};
 use std::fmt;

@@ -5,7 +5,7 @@ use crate::refusal::Refusal;
 use envvars::{Env, Vars};
 use std::alloc::{AllocError, Global};
 use std::io::{IsTerminal, Write};
-use terminaltext::shown_lines;
+use terminal::text::shown_lines;
 
 /// The variable with the columns of a terminal to which a report goes by way of a pager; else it is empty or unset.
 const COLUMNS: &str = "MODULECMD_COLUMNS";

@@ -1,15 +1,15 @@
 //! `show`, and `whatis` with names: what `modulecmd` reports of modules, without what steers a terminal.
 
 use crate::explaining::say_more;
-use crate::given::Given;
+use crate::given::ProgramInput;
 use crate::refusal::Refusal;
 use crate::reports::write_report;
 use filetree::DiskTree;
+use module_words::subcommands::{Subcommand, subcommand_of};
 use modulecmd::modulecmd;
 use shelltext::Shell;
 use std::io::Write;
 use std::process::ExitCode;
-use subcommands::{Subcommand, subcommand_of};
 
 /// Whether a command reports what modules do, or what they are.
 fn is_of_modules(word: &str, words: &[String]) -> bool {
@@ -21,7 +21,7 @@ fn is_of_modules(word: &str, words: &[String]) -> bool {
 }
 
 /// Does the command as `modulecmd` does it, and gives its status and what it says.
-fn said(rt: &HostRuntime, given: &Given) -> Result<(u8, Vec<u8>), Refusal> {
+fn said(rt: &HostRuntime, given: &ProgramInput) -> Result<(u8, Vec<u8>), Refusal> {
     let alloc = rt.alloc();
     let (mut out, mut err) = (Vec::new(alloc), Vec::new(alloc));
     let mut tree = DiskTree::new(rt);
@@ -38,7 +38,7 @@ fn said(rt: &HostRuntime, given: &Given) -> Result<(u8, Vec<u8>), Refusal> {
 }
 
 /// Reports what modules do, or are; of a refusal it is said what `modulecmd` says, and more.
-fn report_modules(rt: &HostRuntime, given: &Given) -> Result<ExitCode, Refusal> {
+fn report_modules(rt: &HostRuntime, given: &ProgramInput) -> Result<ExitCode, Refusal> {
     let (status, text) = said(rt, given)?;
     if status == 0 {
         write_report(rt, &given.env, text.as_slice())?;
@@ -56,7 +56,7 @@ fn report_modules(rt: &HostRuntime, given: &Given) -> Result<ExitCode, Refusal> 
 }
 
 /// Does the command, where it reports what modules do or are, and gives the program's status.
-pub fn do_module_report(rt: &HostRuntime, given: &Given) -> Option<ExitCode> {
+pub fn do_module_report(rt: &HostRuntime, given: &ProgramInput) -> Option<ExitCode> {
     let [_, word, words @ ..] = given.arguments.as_slice() else {
         return None;
     };

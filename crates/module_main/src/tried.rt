@@ -1,15 +1,15 @@
 //! With which names an automated load or unload ended that was refused: the refusal itself says nothing of what was put
 //! in.
 
-use crate::given::Given;
-use autohandling::first_found;
+use crate::given::ProgramInput;
 use envvars::Env;
 use filetree::{DiskTree, Tree};
 use message::texts::copies;
+use module_auto::first_found;
+use module_words::subcommands::Subcommand;
 use modules::{Action, MissingNames, Refusal, Request, STANDARD_LIMITS, run};
 use shelltext::Shell;
 use std::alloc::Global;
-use subcommands::Subcommand;
 
 /// How many names are put in at most, as in an automated load.
 const MOST_ADDED: usize = 1_000;
@@ -136,7 +136,7 @@ impl Names {
 fn names_loaded(
     rt: &HostRuntime,
     shell: Shell,
-    given: &Given,
+    given: &ProgramInput,
     asked: &[String],
 ) -> Result<Vec<String>, Refusal> {
     let mut tree = DiskTree::new(rt);
@@ -153,7 +153,7 @@ fn names_loaded(
 fn names_unloaded(
     rt: &HostRuntime,
     shell: Shell,
-    given: &Given,
+    given: &ProgramInput,
     asked: &[String],
 ) -> Result<Vec<String>, Refusal> {
     let alloc = rt.alloc();
@@ -179,7 +179,7 @@ fn names_unloaded(
 pub fn refused_words(
     rt: &HostRuntime,
     shell: Shell,
-    given: &Given,
+    given: &ProgramInput,
     subcommand: Subcommand,
     asked: &[String],
 ) -> Result<Vec<String>, Refusal> {

@@ -1,10 +1,10 @@
 //! What is said where an unload was accepted and had nothing to do, though a loaded module has a name that begins so.
 
-use crate::given::Given;
-use envloaded::{Loaded, loaded_if_consistent};
+use crate::given::ProgramInput;
+use envstate::loaded_list::{Loaded, loaded_if_consistent};
 use modulename::means;
 use std::process::ExitCode;
-use terminaltext::shown;
+use terminal::text::shown;
 
 /// The word behind the shell's name that asks for it, before the names that were to be unloaded.
 const UNLOADED: &str = "unloaded";
@@ -33,7 +33,7 @@ fn say_of(rt: &HostRuntime, entries: &[Loaded], name: &str) {
 }
 
 /// Does the command, where it asks what of these names is loaded after all, and gives the program's status.
-pub fn do_unloaded(rt: &HostRuntime, given: &Given) -> Option<ExitCode> {
+pub fn do_unloaded(rt: &HostRuntime, given: &ProgramInput) -> Option<ExitCode> {
     let [_, asked, names @ ..] = given.arguments.as_slice() else {
         return None;
     };

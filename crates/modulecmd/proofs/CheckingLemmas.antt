@@ -8,11 +8,11 @@ use Rattle.envvars.specs.Texts.{Text}
 use Rattle.envvars.specs.Environment.{Environment}
 use Rattle.filetree.specs.Agreement.{FailsOnlyWhere, Files, InEachPair, Listings}
 use Rattle.filetree.proofs.FailedPaths.{only_wider_in_each}
-use Rattle.processinput.specs.Inputs.{ReadsAll}
+use Rattle.process.specs.Inputs.{ReadsAll}
 use Rattle.requests.specs.Steps.{request_context_in}
-use Rattle.sessions.specs.Checks.{CheckLooksAt}
-use Rattle.sessions.specs.Lines.{lines_in}
-use Rattle.sessions.specs.Reports.{report_of}
+use Rattle.modules.specs.rehearsals.Checks.{CheckLooksAt}
+use Rattle.modules.specs.rehearsals.Lines.{lines_in}
+use Rattle.modules.specs.rehearsals.Reports.{report_of}
 use Rattle.modulecmd.specs.declared.checking.PreparedCheck.{PreparedCheck}
 use Rattle.modulecmd.specs.declared.command_exit.Exit.{Exit}
 use Rattle.modulecmd.specs.declared.command_exit.Exit.TheVariants.{Success, Reported, CutShort}

@@ -15,11 +15,11 @@ use Rattle.requests.specs.Returning.{AreNew, AreReversibleBeside}
 use Rattle.requests.specs.Steps.{Done, RequestStep, request_context_in}
 use Rattle.modulecmd.specs.Command.{CommandResult, CommandHasResult, standard, with_shell}
 use Rattle.modulecmd.specs.Output.{ReturnsToStart}
-use Rattle.handchanges.specs.HandChanges.{start_after}
-use Rattle.handchanges.specs.Events.{act, moves_of, EventsReachWhile}
-use Rattle.handchanges.specs.Laws.{OneChangeHolds}
-use Rattle.handchanges.proofs.EventLemmas.{new_kept, all_kept}
-use Rattle.handchanges.proofs.Sessions.{Stands, stands_at_start, Coming, acts_keep}
+use Rattle.requests.specs.hand_changes.HandChanges.{start_after}
+use Rattle.requests.specs.hand_changes.Events.{act, moves_of, EventsReachWhile}
+use Rattle.requests.specs.hand_changes.Laws.{OneChangeHolds}
+use Rattle.requests.proofs.hand_changes.EventLemmas.{new_kept, all_kept}
+use Rattle.requests.proofs.hand_changes.Sessions.{Stands, stands_at_start, Coming, acts_keep}
 use Rattle.modulecmd.specs.Runs.{PrintedCommand, ShellsHold, moves_in, ShellsReturn, command_moves, CommandMakes}
 use Rattle.modulecmd.specs.Runs.{ShellsAndHandsReturn, CommandsAreEvents, CommandAfterChange}
 use Rattle.modulecmd.proofs.CommandLemmas.{returns_to_start}

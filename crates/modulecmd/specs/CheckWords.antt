@@ -5,9 +5,9 @@ use Rattle.envvars.specs.Environment.{Environment}
 use Rattle.filetree.specs.Agreement.{Files, Listings}
 use Rattle.shelltext.specs.declared.shell.Shell.{Shell}
 use Rattle.shelltext.specs.Reading.{SaysDifference}
-use Rattle.sessions.specs.Checks.{all_accepted}
-use Rattle.sessions.specs.Reports.{report_of}
-use Rattle.sessions.specs.declared.checking.CheckFindings.{CheckFindings}
+use Rattle.modules.specs.rehearsals.Checks.{all_accepted}
+use Rattle.modules.specs.rehearsals.Reports.{report_of}
+use Rattle.modules.specs.declared.rehearsals.checking.CheckFindings.{CheckFindings}
 use Rattle.modulecmd.specs.Checking.{ChecksInput}
 use Rattle.modulecmd.specs.NotUtf8.{lines_of}
 use Rattle.modulecmd.specs.declared.command_exit.Exit.{Exit}

@@ -6,17 +6,17 @@ use Rattle.std.specs.Str.{is_utf8}
 use Rattle.envvars.specs.Texts.{Text}
 use Rattle.envvars.specs.Environment.{Environment}
 use Rattle.filetree.specs.Agreement.{Files, Listings}
-use Rattle.processinput.specs.declared.input.InputFault.{InputFault}
-use Rattle.processinput.specs.Inputs.{ReadsAll, FailsAfterReading, input_limit}
+use Rattle.process.specs.declared.input.InputFault.{InputFault}
+use Rattle.process.specs.Inputs.{ReadsAll, FailsAfterReading, input_limit}
 use Rattle.requests.specs.Reasons.{bad_arguments}
 use Rattle.requests.specs.Steps.{request_context_in}
 use Rattle.shelltext.specs.declared.shell.Shell.{Shell}
 use Rattle.shelltext.specs.Shells.{shell_named}
 use Rattle.shelltext.specs.Reading.{SaysDifference}
-use Rattle.sessions.specs.Checks.{CheckLooksAt, IsCheck, all_accepted}
-use Rattle.sessions.specs.Lines.{lines_in}
-use Rattle.sessions.specs.Reports.{report_of}
-use Rattle.sessions.specs.declared.checking.CheckFindings.{CheckFindings}
+use Rattle.modules.specs.rehearsals.Checks.{CheckLooksAt, IsCheck, all_accepted}
+use Rattle.modules.specs.rehearsals.Lines.{lines_in}
+use Rattle.modules.specs.rehearsals.Reports.{report_of}
+use Rattle.modules.specs.declared.rehearsals.checking.CheckFindings.{CheckFindings}
 use Rattle.modulecmd.specs.declared.checking.CheckExit.{CheckExit}
 use Rattle.modulecmd.specs.declared.checking.CheckExit.TheVariants as exits
 use Rattle.modulecmd.specs.declared.command_exit.Exit.{Exit}

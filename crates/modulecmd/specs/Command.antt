@@ -22,8 +22,8 @@ use Rattle.modules.specs.Answers.{cause_of, refused_read}
 use Rattle.modules.specs.Messages as texts
 use Rattle.modules.specs.declared.refusal.Refusal.TheVariants as refusals
 use Rattle.filetree.specs.declared.tree.TreeFault.TheVariants as trees
-use Rattle.processinput.specs.declared.input.InputFault.{InputFault}
-use Rattle.processinput.specs.declared.input.InputFault.TheVariants as inputs
+use Rattle.process.specs.declared.input.InputFault.{InputFault}
+use Rattle.process.specs.declared.input.InputFault.TheVariants as inputs
 use Rattle.modulecmd.specs.declared.command_fault.CommandFault.{CommandFault}
 use Rattle.modulecmd.specs.declared.command_fault.CommandFault.TheVariants.{Refused, Unprinted, UnknownShell}
 use Rattle.modulecmd.specs.declared.command_fault.CommandFault.TheVariants.{WriteFailed}

@@ -11,9 +11,9 @@ use Rattle.reversal.specs.Runs.{live_after, AreReversibleTogether}
 use Rattle.reversal.specs.Laws.{Holds}
 use Rattle.requests.specs.Returning.{AreNew, AreReversibleBeside}
 use Rattle.shelltext.specs.Reading.{TextMakes, SaysDifference}
-use Rattle.handchanges.specs.HandChanges.{HandChange, changed, IsHandChange, start_after}
-use Rattle.handchanges.specs.Events.{Event, act, moves_of, EventsReach}
-use Rattle.handchanges.specs.Laws.{HoldsAfterEvents}
+use Rattle.requests.specs.hand_changes.HandChanges.{HandChange, changed, IsHandChange, start_after}
+use Rattle.requests.specs.hand_changes.Events.{Event, act, moves_of, EventsReach}
+use Rattle.requests.specs.hand_changes.Laws.{HoldsAfterEvents}
 use Rattle.modulecmd.specs.Command.{CommandResult, CommandHasResult}
 use Rattle.modulecmd.specs.Output.{ReturnsToStart}
 

@@ -14,7 +14,7 @@ use envvars::EnvFault;
 use itoa::Buffer;
 use message::{Message, NumberedMessage, RefusalKind};
 use modules::Refusal;
-use processinput::InputFault;
+use process::InputFault;
 use search::FindFault;
 use shelltext::PrintFault;
 use std::alloc::AllocError;

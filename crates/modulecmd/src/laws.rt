@@ -21,7 +21,7 @@ pub fn commands_return()
     requests::command_returns();
     shelltext::laws::one_effect();
     shelltext::laws::difference_makes();
-    handchanges::laws::one_change();
+    requests::hand_changes::laws::one_change();
 }
 
 /// The same with changes by hand between the commands. What hands have changed stays, except for an element of a path
@@ -38,7 +38,7 @@ pub fn commands_and_hands_return()
     requests::command_returns();
     shelltext::laws::one_effect();
     shelltext::laws::difference_makes();
-    handchanges::laws::one_change();
+    requests::hand_changes::laws::one_change();
 }
 
 /// What the clause of one command promises holds after a change by hand too, over what the same change makes of the
@@ -46,5 +46,5 @@ pub fn commands_and_hands_return()
 pub fn command_after_change()
     ensures { CommandAfterChange }
 {
-    handchanges::laws::one_change();
+    requests::hand_changes::laws::one_change();
 }

@@ -10,35 +10,37 @@ mod command_fault;
 mod finishing;
 mod laws;
 mod not_utf8;
-mod process;
+mod program_input;
 mod writers;
 
 pub use checking::{CheckExit, modcheck, run_check};
 pub use command::{modulecmd, run_command};
 pub use command_exit::Exit;
 pub use command_fault::{CommandFault, write_refusal};
-pub use envloaded::{Loaded, add_loaded, conflicts_of, drop_loaded, loaded, prereqs_of};
-pub use envpaths::{End, add_path, drop_path};
-pub use envstacks::{pop_value, push_value};
+pub use envstate::loaded_list::{
+    Loaded, add_loaded, conflicts_of, drop_loaded, loaded, prereqs_of,
+};
+pub use envstate::paths::{End, add_path, drop_path};
+pub use envstate::stacks::{pop_value, push_value};
 pub use envvars::{Change, Env, EnvFault, changes};
 pub use filetree::{DiskTree, MemoryTree, SeenPath, Tree, TreeFault};
 pub use laws::{command_after_change, commands_and_hands_return, commands_return, one_command};
 pub use lookup::{Found, Listing, available, locate};
 pub use modulefile::RecordFault;
+pub use modulefile_run::RunFault;
 pub use modulename::version_order;
-pub use modulerun::RunFault;
+pub use modules::rehearsals::rehearse;
 pub use modules::{
     MissingNames, Module, Move, Outcome, Refusal, Reply, RequestChanges, RequestResults, Verdict,
     request, run, run_changes, session, verdict,
 };
-pub use process::{JudgingInput, ProcessInput, judging_input, process_input};
-pub use processinput::{
+pub use process::{
     GivenEnvironment, InputFault, arguments, environment_block, given_environment, read_input,
 };
+pub use program_input::{JudgingInput, ProcessInput, judging_input, process_input};
 pub use requests::{Action, Request};
 pub use search::FindFault;
-pub use sessions::rehearse;
 pub use shelltext::{PrintFault, Shell, print_changes};
-pub use tclchars::TextFault;
 pub use tclrules::{EvalFault, Limits};
+pub use tcltext::chars::TextFault;
 pub use writers::{WriteFault, write_bytes, write_line};

@@ -4,19 +4,19 @@ use Rattle.std.specs.Prelude.{codes}
 use Rattle.std.specs.Str.{chars}
 use Rattle.std.specs.Fmt.{digits}
 use lib.Utf8.{encode}
-use Rattle.tclchars.specs.Runs.{Text}
-use Rattle.tclchars.specs.Braces.{braced_at}
-use Rattle.tclscript.specs.ScanState.{scan}
-use Rattle.tclscript.specs.Reading.{whole_script, script_with, command_at, word_at, unexpanded_word_at, braced_word_at}
-use Rattle.tclscript.specs.Reading.{quoted_word_at, quotes_at, parts_with, part_at, dollar_at, backslash_at, bracket_at}
-use Rattle.tclscript.specs.Reading.{index_at, braced_name_at, after_expansion, inner_at}
-use Rattle.tclexpr.specs.Marks.{mark_at, after_white}
-use Rattle.tclexpr.specs.Operands.{operand_at, after_number, after_digits, is_truth, quoted_at, braced_text_at}
-use Rattle.tclexpr.specs.Operands as operands
-use Rattle.tclexpr.specs.Reading.{expr_at, whole_at, chain_at, climb_at, prefix_at, below_at}
-use Rattle.tclchars.specs.Numerals.{numeral}
-use Rattle.tcllist.specs.ListReading.{list_of, list_at, element_at, piece_of, piece_at}
-use Rattle.tcloperators.specs.Messages as value_messages
+use Rattle.tcltext.specs.chars.Runs.{Text}
+use Rattle.tcltext.specs.chars.Braces.{braced_at}
+use Rattle.tcltext.specs.script.ScanState.{scan}
+use Rattle.tcltext.specs.script.Reading.{whole_script, script_with, command_at, word_at, unexpanded_word_at, braced_word_at}
+use Rattle.tcltext.specs.script.Reading.{quoted_word_at, quotes_at, parts_with, part_at, dollar_at, backslash_at, bracket_at}
+use Rattle.tcltext.specs.script.Reading.{index_at, braced_name_at, after_expansion, inner_at}
+use Rattle.tcltext.specs.expr.Marks.{mark_at, after_white}
+use Rattle.tcltext.specs.expr.Operands.{operand_at, after_number, after_digits, is_truth, quoted_at, braced_text_at}
+use Rattle.tcltext.specs.expr.Operands as operands
+use Rattle.tcltext.specs.expr.Reading.{expr_at, whole_at, chain_at, climb_at, prefix_at, below_at}
+use Rattle.tcltext.specs.chars.Numerals.{numeral}
+use Rattle.tcltext.specs.list.ListReading.{list_of, list_at, element_at, piece_of, piece_at}
+use Rattle.tclvalue.specs.operators.Messages as value_messages
 use Rattle.tclvalue.specs.Characters.{white_space, split_space}
 use Rattle.tclrules.specs.Messages.{no_variable, no_command, outside_loop, cannot_unset, is_array, bad_option, no_body}
 use Rattle.tclrules.specs.Messages.{no_loop_variable, cannot_redefine}

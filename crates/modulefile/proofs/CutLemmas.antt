@@ -4,7 +4,7 @@ use Rattle.std.proofs.Common.{ap, sym, ◌∙◌}
 use Rattle.std.specs.declared.alloc.Global.{Global}
 use Rattle.std.proofs.lemmas.List.{append_assoc, drop_more}
 use Rattle.envvars.specs.Texts.{Text}
-use Rattle.envpaths.specs.PathTexts.{split_elements}
+use Rattle.envstate.specs.paths.PathTexts.{split_elements}
 use Rattle.modulefile.specs.Calls.{elements_of}
 
 -- the next text, and those after it

@@ -3,11 +3,11 @@
 use Rattle.std.specs.Prelude.{ℕ, ◌||◌, List, [], ◌∷◌, ◌++◌, codes, map, find, flat_map, bytes_eq, if◌then◌else◌}
 use Rattle.std.specs.Prelude.{Option, Some, None, Result, Ok, Err}
 use Rattle.std.specs.List.{join_with_byte}
-use Rattle.tclchars.specs.Runs.{begins}
+use Rattle.tcltext.specs.chars.Runs.{begins}
 use Rattle.tclvalue.specs.Indexes.{after_prefix}
 use Rattle.envvars.specs.Texts.{Text}
 use Rattle.envvars.specs.Fields.{colon}
-use Rattle.envpaths.specs.PathTexts.{is_delimiter, split_elements}
+use Rattle.envstate.specs.paths.PathTexts.{is_delimiter, split_elements}
 use Rattle.modulefile.specs.Records.{Record, Set, Unset, Push, Path, Conflict, Prereq, Whatis}
 use Rattle.modulefile.specs.declared.records.PathEdit.{PathEdit}
 use Rattle.modulefile.specs.declared.records.PathEdit.TheVariants.{Front, Back, Remove}

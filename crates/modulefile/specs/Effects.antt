@@ -3,9 +3,9 @@ use Rattle.std.specs.Prelude.{ℕ, List, [], ◌∷◌, if◌then◌else◌, Opt
 use Rattle.envvars.specs.Texts.{Text}
 use Rattle.envvars.specs.Environment.{Environment, with_value}
 use Rattle.envvars.specs.Reasons.{EnvReason}
-use Rattle.envpaths.specs.PathVariables.{added_path, dropped_path}
-use Rattle.envpaths.specs.declared.adding.End.TheVariants as ends
-use Rattle.envstacks.specs.StackVariables.{pushed_value, popped_value}
+use Rattle.envstate.specs.paths.PathVariables.{added_path, dropped_path}
+use Rattle.envstate.specs.declared.paths.adding.End.TheVariants as ends
+use Rattle.envstate.specs.stacks.StackVariables.{pushed_value, popped_value}
 use Rattle.modulefile.specs.Records.{Record, Set, Unset, Push, Path, Conflict, Prereq, Whatis}
 use Rattle.modulefile.specs.Records.{adds_elements}
 use Rattle.modulefile.specs.declared.records.PathEdit.{PathEdit}

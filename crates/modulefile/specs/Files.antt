@@ -5,7 +5,7 @@ use Rattle.envvars.specs.Texts.{Text}
 use Rattle.envvars.specs.Environment.{Environment}
 use Rattle.message.specs.Refusals.{number_of}
 use Rattle.message.specs.declared.refusals.RefusalKind.TheVariants as kinds
-use Rattle.tclchars.specs.Faults as text_faults
+use Rattle.tcltext.specs.chars.Faults as text_faults
 use Rattle.tclrules.specs.Oracle.{HostRefusal, Question, Trace}
 use Rattle.tclrules.specs.Derivation.{Halt, OutOfMemory, BadText, TooManyCommands, TooDeep, ValueTooLong}
 use Rattle.tclrules.specs.Derivation.{NumberTooLarge, FractionOperand, LeftOut, Stopped, ByHost, EvaluationOutcome}

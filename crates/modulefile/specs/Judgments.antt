@@ -7,7 +7,7 @@ use Rattle.modulename.specs.ModuleName.{is_module_name}
 use Rattle.envvars.specs.Texts.{Text}
 use Rattle.envvars.specs.Names.{is_nul_free, name_reason}
 use Rattle.envvars.specs.Reasons.{EnvReason, bad_value}
-use Rattle.envpaths.specs.PathVariables.{path_reason}
+use Rattle.envstate.specs.paths.PathVariables.{path_reason}
 use Rattle.modulefile.specs.Records.{Record, Set, Unset, Push, Path, Conflict, Prereq, Whatis}
 
 -- why a record has no effect

@@ -4,7 +4,7 @@ use Rattle.std.specs.List.{list_all, list_any}
 use Rattle.envvars.specs.Texts.{Text, has}
 use Rattle.envvars.specs.Environment.{Environment}
 use Rattle.envvars.specs.Fields.{without_repeats}
-use Rattle.envloaded.specs.Loaded.{Entry, names_of, loaded_in, added_loaded, dropped_loaded}
+use Rattle.envstate.specs.loaded_list.Loaded.{Entry, names_of, loaded_in, added_loaded, dropped_loaded}
 use Rattle.modulefile.specs.Records.{Record, conflict_names, prereq_groups}
 use Rattle.modulefile.specs.Judgments.{RecordReason, is_allowed}
 use Rattle.modulefile.specs.Effects.{Mode, load, unload, effects, edit_outcome, and_then}

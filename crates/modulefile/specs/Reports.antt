@@ -2,7 +2,7 @@
 -- words are written as a list of Tcl, and its descriptions.
 use Rattle.std.specs.Prelude.{ℕ, ◌==◌, List, [], ◌∷◌, ◌++◌, codes, flat_map, if◌then◌else◌, Some, None}
 use Rattle.std.specs.List.{join_with_byte}
-use Rattle.tcllist.specs.Lists.{list_text}
+use Rattle.tcltext.specs.list.Lists.{list_text}
 use Rattle.envvars.specs.Texts.{Text}
 use Rattle.envvars.specs.Fields.{colon}
 use Rattle.modulefile.specs.Records.{Record, Set, Unset, Push, Path, Conflict, Prereq, Whatis}

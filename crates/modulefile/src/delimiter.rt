@@ -1,7 +1,7 @@
 //! The delimiters of path variables (modulefile(5), the option `--delim`).
 ghost use Rattle.std.specs.Prelude.{◌≡◌, ◌≤◌, if◌then◌else◌, Some, None};
 ghost use Rattle.std.specs.Option.{option_map};
-ghost use Rattle.envpaths.specs.PathTexts.{is_delimiter};
+ghost use Rattle.envstate.specs.paths.PathTexts.{is_delimiter};
 
 /// The character between the elements of a path variable, one from the space to the tilde of ASCII.
 #[derive(Clone, Copy, Debug)]

@@ -1,6 +1,6 @@
 //! The commands of modulefiles that leave a record (modulefile(5)), read from their words.
 ghost use Rattle.std.specs.Prelude.{◌≡◌, ◌++◌, map, string_bytes, IfOk, OnOk};
-ghost use Rattle.tclchars.specs.Runs.{begins};
+ghost use Rattle.tcltext.specs.chars.Runs.{begins};
 ghost use Rattle.tclvalue.specs.Indexes.{after_prefix};
 ghost use Rattle.envvars.specs.Texts.{slice_texts, texts_in};
 ghost use Rattle.message.specs.Answers.{Gives};

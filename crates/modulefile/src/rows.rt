@@ -1,5 +1,5 @@
 //! Worked modulefiles with their outcomes in every environment, computed from the definitions. More stand in
-//! `tests/modulefiles.txt`.
+//! `tests/core/modulefiles.txt`.
 ghost use Rattle.std.specs.Prelude.{◌≡◌, [], ◌∷◌, codes, Some, None};
 ghost use Rattle.tclrules.specs.Derivation.{LeftOut};
 ghost use Rattle.modulefile.specs.Records.{Set, Unset, Path, Conflict, Prereq, Whatis};

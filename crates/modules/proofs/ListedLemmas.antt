@@ -6,9 +6,9 @@ use Rattle.envvars.specs.Fields.{without_repeats}
 use Rattle.envvars.specs.Environment.{Environment}
 use Rattle.envvars.specs.Reasons.{EnvReason, Edits}
 use Rattle.envvars.specs.declared.fault.EnvFault.{EnvFault}
-use Rattle.envloaded.specs.Loaded.{Entry, loaded_in, with_conflicts_once, without_entry, added_to, added_loaded}
-use Rattle.envloaded.specs.Loaded.{dropped_from, dropped_loaded}
-use Rattle.envloaded.proofs.LoadedEdits.{loaded_after_add}
+use Rattle.envstate.specs.loaded_list.Loaded.{Entry, loaded_in, with_conflicts_once, without_entry, added_to, added_loaded}
+use Rattle.envstate.specs.loaded_list.Loaded.{dropped_from, dropped_loaded}
+use Rattle.envstate.proofs.loaded_list.LoadedEdits.{loaded_after_add}
 use Rattle.envstate.proofs.StateLemmas.{dropped_list}
 use Rattle.modulefile.specs.Records.{conflict_names, prereq_groups}
 use Rattle.modulefile.specs.Effects.{edit_outcome}

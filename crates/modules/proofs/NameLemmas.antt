@@ -2,7 +2,7 @@
 use Rattle.std.proofs.Common.{◌≡◌, Bool, true, false, List, Option, Some, None, Result, Ok, Err, refl, ap, ◌∙◌, subst}
 use Rattle.modulename.specs.ModuleName.{is_module_name}
 use Rattle.envvars.specs.Texts.{Text, has}
-use Rattle.envloaded.specs.Loaded.{Entry, names_of}
+use Rattle.envstate.specs.loaded_list.Loaded.{Entry, names_of}
 use Rattle.filetree.specs.Relations.{Is, If, Then, After}
 use Rattle.modulefile.specs.Effects as modes
 use Rattle.modulefile.specs.Files.{Ran, RunsFile}

@@ -6,7 +6,7 @@ use Rattle.std.specs.List.{list_any}
 use Rattle.std.specs.Option.{option_map}
 use Rattle.envvars.specs.Texts.{Text, has}
 use Rattle.envvars.proofs.TextLemmas.{or_left, or_right}
-use Rattle.envloaded.specs.Loaded.{Entry, names_of}
+use Rattle.envstate.specs.loaded_list.Loaded.{Entry, names_of}
 use Rattle.requests.specs.Reasons.{RequestReason, still_needed_by}
 use Rattle.requests.specs.Refusals.{unless}
 use Rattle.requests.specs.Conditions.{is_met, has_lost, end_objection}

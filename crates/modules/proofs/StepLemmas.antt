@@ -4,7 +4,7 @@ use Rattle.std.proofs.Common.{sym, ap, ◌∙◌, subst}
 use Rattle.envvars.specs.Texts.{Text}
 use Rattle.envvars.specs.Environment.{Environment}
 use Rattle.envvars.specs.Reasons.{EnvReason}
-use Rattle.envloaded.specs.Loaded.{Entry, dropped_loaded}
+use Rattle.envstate.specs.loaded_list.Loaded.{Entry, dropped_loaded}
 use Rattle.filetree.specs.Agreement.{Files, Listings, InEachPair}
 use Rattle.filetree.specs.Causes.{Cause, Applies, memory, device, because}
 use Rattle.tclrules.specs.declared.limits.Limits.{Limits}

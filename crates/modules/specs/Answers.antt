@@ -10,7 +10,7 @@ use Rattle.filetree.specs.declared.tree.TreeFault.{TreeFault}
 use Rattle.filetree.specs.declared.tree.TreeFault.TheVariants as trees
 use Rattle.modulefile.specs.Judgments.{bad_edit}
 use Rattle.search.specs.Answers.{cause_of as find_cause}
-use Rattle.modulerun.specs.Running.{file_reason_of}
+use Rattle.modulefile_run.specs.Running.{file_reason_of}
 use Rattle.search.specs.Reasons as search
 use Rattle.requests.specs.Reasons.{RequestReason, bad_arguments, unknown_subcommand, missed, file_gone}
 use Rattle.requests.specs.Reasons.{not_a_modulefile, file_refused, conflict_with, prereq_missing, still_needed_by}

@@ -1,3 +1,5 @@
+pub mod transient_failures
+pub mod rehearsals
 -- How the values and answers of the program show what the definitions in requests say.
 pub mod MoveViews
 pub mod Views

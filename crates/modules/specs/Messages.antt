@@ -9,9 +9,9 @@ use Rattle.message.specs.Messages.{Text}
 use Rattle.message.specs.Refusals.{NumberedText, about}
 use Rattle.message.specs.Refusals as table
 use Rattle.message.specs.declared.refusals.RefusalKind.TheVariants as kinds
-use Rattle.modulerun.specs.Messages as runs
-use Rattle.modulerun.specs.declared.run_fault.RunFault.{RunFault}
-use Rattle.modulerun.specs.declared.run_fault.RunFault.TheVariants as faults
+use Rattle.modulefile_run.specs.Messages as runs
+use Rattle.modulefile_run.specs.declared.run_fault.RunFault.{RunFault}
+use Rattle.modulefile_run.specs.declared.run_fault.RunFault.TheVariants as faults
 use Rattle.requests.specs.Reasons.{RequestReason, reason_number}
 use Rattle.requests.specs.Requests.{RequestedAction, load, unload, switch, purge, list, avail, show, whatis}
 use Rattle.modules.specs.Answers.{cause_of}

@@ -7,9 +7,9 @@ use Rattle.std.specs.declared.vec.Vec.{Vec}
 use Rattle.std.specs.declared.alloc.Global.{Global}
 use Rattle.envvars.specs.Texts.{Text}
 use Rattle.envvars.specs.Environment.{Environment}
-use Rattle.envloaded.specs.Loaded.{Entry, names_of, added_loaded}
-use Rattle.envloaded.specs.LoadedEntries as code
-use Rattle.envloaded.specs.declared.entry.Loaded.{Loaded}
+use Rattle.envstate.specs.loaded_list.Loaded.{Entry, names_of, added_loaded}
+use Rattle.envstate.specs.loaded_list.LoadedEntries as code
+use Rattle.envstate.specs.declared.loaded_list.entry.Loaded.{Loaded}
 use Rattle.filetree.specs.Agreement.{Files, Listings, FailsAt, InEachPair, ReadsOn}
 use Rattle.filetree.specs.Modulefiles.{modulefile}
 use Rattle.filetree.specs.Relations.{Is, If, ◌>>◌}

@@ -2,8 +2,8 @@
 ghost use Rattle.std.specs.Prelude.{◌≡◌, ◌++◌, [], ◌∷◌, map, IfOk, IfErr, OnOk, Ok, string_bytes};
 ghost use Rattle.envvars.specs.Texts.{slice_texts, texts_in};
 ghost use Rattle.envvars.specs.Fields.{without_repeats};
-ghost use Rattle.envloaded.specs.Loaded.{names_of};
-ghost use Rattle.envloaded.specs.LoadedEntries.{entry_view};
+ghost use Rattle.envstate.specs.loaded_list.Loaded.{names_of};
+ghost use Rattle.envstate.specs.loaded_list.LoadedEntries.{entry_view};
 ghost use Rattle.filetree.specs.Relations.{Is};
 ghost use Rattle.modulefile.specs.Records.{conflict_names, prereq_groups};
 ghost use Rattle.modulefile.specs.RecordViews.{record_view};
@@ -17,7 +17,7 @@ ghost use Rattle.modules.specs.Parts.{AreEntriesOf, entries_view, objection, all
 use crate::done::Module;
 use crate::missing::MissingNames;
 use crate::refusal::Refusal;
-use envloaded::{Loaded, add_to_list, loaded};
+use envstate::loaded_list::{Loaded, add_to_list, loaded};
 use envvars::Vars;
 use envvars::fields::{deduplicated, owned, slices};
 use message::texts::copies;

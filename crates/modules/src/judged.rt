@@ -3,13 +3,13 @@ ghost use Rattle.std.specs.Prelude.{◌≡◌};
 ghost use Rattle.std.specs.List.{list_all};
 ghost use Rattle.envvars.specs.Environment.{Environment};
 ghost use Rattle.modulefile.specs.RecordViews.{record_view};
-ghost use Rattle.modulerun.specs.Running.{ran_view};
+ghost use Rattle.modulefile_run.specs.Running.{ran_view};
 ghost use Rattle.reversal.specs.VariableUses as uses;
 ghost use Rattle.requests.specs.Verdicts.{verdict_of};
 ghost use Rattle.modules.specs.Verdicts.{verdict_view};
 
 use modulefile::{PathEdit, Record};
-use modulerun::FileRun;
+use modulefile_run::FileRun;
 
 /// What one evaluation of a modulefile shows about every other one.
 #[derive(Clone, Copy, Debug, PartialEq, Eq)]

@@ -1,7 +1,7 @@
 //! How far a request has come: which modules are loaded now, and what it has done.
 ghost use Rattle.std.specs.Prelude.{◌≡◌, map, IfOk};
 ghost use Rattle.envvars.specs.Environment.{Environment};
-ghost use Rattle.envloaded.specs.LoadedEntries.{entry_view};
+ghost use Rattle.envstate.specs.loaded_list.LoadedEntries.{entry_view};
 ghost use Rattle.requests.specs.Steps.{nothing_done, EndsRequest};
 ghost use Rattle.modules.specs.Answers.{GivesOrRefuses};
 ghost use Rattle.modules.specs.Views.{done_view};
@@ -9,7 +9,7 @@ ghost use Rattle.modules.specs.Parts.{IsListedIn, entries_view};
 
 use crate::done::RequestResults;
 use crate::refusal::Refusal;
-use envloaded::{Loaded, copy_list};
+use envstate::loaded_list::{Loaded, copy_list};
 use requests::first_lost;
 use std::alloc::{AllocError, Global};
 

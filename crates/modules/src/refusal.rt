@@ -2,7 +2,7 @@
 ghost use Rattle.std.specs.Prelude.{◌≡◌, Some};
 ghost use Rattle.message.specs.Refusals.{numbered_text};
 ghost use Rattle.modules.specs.declared.refusal.Refusal.TheVariants as refusals;
-ghost use Rattle.modulerun.specs.Running.{file_reason_of};
+ghost use Rattle.modulefile_run.specs.Running.{file_reason_of};
 ghost use Rattle.requests.specs.Reasons.{file_refused};
 ghost use Rattle.modules.specs.Answers.{by_reason, refused_read};
 ghost use Rattle.modules.specs.Messages.{number_by, number_of, refusal_of, run_memory_number};
@@ -11,7 +11,7 @@ use crate::missing::MissingNames;
 use envvars::EnvFault;
 use filetree::TreeFault;
 use message::{NumberedMessage, RefusalKind};
-use modulerun::RunFault;
+use modulefile_run::RunFault;
 use search::FindFault;
 use std::alloc::{AllocError, AllocFailed};
 use std::error::Error;

@@ -12,7 +12,7 @@ ghost use Rattle.modules.specs.Replies.{changed_env, changed_view, reply_view};
 use crate::refusal::Refusal;
 use crate::reply::{Reply, RequestChanges};
 use crate::step::step;
-use envvars::{Env, Vars, WorkingCopy};
+use envvars::{Env, Vars, Working};
 use filetree::Tree;
 use requests::Request;
 use std::alloc::Global;
@@ -45,7 +45,7 @@ pub fn run_changes<T: Tree>(
         (action_view request.now.action) at)) }
 {
     envvars::laws::changes();
-    let mut working = WorkingCopy::over(env);
+    let mut working = Working::over(env);
     let done = step(alloc, request, &mut working, tree, limits)?;
     let changes = working.into_changes()?;
     Ok(RequestChanges { changes, done })

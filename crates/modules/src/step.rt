@@ -3,8 +3,8 @@ ghost use Rattle.std.specs.Prelude.{◌≡◌, ◌<◌, [], ◌∷◌, Some, IfO
 ghost use Rattle.std.specs.Option.{option_map};
 ghost use Rattle.envvars.specs.Environment.{Environment};
 ghost use Rattle.envvars.specs.Texts.{texts_in};
-ghost use Rattle.envloaded.specs.Loaded.{names_of};
-ghost use Rattle.envloaded.specs.LoadedEntries.{entry_view};
+ghost use Rattle.envstate.specs.loaded_list.Loaded.{names_of};
+ghost use Rattle.envstate.specs.loaded_list.LoadedEntries.{entry_view};
 ghost use Rattle.filetree.specs.Relations.{Then};
 ghost use Rattle.filetree.specs.Agreement.{FailsAt, InEachPair, ReadsOn};
 ghost use Rattle.lookup.specs.DefaultFileResults.{HasResult};
@@ -31,7 +31,7 @@ use crate::one_name::{NameRequest, ReportKind, load_name, report_name, unload_na
 use crate::progress::RequestProgress;
 use crate::refusal::Refusal;
 use crate::settings::EvaluationSettings;
-use envloaded::Loaded;
+use envstate::loaded_list::Loaded;
 use envvars::Vars;
 use filetree::Tree;
 use lookup::EvaluatedDefaultFiles;

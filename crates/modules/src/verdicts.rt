@@ -1,6 +1,6 @@
 //! The verdict on the module that a name means: whether its file is plain.
 ghost use Rattle.std.specs.Prelude.{◌<◌, [], ◌∷◌, map, IfOk, IfErr};
-ghost use Rattle.envloaded.specs.LoadedEntries.{entry_view};
+ghost use Rattle.envstate.specs.loaded_list.LoadedEntries.{entry_view};
 ghost use Rattle.filetree.specs.Agreement.{FailsAt, InEachPair, ReadsOn};
 ghost use Rattle.search.specs.Answers.{found_view};
 ghost use Rattle.requests.specs.Looked.{SearchLooksAt};
@@ -15,8 +15,8 @@ use crate::judged::{Verdict, verdict_on};
 use crate::one_name::{ModuleFile, NameRequest, evaluate, find_module};
 use crate::refusal::Refusal;
 use crate::settings::EvaluationSettings;
-use envloaded::Loaded;
-use envvars::{Env, Vars, WorkingCopy};
+use envstate::loaded_list::Loaded;
+use envvars::{Env, Vars, Working};
 use filetree::Tree;
 use modulefile::Mode;
 use search::LocatedModule;
@@ -94,5 +94,5 @@ pub fn verdict<T: Tree>(
     ensures out_of_memory { IfErr result (MemoryNumberAmong (11 ∷ 31 ∷ 41 ∷ [])) }
 {
     requests::verdicts();
-    give_verdict(alloc, name, &mut WorkingCopy::over(env), tree, limits)
+    give_verdict(alloc, name, &mut Working::over(env), tree, limits)
 }

@@ -9,7 +9,7 @@ use Rattle.std.proofs.lemmas.List.Sorted.{list_any-IsPermutation, IsPermutation-
 use Rattle.modulename.specs.ModuleName.{is_module_name, means}
 use Rattle.envvars.specs.Texts.{Text, has}
 use Rattle.envvars.specs.Environment.{Environment}
-use Rattle.envloaded.specs.Loaded.{Entry, names_of, loaded_in}
+use Rattle.envstate.specs.loaded_list.Loaded.{Entry, names_of, loaded_in}
 use Rattle.filetree.specs.Relations.{Is, Then, If}
 use Rattle.modulefile.specs.Records.{Record}
 use Rattle.modulefile.specs.Effects as modes

@@ -4,7 +4,7 @@ use Rattle.std.proofs.Common.{sym, subst, reverse}
 use Rattle.modulename.specs.ModuleName.{is_module_name}
 use Rattle.envvars.specs.Texts.{Text, has}
 use Rattle.envvars.specs.Environment.{Environment}
-use Rattle.envloaded.specs.Loaded.{Entry, names_of}
+use Rattle.envstate.specs.loaded_list.Loaded.{Entry, names_of}
 use Rattle.filetree.specs.Modulefiles.{FileContent, absent, no_cookie, not_utf8, script, modulefile}
 use Rattle.filetree.specs.Relations.{Is, Then, If}
 use Rattle.modulefile.specs.Effects as modes

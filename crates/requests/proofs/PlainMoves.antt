@@ -11,7 +11,7 @@ use Rattle.envvars.specs.Texts.{Text, has}
 use Rattle.envvars.specs.Fields.{are_distinct}
 use Rattle.envvars.specs.Environment.{Environment}
 use Rattle.envvars.proofs.ChangeLemmas.{are_distinct-push}
-use Rattle.envloaded.specs.Loaded.{Entry, names_of, loaded_in}
+use Rattle.envstate.specs.loaded_list.Loaded.{Entry, names_of, loaded_in}
 use Rattle.filetree.specs.Modulefiles.{script, modulefile}
 use Rattle.shelltext.specs.declared.shell.Shell.{Shell}
 use Rattle.modulefile.specs.Moves.{Module, Move, Loads, Unloads, entry_of, Fits, MovesReach}

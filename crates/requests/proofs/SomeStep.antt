@@ -3,7 +3,7 @@ use Rattle.std.proofs.Common.{Bool, true, false, List, [], ◌∷◌, Option, So
 use Rattle.modulename.specs.ModuleName.{is_module_name}
 use Rattle.envvars.specs.Texts.{Text, has}
 use Rattle.envvars.specs.Environment.{Environment}
-use Rattle.envloaded.specs.Loaded.{Entry, names_of}
+use Rattle.envstate.specs.loaded_list.Loaded.{Entry, names_of}
 use Rattle.filetree.specs.Modulefiles.{modulefile}
 use Rattle.tclrules.specs.declared.limits.Limits.{Limits}
 use Rattle.filetree.specs.Relations.{Is, Then}

@@ -5,8 +5,8 @@ use Rattle.std.specs.List.{list_any}
 use Rattle.std.proofs.lemmas.List.Folds.{list_any-append}
 use Rattle.envvars.specs.Texts.{Text, has}
 use Rattle.envvars.specs.Environment.{Environment}
-use Rattle.envloaded.specs.Loaded.{Entry, names_of, loaded_in, AreLoadedInOrder}
-use Rattle.envloaded.proofs.LoadedAgain.{loaded_again}
+use Rattle.envstate.specs.loaded_list.Loaded.{Entry, names_of, loaded_in, AreLoadedInOrder}
+use Rattle.envstate.proofs.loaded_list.LoadedAgain.{loaded_again}
 use Rattle.modulefile.specs.Moves.{Module, Move, Loads, Unloads, entry_of, Fits, MovesReach}
 use Rattle.reversal.specs.VariableUses.{VariableUse}
 use Rattle.reversal.specs.Live.{entries_over}

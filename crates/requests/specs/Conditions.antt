@@ -5,7 +5,7 @@ use Rattle.std.specs.List.{list_any}
 use Rattle.std.specs.Option.{option_map, option_or}
 use Rattle.modulename.specs.ModuleName.{means}
 use Rattle.envvars.specs.Texts.{Text, has}
-use Rattle.envloaded.specs.Loaded.{Entry, names_of}
+use Rattle.envstate.specs.loaded_list.Loaded.{Entry, names_of}
 use Rattle.modulefile.specs.Records.{Record, conflict_names, prereq_groups}
 use Rattle.requests.specs.Reasons.{RequestReason, conflict_with, prereq_missing, still_needed_by}
 

@@ -1,3 +1,4 @@
+pub mod hand_changes
 -- The definitions of requests, sessions and verdicts (module(1), modulefile(5)), and of their laws.
 pub mod Requests
 pub mod RequestViews

@@ -4,7 +4,7 @@ use Rattle.std.specs.Prelude.{◌≡◌, ◌⊎◌, true, false, List, [], ◌�
 use Rattle.modulename.specs.ModuleName.{is_module_name}
 use Rattle.envvars.specs.Texts.{Text, has}
 use Rattle.envvars.specs.Environment.{Environment}
-use Rattle.envloaded.specs.Loaded.{Entry, names_of}
+use Rattle.envstate.specs.loaded_list.Loaded.{Entry, names_of}
 use Rattle.lookup.specs.DefaultFileResults.{HasResult}
 use Rattle.modulefile.specs.Effects as modes
 use Rattle.search.specs.Looked as search

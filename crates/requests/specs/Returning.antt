@@ -2,10 +2,10 @@
 use Rattle.std.specs.Prelude.{◌≡◌, false, List, [], ◌∷◌, Some}
 use Rattle.envvars.specs.Texts.{Text, has}
 use Rattle.envvars.specs.Environment.{Environment}
-use Rattle.envloaded.specs.Loaded.{Entry, names_of, loaded_in}
+use Rattle.envstate.specs.loaded_list.Loaded.{Entry, names_of, loaded_in}
 use Rattle.modulefile.specs.Moves.{Module, Move, Loads, Unloads}
 use Rattle.reversal.specs.VariableUses.{VariableUse}
-use Rattle.reversal.specs.Undone.{UndoAlike}
+use Rattle.reversal.specs.Undone.{UndoEquivalently}
 use Rattle.reversal.specs.Runs.{live_named, without_live, IsReversibleAndApart}
 
 -- no module that is loaded at the start is unloaded
@@ -20,7 +20,7 @@ AreNew start (m ∷ ms) = IsNew start m × AreNew start ms
 
 -- the records of the unloaded module undo what those of its load undo
 abbrev pub UndoesItsLoad : List Module → Module → Type 0
-UndoesItsLoad live m = (loaded : Module) → live_named m.name live ≡ Some loaded → UndoAlike m.records loaded.records
+UndoesItsLoad live m = (loaded : Module) → live_named m.name live ≡ Some loaded → UndoEquivalently m.records loaded.records
 
 -- Each load is of a module that is reversible and apart from the live ones, and the records of each unload undo what
 -- those of its load undo.

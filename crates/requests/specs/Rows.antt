@@ -1,6 +1,6 @@
 -- The loaded modules and the listing of the worked examples.
 use Rattle.std.specs.Prelude.{true, false, List, [], ◌∷◌, codes}
-use Rattle.envloaded.specs.Loaded.{Entry}
+use Rattle.envstate.specs.loaded_list.Loaded.{Entry}
 use Rattle.search.specs.Listed.{ListingEntry}
 
 -- without conflicts and prereqs

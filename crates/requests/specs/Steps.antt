@@ -6,7 +6,7 @@ use Rattle.modulename.specs.ModuleName.{is_module_name, means, parts}
 use Rattle.envvars.specs.Texts.{Text, has}
 use Rattle.envvars.specs.Environment.{Environment, lookup}
 use Rattle.envvars.specs.Reasons as edits
-use Rattle.envloaded.specs.Loaded.{Entry, names_of, loaded_in}
+use Rattle.envstate.specs.loaded_list.Loaded.{Entry, names_of, loaded_in}
 use Rattle.tclrules.specs.declared.limits.Limits.{Limits}
 use Rattle.shelltext.specs.declared.shell.Shell.{Shell}
 use Rattle.filetree.specs.Agreement.{Files, Listings}

@@ -3,7 +3,7 @@ use Rattle.std.specs.Prelude.{◌≡◌, List, true, false, if◌then◌else◌,
 use Rattle.std.specs.List.{list_all}
 use Rattle.envvars.specs.Texts.{Text}
 use Rattle.envvars.specs.Environment.{Environment}
-use Rattle.envloaded.specs.Loaded.{Entry}
+use Rattle.envstate.specs.loaded_list.Loaded.{Entry}
 use Rattle.shelltext.specs.declared.shell.Shell.TheVariants.{Sh}
 use Rattle.filetree.specs.Relations.{Is, ◌>>◌}
 use Rattle.modulefile.specs.Effects as modes

@@ -4,11 +4,11 @@ ghost use Rattle.std.specs.List.{list_any};
 ghost use Rattle.std.specs.Option.{option_map};
 ghost use Rattle.modulename.specs.ModuleName.{means};
 ghost use Rattle.envvars.specs.Texts.{slice_texts, texts_in};
-ghost use Rattle.envloaded.specs.LoadedEntries.{entry_view};
+ghost use Rattle.envstate.specs.loaded_list.LoadedEntries.{entry_view};
 ghost use Rattle.requests.specs.Conditions.{is_met, recorded_conflict, own_conflict, missing_group, has_lost};
 ghost use Rattle.requests.specs.Steps.{last_meant};
 
-use envloaded::{Loaded, is_loaded};
+use envstate::loaded_list::{Loaded, is_loaded};
 use modulename::means;
 
 /// The last loaded module that the name means.

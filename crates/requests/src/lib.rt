@@ -6,6 +6,7 @@ mod action;
 mod avail;
 mod conditions;
 mod directories;
+pub mod hand_changes;
 mod laws;
 mod lines;
 mod list;

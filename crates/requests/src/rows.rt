@@ -1,5 +1,5 @@
-//! Worked examples of requests, conditions and reports, proved by computation. More stand in `tests/requests.txt`,
-//! and of whole commands in `tests/commands.txt`.
+//! Worked examples of requests, conditions and reports, proved by computation. More stand in `tests/core/requests.txt`,
+//! and of whole commands in `tests/core/commands.txt`.
 ghost use Rattle.std.specs.Prelude.{◌≡◌, [], ◌∷◌, codes, Some, None, Ok, Err};
 ghost use Rattle.modulefile.specs.Records.{Conflict};
 ghost use Rattle.requests.specs.Reasons.{bad_arguments, unknown_subcommand, conflict_with, still_needed_by};

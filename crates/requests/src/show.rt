@@ -1,6 +1,6 @@
 //! The report of `show` (module(1)): the records of a modulefile, as its commands.
 ghost use Rattle.std.specs.Prelude.{◌≡◌, ◌∷◌, [], codes, map, string_bytes, IfOk};
-ghost use Rattle.tcllist.specs.Lists.{list_text};
+ghost use Rattle.tcltext.specs.list.Lists.{list_text};
 ghost use Rattle.modulefile.specs.RecordViews.{record_view};
 ghost use Rattle.modulefile.specs.Reports.{path_words, shown_words, show_text};
 
@@ -8,7 +8,7 @@ use crate::lines::push_line;
 use envvars::fields::{join, slices};
 use modulefile::{Delimiter, Record};
 use std::alloc::{AllocError, Global};
-use tcllist::write_list;
+use tcltext::list::write_list;
 
 /// Three words, written as a list of Tcl.
 fn colon_path<'a>(

@@ -1,4 +1,4 @@
--- Unloads by records that undo alike.
+-- Unloads by records that undo equivalently.
 use Rattle.std.proofs.Common.{◌≡◌, ◌+◌, true, List, [], ◌∷◌, refl, sym, ap, ◌∙◌, subst, Option, Some, None, Ok, arith}
 use Rattle.std.specs.Prelude.{is_none, is_some}
 use Rattle.std.specs.List.{list_all, cons_option}

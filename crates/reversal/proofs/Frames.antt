@@ -6,7 +6,7 @@ use Rattle.envvars.specs.Texts.{Text}
 use Rattle.envvars.specs.Names.{name_reason}
 use Rattle.envvars.specs.Environment.{Environment, lookup}
 use Rattle.envvars.specs.Reasons.{EnvReason}
-use Rattle.envloaded.specs.Loaded.{loaded_in}
+use Rattle.envstate.specs.loaded_list.Loaded.{loaded_in}
 use Rattle.envstate.specs.Roles.{role_of, is_editable}
 use Rattle.envstate.specs.Roles.VariableRole.{Other}
 use Rattle.envstate.specs.Frames.{EditsVariable, IsVariableUnchanged, AreLoadedUnchanged}

@@ -14,20 +14,20 @@ use Rattle.envvars.specs.Reasons.{EnvReason, unless}
 use Rattle.envvars.proofs.EnvLemmas.{lookup-with_value}
 use Rattle.envvars.proofs.EditLemmas.{not_is}
 use Rattle.envvars.proofs.TableLemmas.{nothing_set}
-use Rattle.envpaths.specs.Paths.{PathState, add_all, drop_all}
-use Rattle.envpaths.specs.PathTexts.{state_of, elements_text, pairs_text}
-use Rattle.envpaths.specs.PathVariables.{path_in, path_reason, counters_fit, with_path, written_path, added_path}
-use Rattle.envpaths.specs.PathVariables.{dropped_path}
-use Rattle.envpaths.specs.declared.adding.End.{End}
-use Rattle.envpaths.specs.declared.adding.End.TheVariants as ends
-use Rattle.envstacks.specs.Stacks.{StackState, holds, push, pop}
-use Rattle.envstacks.specs.StackTexts.{items_in, stack_text}
-use Rattle.envstacks.specs.StackVariables.{stack_from, stack_in, with_stack, push_reason, pop_reason, pushed_on}
-use Rattle.envstacks.specs.StackVariables.{pushed_value, popped_from, popped_value}
-use Rattle.envloaded.specs.LoadedTexts.{names_variable, files_variable, conflicts_variable, prereqs_variable}
-use Rattle.envloaded.specs.Loaded.{Entry, names_of, names_text, files_text, conflicts_text, prereqs_text, entries_in}
-use Rattle.envloaded.specs.Loaded.{loaded_in, with_loaded, can_be_added, with_conflicts_once, without_entry, added_to}
-use Rattle.envloaded.specs.Loaded.{added_loaded, dropped_from, dropped_loaded}
+use Rattle.envstate.specs.paths.Paths.{PathState, add_all, drop_all}
+use Rattle.envstate.specs.paths.PathTexts.{state_of, elements_text, pairs_text}
+use Rattle.envstate.specs.paths.PathVariables.{path_in, path_reason, counters_fit, with_path, written_path, added_path}
+use Rattle.envstate.specs.paths.PathVariables.{dropped_path}
+use Rattle.envstate.specs.declared.paths.adding.End.{End}
+use Rattle.envstate.specs.declared.paths.adding.End.TheVariants as ends
+use Rattle.envstate.specs.stacks.Stacks.{StackState, holds, push, pop}
+use Rattle.envstate.specs.stacks.StackTexts.{items_in, stack_text}
+use Rattle.envstate.specs.stacks.StackVariables.{stack_from, stack_in, with_stack, push_reason, pop_reason, pushed_on}
+use Rattle.envstate.specs.stacks.StackVariables.{pushed_value, popped_from, popped_value}
+use Rattle.envstate.specs.loaded_list.LoadedTexts.{names_variable, files_variable, conflicts_variable, prereqs_variable}
+use Rattle.envstate.specs.loaded_list.Loaded.{Entry, names_of, names_text, files_text, conflicts_text, prereqs_text, entries_in}
+use Rattle.envstate.specs.loaded_list.Loaded.{loaded_in, with_loaded, can_be_added, with_conflicts_once, without_entry, added_to}
+use Rattle.envstate.specs.loaded_list.Loaded.{added_loaded, dropped_from, dropped_loaded}
 use Rattle.modulefile.specs.Records.{Record, Set, Unset, Push, Path, adds_elements}
 use Rattle.modulefile.specs.declared.records.PathEdit.{PathEdit}
 use Rattle.modulefile.specs.declared.records.PathEdit.TheVariants.{Front, Back, Remove}

@@ -9,8 +9,8 @@ use Rattle.envvars.specs.Texts.{Text, has}
 use Rattle.envvars.specs.Fields.{are_distinct}
 use Rattle.envvars.proofs.TextLemmas.{same_text, bytes_eq-symmetric, has-push, or_left, or_right}
 use Rattle.envvars.proofs.EditLemmas.{both_true, not_is}
-use Rattle.envstacks.specs.StackRuns.{other_pushes}
-use Rattle.envloaded.specs.Loaded.{Entry, names_of, without_entry}
+use Rattle.envstate.specs.stacks.StackRuns.{other_pushes}
+use Rattle.envstate.specs.loaded_list.Loaded.{Entry, names_of, without_entry}
 use Rattle.envstate.proofs.StateLemmas.{names_added}
 use Rattle.modulefile.specs.Moves.{Module, entry_of}
 use Rattle.reversal.specs.VariableUses.{VariableUse, AllSuit}

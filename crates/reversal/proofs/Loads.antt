@@ -2,8 +2,8 @@
 use Rattle.std.proofs.Common.{◌≡◌, refl, ap, Result, Ok, Err}
 use Rattle.envvars.specs.Environment.{Environment}
 use Rattle.envvars.specs.Reasons.{EnvReason}
-use Rattle.envloaded.specs.Loaded.{added_loaded, dropped_loaded}
-use Rattle.envloaded.proofs.LoadedEdits.{loaded_after_add}
+use Rattle.envstate.specs.loaded_list.Loaded.{added_loaded, dropped_loaded}
+use Rattle.envstate.proofs.loaded_list.LoadedEdits.{loaded_after_add}
 use Rattle.envstate.proofs.FrameLemmas.{add_edits_loaded}
 use Rattle.modulefile.specs.Judgments.{RecordReason}
 use Rattle.modulefile.specs.Effects.{load, unload, effects, edit_outcome, and_then}

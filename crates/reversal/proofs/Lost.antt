@@ -10,13 +10,13 @@ use Rattle.envvars.specs.Fields.{colon}
 use Rattle.envvars.specs.Changes.{same_value}
 use Rattle.envvars.proofs.TextLemmas.{bytes_eq-same, same_text}
 use Rattle.envvars.proofs.EnvLemmas.{same_environment, lookup-with_value}
-use Rattle.envpaths.specs.Paths.{PathState}
-use Rattle.envpaths.specs.PathTexts.{elements_text, pairs_text}
-use Rattle.envpaths.specs.PathOrder.{IsPathInOrder}
-use Rattle.envstacks.specs.StackVariables.{IsStackInOrder}
-use Rattle.envloaded.specs.LoadedTexts.{names_variable, files_variable, conflicts_variable, prereqs_variable}
-use Rattle.envloaded.specs.Loaded.{Entry, IsLoadedList, AreLoadedInOrder, names_of, names_text, files_text}
-use Rattle.envloaded.specs.Loaded.{conflicts_text, prereqs_text, with_loaded}
+use Rattle.envstate.specs.paths.Paths.{PathState}
+use Rattle.envstate.specs.paths.PathTexts.{elements_text, pairs_text}
+use Rattle.envstate.specs.paths.PathOrder.{IsPathInOrder}
+use Rattle.envstate.specs.stacks.StackVariables.{IsStackInOrder}
+use Rattle.envstate.specs.loaded_list.LoadedTexts.{names_variable, files_variable, conflicts_variable, prereqs_variable}
+use Rattle.envstate.specs.loaded_list.Loaded.{Entry, IsLoadedList, AreLoadedInOrder, names_of, names_text, files_text}
+use Rattle.envstate.specs.loaded_list.Loaded.{conflicts_text, prereqs_text, with_loaded}
 use Rattle.modulefile.specs.Records.{Record, Set, Unset, Path}
 use Rattle.modulefile.specs.declared.records.PathEdit.TheVariants.{Back, Remove}
 use Rattle.modulefile.specs.Moves.{Module, Move, Loads, Unloads}

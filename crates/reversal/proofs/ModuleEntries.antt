@@ -5,8 +5,8 @@ use Rattle.envvars.specs.Fields.{without, are_distinct, without_repeats}
 use Rattle.envvars.specs.Environment.{Environment}
 use Rattle.envvars.proofs.FieldLemmas.{without-absent}
 use Rattle.envvars.proofs.EditLemmas.{both_true, not_is}
-use Rattle.envloaded.specs.Loaded.{Entry, loaded_in, with_conflicts_once}
-use Rattle.envloaded.proofs.LoadedReadable.{distinct_firsts}
+use Rattle.envstate.specs.loaded_list.Loaded.{Entry, loaded_in, with_conflicts_once}
+use Rattle.envstate.proofs.loaded_list.LoadedReadable.{distinct_firsts}
 use Rattle.modulefile.specs.Records.{conflict_names, prereq_groups}
 use Rattle.modulefile.specs.Moves.{Module, entry_of}
 

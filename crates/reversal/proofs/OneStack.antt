@@ -11,12 +11,12 @@ use Rattle.envvars.specs.Fields.{without}
 use Rattle.envvars.specs.Environment.{Environment, lookup}
 use Rattle.envvars.proofs.TextLemmas.{bytes_eq-same, has-without}
 use Rattle.envvars.proofs.EditLemmas.{both_true, and_both}
-use Rattle.envstacks.specs.Stacks.{OwnedValue, StackState, holds}
-use Rattle.envstacks.specs.StackRuns.{IsOwnedStart, other_pushes, start_with_pushes}
-use Rattle.envstacks.specs.StackVariables.{stack_in, is_loaded_owner, IsStackInOrder, pushed_value, popped_value}
-use Rattle.envstacks.proofs.StackLemmas.{push-start_with_pushes, pop-start_with_pushes}
-use Rattle.envstacks.proofs.StackAfter.{stack_after_push, stack_after_pop}
-use Rattle.envstacks.proofs.StackInOrder.{push_in_order, pop_in_order}
+use Rattle.envstate.specs.stacks.Stacks.{OwnedValue, StackState, holds}
+use Rattle.envstate.specs.stacks.StackRuns.{IsOwnedStart, other_pushes, start_with_pushes}
+use Rattle.envstate.specs.stacks.StackVariables.{stack_in, is_loaded_owner, IsStackInOrder, pushed_value, popped_value}
+use Rattle.envstate.proofs.stacks.StackLemmas.{push-start_with_pushes, pop-start_with_pushes}
+use Rattle.envstate.proofs.stacks.StackAfter.{stack_after_push, stack_after_pop}
+use Rattle.envstate.proofs.stacks.StackInOrder.{push_in_order, pop_in_order}
 use Rattle.envstate.specs.Roles.{is_editable}
 use Rattle.envstate.specs.Frames.{IsVariableUnchanged}
 use Rattle.envstate.proofs.FrameLemmas.{push_edits, pop_edits, stack_edits_variable}

@@ -7,13 +7,13 @@ use Rattle.envvars.specs.Texts.{Text}
 use Rattle.envvars.specs.Names.{share_name, stack_name}
 use Rattle.envvars.specs.Environment.{Environment, lookup, with_value}
 use Rattle.envvars.proofs.EnvLemmas.{lookup-set}
-use Rattle.envpaths.specs.Paths.{PathState, IsPathState}
-use Rattle.envpaths.specs.PathVariables.{path_in}
-use Rattle.envpaths.specs.PathOrder.{IsPathInOrder}
-use Rattle.envpaths.specs.PathRuns as path_runs
-use Rattle.envpaths.proofs.PathLemmas.{IsPathStartWith-add_all, IsPathStartWith-drop_all}
-use Rattle.envpaths.proofs.PathOrderLemmas.{LeavesPath-added, LeavesPath-dropped}
-use Rattle.envpaths.proofs.Readable.{IsWritable-state_of}
+use Rattle.envstate.specs.paths.Paths.{PathState, IsPathState}
+use Rattle.envstate.specs.paths.PathVariables.{path_in}
+use Rattle.envstate.specs.paths.PathOrder.{IsPathInOrder}
+use Rattle.envstate.specs.paths.PathRuns as path_runs
+use Rattle.envstate.proofs.paths.PathLemmas.{IsPathStartWith-add_all, IsPathStartWith-drop_all}
+use Rattle.envstate.proofs.paths.PathOrderLemmas.{LeavesPath-added, LeavesPath-dropped}
+use Rattle.envstate.proofs.paths.Readable.{IsWritable-state_of}
 use Rattle.envstate.specs.Roles.{is_editable}
 use Rattle.envstate.specs.Frames.{IsVariableUnchanged}
 use Rattle.envstate.proofs.FrameLemmas.{set_edits, add_edits, drop_edits, path_edits_variable, stack_edits_variable}

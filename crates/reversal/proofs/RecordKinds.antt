@@ -8,10 +8,10 @@ use Rattle.envvars.specs.Texts.{Text}
 use Rattle.envvars.specs.Names.{name_reason}
 use Rattle.envvars.specs.Environment.{Environment, with_value}
 use Rattle.envvars.specs.Reasons.{EnvReason}
-use Rattle.envpaths.specs.PathVariables.{path_reason, added_path, dropped_path}
-use Rattle.envpaths.specs.declared.adding.End.{End}
-use Rattle.envpaths.specs.declared.adding.End.TheVariants as ends
-use Rattle.envstacks.specs.StackVariables.{pushed_value, popped_value}
+use Rattle.envstate.specs.paths.PathVariables.{path_reason, added_path, dropped_path}
+use Rattle.envstate.specs.declared.paths.adding.End.{End}
+use Rattle.envstate.specs.declared.paths.adding.End.TheVariants as ends
+use Rattle.envstate.specs.stacks.StackVariables.{pushed_value, popped_value}
 use Rattle.envstate.specs.Frames.{EditsVariable}
 use Rattle.envstate.proofs.RoleLemmas.{no_reason_against}
 use Rattle.envstate.proofs.FrameLemmas.{add_edits, drop_edits, push_edits, set_edits, path_edits_variable}

@@ -12,13 +12,13 @@ use Rattle.envvars.specs.Fields.{without}
 use Rattle.envvars.specs.Environment.{Environment, lookup}
 use Rattle.envvars.proofs.TextLemmas.{same_text, bytes_eq-same}
 use Rattle.envvars.proofs.EditLemmas.{both_true}
-use Rattle.envstacks.specs.Stacks.{OwnedValue, StackState, is_owner, holds}
-use Rattle.envstacks.specs.StackRuns.{IsOwnedStart, other_pushes, start_with_pushes}
-use Rattle.envstacks.specs.StackVariables.{stack_in, is_loaded_owner, IsStackInOrder}
-use Rattle.envstacks.proofs.StackInOrder.{order_of_fewer}
-use Rattle.envloaded.specs.Loaded.{Entry, names_of, loaded_in, AreLoadedInOrder}
-use Rattle.envloaded.proofs.LoadedEdits.{loaded_after_add}
-use Rattle.envloaded.proofs.LoadedOrder.{add_in_order, drop_keeps_order}
+use Rattle.envstate.specs.stacks.Stacks.{OwnedValue, StackState, is_owner, holds}
+use Rattle.envstate.specs.stacks.StackRuns.{IsOwnedStart, other_pushes, start_with_pushes}
+use Rattle.envstate.specs.stacks.StackVariables.{stack_in, is_loaded_owner, IsStackInOrder}
+use Rattle.envstate.proofs.stacks.StackInOrder.{order_of_fewer}
+use Rattle.envstate.specs.loaded_list.Loaded.{Entry, names_of, loaded_in, AreLoadedInOrder}
+use Rattle.envstate.proofs.loaded_list.LoadedEdits.{loaded_after_add}
+use Rattle.envstate.proofs.loaded_list.LoadedOrder.{add_in_order, drop_keeps_order}
 use Rattle.envstate.specs.Roles.{role_of, is_editable}
 use Rattle.envstate.specs.Roles.VariableRole.{Other}
 use Rattle.envstate.specs.Frames.{IsVariableUnchanged, AreLoadedUnchanged}
@@ -31,7 +31,7 @@ use Rattle.modulefile.specs.Effects.{Mode, load, unload, effect, effects}
 use Rattle.modulefile.specs.Moves.{Module, Loads, Unloads, entry_of, moved, Fits}
 use Rattle.reversal.specs.VariableUses.{VariableUse, Untouched, Fixed, Absent, Pathed, Stacked, AllSuit}
 use Rattle.reversal.specs.Live.{last_set, live_set, adds, live_adds, last_push, with_push, live_pushes, entries_over}
-use Rattle.reversal.specs.Undone.{undo_of, UndoAlike}
+use Rattle.reversal.specs.Undone.{undo_of, UndoEquivalently}
 use Rattle.reversal.specs.Starts.{IsStart, HasValue, IsPermutation}
 use Rattle.reversal.specs.Runs.{live_named, without_live, IsReversibleAndApart, AreReversibleTogether}
 use Rattle.reversal.proofs.Frames.{Side, loads, unloads, touched, kept_loaded, kept_rest}
@@ -262,7 +262,7 @@ held_unload uses b xs live m old mid w Stacked q g f l fit sound e h =
 -- of a live module, by records that undo what those of its load undo
 pub kept_unload : (uses : Text → VariableUse) (b : Environment) (xs : List Entry) (live : List Module) (m : Module)
     (rs : List Record) (old new : Environment) → Begun uses b xs → Kept uses b xs live old
-    → live_named m.name live ≡ Some m → UndoAlike rs m.records → unloaded_with old m.name rs ≡ Ok new
+    → live_named m.name live ≡ Some m → UndoEquivalently rs m.records → unloaded_with old m.name rs ≡ Ok new
     → Kept uses b xs (without_live m.name live) new
 unfolding unloaded_with
 kept_unload uses b xs live m rs old new g k l a h =

@@ -5,9 +5,9 @@ use Rattle.std.proofs.lemmas.Bool.{false≢true}
 use Rattle.envvars.specs.Texts.{Text}
 use Rattle.envvars.specs.Environment.{Environment, with_value}
 use Rattle.envvars.proofs.TextLemmas.{same_text}
-use Rattle.envpaths.specs.PathVariables.{added_path, dropped_path}
-use Rattle.envpaths.specs.declared.adding.End.{End}
-use Rattle.envstacks.specs.StackVariables.{pushed_value, popped_value}
+use Rattle.envstate.specs.paths.PathVariables.{added_path, dropped_path}
+use Rattle.envstate.specs.declared.paths.adding.End.{End}
+use Rattle.envstate.specs.stacks.StackVariables.{pushed_value, popped_value}
 use Rattle.modulefile.specs.Records.{Record, variable_of}
 use Rattle.modulefile.specs.Effects.{loaded_by, unloaded_by}
 use Rattle.reversal.specs.VariableUses.{VariableUse, Untouched, Fixed, Absent, Pathed, Stacked, can_return}

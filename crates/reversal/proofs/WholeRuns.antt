@@ -7,13 +7,13 @@ use Rattle.envvars.specs.Names.{share_name, stack_name}
 use Rattle.envvars.specs.Environment.{Environment, lookup}
 use Rattle.envvars.proofs.TextLemmas.{same_text}
 use Rattle.envvars.proofs.EnvLemmas.{same_environment}
-use Rattle.envpaths.specs.PathVariables.{path_in}
-use Rattle.envpaths.specs.PathOrder.{IsPathInOrder}
-use Rattle.envpaths.proofs.PathLemmas.{IsPathStartWith-start, IsPathStartWith-restored}
-use Rattle.envstacks.specs.StackRuns.{start_with_pushes}
-use Rattle.envstacks.specs.StackVariables.{stack_in, IsStackInOrder}
-use Rattle.envloaded.specs.LoadedTexts.{names_variable, files_variable, conflicts_variable, prereqs_variable}
-use Rattle.envloaded.specs.Loaded.{Entry, names_of, loaded_in}
+use Rattle.envstate.specs.paths.PathVariables.{path_in}
+use Rattle.envstate.specs.paths.PathOrder.{IsPathInOrder}
+use Rattle.envstate.proofs.paths.PathLemmas.{IsPathStartWith-start, IsPathStartWith-restored}
+use Rattle.envstate.specs.stacks.StackRuns.{start_with_pushes}
+use Rattle.envstate.specs.stacks.StackVariables.{stack_in, IsStackInOrder}
+use Rattle.envstate.specs.loaded_list.LoadedTexts.{names_variable, files_variable, conflicts_variable, prereqs_variable}
+use Rattle.envstate.specs.loaded_list.Loaded.{Entry, names_of, loaded_in}
 use Rattle.envstate.specs.Roles.{VariableRole, role_of, is_editable, IsNameOf}
 use Rattle.envstate.specs.Roles.VariableRole.{Variable, Counters, Stack, LoadedNames, LoadedFiles, LoadedConflicts}
 use Rattle.envstate.specs.Roles.VariableRole.{LoadedPrereqs, Other}

@@ -6,14 +6,14 @@ use Rattle.std.specs.List.{list_all}
 use Rattle.envvars.specs.Texts.{Text}
 use Rattle.envvars.specs.Environment.{Environment, with_value}
 use Rattle.envvars.specs.Fields.{colon}
-use Rattle.envloaded.specs.Loaded.{AreLoadedInOrder}
+use Rattle.envstate.specs.loaded_list.Loaded.{AreLoadedInOrder}
 use Rattle.modulefile.specs.Records.{Record, Set, Unset, Push, Path}
 use Rattle.modulefile.specs.declared.records.PathEdit.TheVariants.{Front, Back, Remove}
 use Rattle.modulefile.specs.Moves.{Module, Move, Loads, Unloads, MovesReach}
 use Rattle.reversal.specs.VariableUses.{VariableUse, Untouched, Fixed, Absent, Pathed, Stacked, can_return}
 use Rattle.reversal.specs.VariableUses.{AllFollowUses, AllSuit}
 use Rattle.reversal.specs.Live.{last_set, live_set}
-use Rattle.reversal.specs.Undone.{UndoAlike}
+use Rattle.reversal.specs.Undone.{UndoEquivalently}
 use Rattle.reversal.specs.Starts.{IsStart, IsStartWith}
 use Rattle.reversal.specs.Runs.{live_named, without_live, live_after, AreReversible}
 
@@ -71,7 +71,7 @@ OfUnload follows_use live m = Unit {0}
 OfUnload apart live m = Unit {0}
 OfUnload alive live m = (loaded : Module) × (live_named m.name live ≡ Some loaded)
 OfUnload undoes_alike live m = (loaded : Module) → live_named m.name live ≡ Some loaded
-    → UndoAlike m.records loaded.records
+    → UndoEquivalently m.records loaded.records
 
 -- the part holds for each move
 abbrev pub HasPart : Part → (Text → VariableUse) → List Module → List Move → Type 0

@@ -3,14 +3,14 @@ use Rattle.std.specs.Prelude.{◌≡◌, true, List, [], ◌∷◌, ◌++◌, So
 use Rattle.std.specs.List.{list_all}
 use Rattle.envvars.specs.Texts.{Text}
 use Rattle.envvars.specs.Environment.{Environment}
-use Rattle.envloaded.specs.Loaded.{Entry, loaded_in}
+use Rattle.envstate.specs.loaded_list.Loaded.{Entry, loaded_in}
 use Rattle.envstate.specs.Frames.{OnlyAmong, loaded_names}
 use Rattle.modulefile.specs.Records.{Record}
 use Rattle.modulefile.specs.Judgments.{is_allowed}
 use Rattle.modulefile.specs.Effects.{load, unload, effects}
 use Rattle.modulefile.specs.Moves.{Module, Move, Loads, entry_of, moved, MovesReach}
 use Rattle.reversal.specs.VariableUses.{VariableUse}
-use Rattle.reversal.specs.Undone.{UndoAlike}
+use Rattle.reversal.specs.Undone.{UndoEquivalently}
 use Rattle.reversal.specs.Starts.{IsInOrder, IsStart, IsStartWith}
 use Rattle.reversal.specs.Requests.{RequestOutcome, all_moves, RequestsReach}
 use Rattle.reversal.specs.Runs.{live_after, AreReversibleTogether, AreReversible}
@@ -63,9 +63,9 @@ pub record IsLoad (m : Module) (old new : Environment) : Type 0 where
 abbrev pub LoadsAreExact : Type 0
 LoadsAreExact = (m : Module) (old new : Environment) → moved (Loads m) old ≡ Ok new → IsLoad m old new
 
--- Where records undo alike, what an accepted unload by the ones makes, an unload by the others makes as well: it is
+-- Where records undo equivalently, what an accepted unload by the ones makes, an unload by the others makes as well: it is
 -- accepted if nothing forbids any of these.
 abbrev pub UnloadsAreAlike : Type 0
 UnloadsAreAlike =
-    (owner : Text) (rs ss : List Record) (old new : Environment) → UndoAlike rs ss → list_all is_allowed ss ≡ true
+    (owner : Text) (rs ss : List Record) (old new : Environment) → UndoEquivalently rs ss → list_all is_allowed ss ≡ true
     → effects unload owner rs old ≡ Ok new → effects unload owner ss old ≡ Ok new

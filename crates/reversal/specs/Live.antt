@@ -3,7 +3,7 @@
 use Rattle.std.specs.Prelude.{ℕ, ◌+◌, List, [], ◌∷◌, ◌++◌, bytes_eq, count_by, if◌then◌else◌, Option, Some, None}
 use Rattle.std.specs.Option.{option_or}
 use Rattle.envvars.specs.Texts.{Text}
-use Rattle.envloaded.specs.Loaded.{Entry}
+use Rattle.envstate.specs.loaded_list.Loaded.{Entry}
 use Rattle.modulefile.specs.Records.{Record, Set, Unset, Push, added_elements}
 use Rattle.modulefile.specs.Moves.{Module, entry_of}
 

@@ -4,7 +4,7 @@ use Rattle.envvars.specs.Texts.{Text}
 use Rattle.modulefile.specs.Moves.{Module, Move, Loads, Unloads}
 use Rattle.reversal.specs.VariableUses.{VariableUse, AllSuit}
 use Rattle.reversal.specs.Live.{last_set, live_set}
-use Rattle.reversal.specs.Undone.{UndoAlike}
+use Rattle.reversal.specs.Undone.{UndoEquivalently}
 
 -- the live module of this name
 abbrev pub live_named : Text → List Module → Option Module
@@ -37,7 +37,7 @@ AreReversibleTogether uses (m ∷ live) = IsReversibleAndApart uses live m × Ar
 pub record Undoes (live : List Module) (m : Module) : Type 0 where
   pub loaded : Module
   pub found : live_named m.name live ≡ Some loaded
-  pub alike : UndoAlike m.records loaded.records
+  pub alike : UndoEquivalently m.records loaded.records
 
 -- Each load is of a module that is reversible and apart from the live ones. Each unload is of a live module, by
 -- records that undo what those of its load undo: so no module of the start is unloaded.

@@ -3,13 +3,13 @@ use Rattle.std.specs.Prelude.{◌≡◌, ℕ, true, List, [], ◌∷◌, Option,
 use Rattle.envvars.specs.Texts.{Text}
 use Rattle.envvars.specs.Names.{share_name, stack_name}
 use Rattle.envvars.specs.Environment.{Environment, lookup}
-use Rattle.envpaths.specs.PathVariables.{path_in}
-use Rattle.envpaths.specs.PathOrder.{IsPathInOrder}
-use Rattle.envpaths.specs.PathRuns as path_runs
-use Rattle.envstacks.specs.Stacks.{StackState}
-use Rattle.envstacks.specs.StackRuns.{start_with_pushes}
-use Rattle.envstacks.specs.StackVariables.{stack_in, IsStackInOrder}
-use Rattle.envloaded.specs.Loaded.{Entry, names_of, loaded_in, AreLoadedInOrder}
+use Rattle.envstate.specs.paths.PathVariables.{path_in}
+use Rattle.envstate.specs.paths.PathOrder.{IsPathInOrder}
+use Rattle.envstate.specs.paths.PathRuns as path_runs
+use Rattle.envstate.specs.stacks.Stacks.{StackState}
+use Rattle.envstate.specs.stacks.StackRuns.{start_with_pushes}
+use Rattle.envstate.specs.stacks.StackVariables.{stack_in, IsStackInOrder}
+use Rattle.envstate.specs.loaded_list.Loaded.{Entry, names_of, loaded_in, AreLoadedInOrder}
 use Rattle.envstate.specs.Roles.{role_of, is_editable}
 use Rattle.envstate.specs.Roles.VariableRole.{Other}
 use Rattle.modulefile.specs.Moves.{Module}

@@ -17,5 +17,5 @@ abbrev pub undo_of : List Record → List Record
 undo_of rs = filter_map undone_as rs
 
 -- An unload by the ones does what an unload by the others does.
-abbrev pub UndoAlike : List Record → List Record → Type 0
-UndoAlike rs ss = undo_of rs ≡ undo_of ss
+abbrev pub UndoEquivalently : List Record → List Record → Type 0
+UndoEquivalently rs ss = undo_of rs ≡ undo_of ss

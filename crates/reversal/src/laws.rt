@@ -29,7 +29,7 @@ pub fn loads()
     ensures { LoadsAreExact }
 {}
 
-/// Of records that undo alike, whatever values are set or pushed, at whatever end of a path elements are added, and
+/// Of records that undo equivalently, whatever values are set or pushed, at whatever end of a path elements are added, and
 /// whatever conflicts, needs and descriptions there are, unloads make the same of an environment.
 pub fn unloads()
     ensures { UnloadsAreAlike }

@@ -2,13 +2,13 @@
 use Rattle.std.proofs.Common.{◌≡◌, ℕ, ◌+◌, ◌<◌, Bool, true, false, Bor, List, ◌∷◌, drop, get_or, length, map, Option}
 use Rattle.std.proofs.Common.{Some, None, is_some, option_map, String, Global, string_bytes, refl, ap, ◌∙◌, add-one}
 use Rattle.std.proofs.Math.Seq.{drop-cons}
-use Rattle.tcloperators.specs.Operators.{truth_text}
-use Rattle.tclchars.specs.Runs.{Text}
+use Rattle.tclvalue.specs.operators.Operators.{truth_text}
+use Rattle.tcltext.specs.chars.Runs.{Text}
 use Rattle.tclrules.specs.Messages.{cannot_unset}
 use Rattle.tclrules.specs.Variables.{Scalar, State, Frame, value_at, without_value}
 use Rattle.tclrules.specs.Plans.{Step, Next, raise}
 use Rattle.tclrules.specs.Rules.{exists_at, share, share_from, is_set, unset_at}
-use Rattle.tclvariables.specs.Locations.{is_env}
+use Rattle.tclforms.specs.variables.Locations.{is_env}
 
 pub inside : (f : Option Frame) (vs : List Text) (s : State) (k : State → Step) → is_some f ≡ true → share_from f vs s k ≡ share vs s k
 inside None vs s k h = cc

@@ -3,17 +3,17 @@ use Rattle.std.proofs.Common.{◌≡◌, ℕ, ◌<◌, ◌≤◌, Bool, true, fa
 use Rattle.std.proofs.lemmas.Bool.{le-leb, lt-leb}
 use Rattle.std.proofs.lemmas.Bool.Decides.{nat_tests}
 use Rattle.std.specs.Prelude.{nat_le}
-use Rattle.tclchars.specs.Runs.{Text}
-use Rattle.tcloperators.specs.Faults.{Answer, ValueReason, reason_of, value_too_long, ◌>>=◌}
-use Rattle.tcloperators.specs.declared.fault.ValueFault.{ValueFault}
-use Rattle.tcloperators.specs.declared.fault.ValueFault.TheVariants as faults
+use Rattle.tcltext.specs.chars.Runs.{Text}
+use Rattle.tclvalue.specs.operators.Faults.{Answer, ValueReason, reason_of, value_too_long, ◌>>=◌}
+use Rattle.tclvalue.specs.declared.operators.fault.ValueFault.{ValueFault}
+use Rattle.tclvalue.specs.declared.operators.fault.ValueFault.TheVariants as faults
 use Rattle.tclvalue.specs.Limits.{limited}
 use Rattle.tclrules.specs.Variables.{State}
 use Rattle.tclrules.specs.Plans.{Job, Step, sized}
 use Rattle.tclrules.specs.Simulates.{Point, Simulates}
 use Rattle.tclrules.proofs.Leading.{starve}
-use Rattle.tclsubstitution.specs.Stops.{stopped, stop_of}
-use Rattle.tclsubstitution.proofs.Leading.{sized_stops}
+use Rattle.tclforms.specs.substitution.Stops.{stopped, stop_of}
+use Rattle.tclforms.proofs.substitution.Leading.{sized_stops}
 
 pub within : (limit : ℕ) (t : Text) → length t ≤ limit → limited limit t ≡ Ok t
 within limit t h = rw (le-leb (length t) limit h) refl

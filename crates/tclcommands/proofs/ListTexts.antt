@@ -2,17 +2,17 @@
 use Rattle.std.proofs.Common.{◌≡◌, ℕ, map, ◌≤◌, ◌==◌, Bool, true, false, cond, List, [], ◌∷◌, ◌++◌, Option, Some, None}
 use Rattle.std.proofs.Common.{length, Ok, flat_map, refl, sym, ap, ◌∙◌}
 use Rattle.std.proofs.lemmas.List.{append_assoc}
-use Rattle.tclchars.specs.Bytes.{backslash, space, hash}
-use Rattle.tclchars.specs.Runs.{Text}
-use Rattle.tclchars.specs.Faults.{max_bytes}
-use Rattle.tcllist.specs.Lists.{is_bare, balances, escape, needs_escape, letter_of, escaped, braced, element_text}
-use Rattle.tcllist.specs.Lists.{list_rest, list_text}
-use Rattle.tcllist.specs.ListReading.{list_of}
-use Rattle.tcllist.proofs.ListAnswers.{elements_law}
-use Rattle.tcllist.proofs.RoundTrip.{list_is}
+use Rattle.tcltext.specs.chars.Bytes.{backslash, space, hash}
+use Rattle.tcltext.specs.chars.Runs.{Text}
+use Rattle.tcltext.specs.chars.Faults.{max_bytes}
+use Rattle.tcltext.specs.list.Lists.{is_bare, balances, escape, needs_escape, letter_of, escaped, braced, element_text}
+use Rattle.tcltext.specs.list.Lists.{list_rest, list_text}
+use Rattle.tcltext.specs.list.ListReading.{list_of}
+use Rattle.tcltext.proofs.list.ListAnswers.{elements_law}
+use Rattle.tcltext.proofs.list.RoundTrip.{list_is}
 use Rattle.tclrules.specs.Variables.{State, value_at}
 use Rattle.tclrules.specs.Rules.{value_or, lengthened}
-use Rattle.tclvariables.specs.Contents.{HoldsList}
+use Rattle.tclforms.specs.variables.Contents.{HoldsList}
 
 rest_append : (es fs : List Text) → list_rest (es ++ fs) ≡ list_rest es ++ list_rest fs
 rest_append [] fs = refl

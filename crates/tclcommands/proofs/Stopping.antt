@@ -5,10 +5,10 @@ use Rattle.tclrules.specs.Plans as plans
 use Rattle.tclrules.specs.Plans.{Job, Step}
 use Rattle.tclrules.specs.Simulates.{Point, Simulates}
 use Rattle.tclrules.proofs.Leading.{stay, starve}
-use Rattle.tcloperators.specs.Faults.{ValueReason, HasReason}
-use Rattle.tcloperators.specs.declared.fault.ValueFault.{ValueFault}
-use Rattle.tcloperators.specs.declared.fault.ValueFault.TheVariants as faults
-use Rattle.tclsubstitution.specs.Stops.{stopped, stop_of}
+use Rattle.tclvalue.specs.operators.Faults.{ValueReason, HasReason}
+use Rattle.tclvalue.specs.declared.operators.fault.ValueFault.{ValueFault}
+use Rattle.tclvalue.specs.declared.operators.fault.ValueFault.TheVariants as faults
+use Rattle.tclforms.specs.substitution.Stops.{stopped, stop_of}
 
 -- a fault that has this reason
 pub fault_stops : {most : ℕ} {r : Job → Step} {x : Point} (e : ValueFault) (reason : ValueReason) (s : State) → HasReason reason e → Simulates most r (plans.fault reason s) x (stopped (stop_of e) s) x

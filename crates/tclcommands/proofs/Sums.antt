@@ -2,12 +2,12 @@
 use Rattle.std.proofs.Common.{◌≡◌, ◌≤◌, ℕ, ℤ, Option, Some, None, Result, Ok, Err, codes, length}
 use Rattle.std.specs.Prelude.{IfOk, IfSome, unwrap_or}
 use Rattle.std.specs.Fmt.{signed_decimal}
-use Rattle.tclchars.specs.Runs.{Text}
-use Rattle.tclchars.specs.Numerals.{numeral}
-use Rattle.tclchars.specs.declared.number.Numeral.TheVariants.{Whole}
+use Rattle.tcltext.specs.chars.Runs.{Text}
+use Rattle.tcltext.specs.chars.Numerals.{numeral}
+use Rattle.tcltext.specs.declared.chars.number.Numeral.TheVariants.{Whole}
 use Rattle.tclrules.specs.Variables.{State}
 use Rattle.tclrules.specs.Rules.{increased}
-use Rattle.tclvariables.specs.Contents.{IsIncreased}
+use Rattle.tclforms.specs.variables.Contents.{IsIncreased}
 
 summed : (o : Option Text) (amount : ℤ) (limit : ℕ) (n t : Text) → numeral n ≡ Whole amount → IsIncreased o amount limit t → (increased (unwrap_or o (codes "0")) n ≡ Ok t) × (length t ≤ limit)
 summed None amount limit n t e h = absurd h

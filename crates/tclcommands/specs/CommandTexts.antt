@@ -1,7 +1,7 @@
 -- The name of a command among its words (Tcl(n), rule 2). Own.
 use Rattle.std.specs.Prelude.{List, [], ◌∷◌, String, string_bytes}
 use Rattle.std.specs.declared.alloc.Global.{Global}
-use Rattle.tclchars.specs.Runs.{Text}
+use Rattle.tcltext.specs.chars.Runs.{Text}
 
 -- the first of these words
 abbrev pub name_of : List (String Global) → Text

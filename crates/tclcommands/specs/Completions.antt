@@ -2,24 +2,24 @@
 -- result may be dropped.
 use Rattle.std.specs.Prelude.{◌≡◌, ℕ, ◌≤◌, length, [], Bool, true, false, Result, Ok, Err, string_bytes, String}
 use Rattle.std.specs.declared.alloc.Global.{Global}
-use Rattle.tclchars.specs.Runs.{Text}
-use Rattle.tclchars.specs.declared.fault.TextFault.{TextFault}
-use Rattle.tclchars.specs.declared.fault.TextFault.TheVariants as texts
-use Rattle.tcloperators.specs.declared.fault.ValueFault.{ValueFault}
-use Rattle.tcloperators.specs.declared.fault.ValueFault.TheVariants as faults
-use Rattle.tcloperators.specs.Faults.{HasReason}
-use Rattle.tclexpr.specs.Tree.{Expr}
-use Rattle.tclexpr.specs.Operands.{Operand}
-use Rattle.tclchars.specs.Numerals.{numeral}
-use Rattle.tcloperators.specs.Operators.{truth}
+use Rattle.tcltext.specs.chars.Runs.{Text}
+use Rattle.tcltext.specs.declared.chars.fault.TextFault.{TextFault}
+use Rattle.tcltext.specs.declared.chars.fault.TextFault.TheVariants as texts
+use Rattle.tclvalue.specs.declared.operators.fault.ValueFault.{ValueFault}
+use Rattle.tclvalue.specs.declared.operators.fault.ValueFault.TheVariants as faults
+use Rattle.tclvalue.specs.operators.Faults.{HasReason}
+use Rattle.tcltext.specs.expr.Tree.{Expr}
+use Rattle.tcltext.specs.expr.Operands.{Operand}
+use Rattle.tcltext.specs.chars.Numerals.{numeral}
+use Rattle.tclvalue.specs.operators.Operators.{truth}
 use Rattle.tclrules.specs.Expressions.{fault_of, expr, normal}
 use Rattle.tclrules.specs.Variables.{State}
 use Rattle.tclrules.specs.Plans.{Completion, Normal, Raised, Returned, Broken, Continued, Bounds, Next, Step, ended}
 use Rattle.tclrules.specs.Plans.{halt, given, sized}
 use Rattle.tclrules.specs.Rules.{turn}
-use Rattle.tclsubstitution.specs.Stops.{error_or_halt}
-use Rattle.tclsubstitution.specs.declared.stop.Stop.{Stop}
-use Rattle.tclsubstitution.specs.declared.stop.Stop.TheVariants as stops
+use Rattle.tclforms.specs.substitution.Stops.{error_or_halt}
+use Rattle.tclforms.specs.declared.substitution.stop.Stop.{Stop}
+use Rattle.tclforms.specs.declared.substitution.stop.Stop.TheVariants as stops
 use Rattle.tclcommands.specs.declared.result_use.ResultUse.{ResultUse}
 use Rattle.tclcommands.specs.declared.result_use.ResultUse.TheVariants.{Needed}
 

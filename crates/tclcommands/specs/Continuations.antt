@@ -4,16 +4,16 @@ use Rattle.std.specs.Prelude.{ℕ, ℤ, Bool, List, [], ◌∷◌, map, codes, S
 use Rattle.std.specs.Borrow.{Bor}
 use Rattle.std.specs.Fmt.{signed_decimal}
 use Rattle.std.specs.declared.alloc.Global.{Global}
-use Rattle.tclchars.specs.Runs.{Text}
+use Rattle.tcltext.specs.chars.Runs.{Text}
 use Rattle.tclrules.specs.Variables.{State, value_at}
 use Rattle.tclrules.specs.Simulates.{Point, Simulates}
 use Rattle.tclrules.specs.Plans as plans
 use Rattle.tclrules.specs.Plans.{Bounds, Job, Next, given}
 use Rattle.tclrules.specs.Rules.{increased, lengthened, value_or, write_at}
-use Rattle.tclsubstitution.specs.Machine.{bounds}
-use Rattle.tclsubstitution.specs.Stops.{after}
-use Rattle.tclsubstitution.specs.declared.stop.Stop.{Stop}
-use Rattle.tclvariables.specs.Locations.{scalar_view}
+use Rattle.tclforms.specs.substitution.Machine.{bounds}
+use Rattle.tclforms.specs.substitution.Stops.{after}
+use Rattle.tclforms.specs.declared.substitution.stop.Stop.{Stop}
+use Rattle.tclforms.specs.variables.Locations.{scalar_view}
 use Rattle.tclcommands.specs.declared.value.Value.{Value}
 use Rattle.tclcommands.specs.declared.value.Value.TheVariants as values
 

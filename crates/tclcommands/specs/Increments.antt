@@ -1,6 +1,6 @@
 -- The text of the increment of incr(n), which is 1 where no word says it (own).
 use Rattle.std.specs.Prelude.{codes}
-use Rattle.tclchars.specs.Runs.{Text}
+use Rattle.tcltext.specs.chars.Runs.{Text}
 use Rattle.tclcommands.specs.declared.increment.Increment.{Increment}
 use Rattle.tclcommands.specs.declared.increment.Increment.TheVariants as increments
 

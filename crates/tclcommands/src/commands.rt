@@ -6,8 +6,8 @@ ghost use Rattle.tclrules.specs.Plans as plans;
 ghost use Rattle.tclrules.specs.Plans.{Bounds, Job, Next, ended, raise, sized};
 ghost use Rattle.tclrules.specs.Rules as rules;
 ghost use Rattle.tclforms.specs.Views.{simple_view};
-ghost use Rattle.tclsubstitution.specs.Machine.{bounds};
-ghost use Rattle.tclsubstitution.specs.Stops.{after, stopped};
+ghost use Rattle.tclforms.specs.substitution.Machine.{bounds};
+ghost use Rattle.tclforms.specs.substitution.Stops.{after, stopped};
 ghost use Rattle.tclcommands.specs.Continuations.{value_text};
 ghost use Rattle.tclcommands.specs.CommandTexts.{name_of};
 ghost use Rattle.tclcommands.specs.Completions.{EvaluatesToText, sized_next};
@@ -23,11 +23,11 @@ use crate::unsetting::unset;
 use crate::value::Value;
 use crate::writing::{append, increase, set};
 use std::alloc::Global;
+use tclforms::substitution::Stop;
+use tclforms::variables::Variables;
 use tclforms::{SimpleForm, is_unsupported};
-use tcloperators::unsupported;
 use tclrules::{EvalFault, Host, Limits};
-use tclsubstitution::Stop;
-use tclvariables::Variables;
+use tclvalue::operators::unsupported;
 
 /// The completion of return(n), with this result.
 fn returned(alloc: Global, text: &str) -> Stop

@@ -2,21 +2,21 @@
 //! procedures continue after it.
 ghost use Rattle.std.specs.Prelude.{◌≡◌, ℕ, Option, option_map, string_bytes};
 ghost use Rattle.tclrules.specs.Simulates.{Simulates, Point};
-ghost use Rattle.tclsubstitution.specs.Machine.{bounds};
+ghost use Rattle.tclforms.specs.substitution.Machine.{bounds};
 ghost use Rattle.tclrules.specs.Variables.{State, Frame, in_frame};
 ghost use Rattle.tclrules.specs.Plans as plans;
 ghost use Rattle.tclrules.specs.Plans.{Bounds, Job, Next};
 ghost use Rattle.tclrules.specs.Rules.{after_turn, after_next, after_call, caught, catch_into};
-ghost use Rattle.tclchars.specs.Runs.{Text};
-ghost use Rattle.tclsubstitution.specs.Stops.{after};
+ghost use Rattle.tcltext.specs.chars.Runs.{Text};
+ghost use Rattle.tclforms.specs.substitution.Stops.{after};
 ghost use Rattle.tclcommands.specs.Completions.{completed, loop_continuation};
 
 use crate::writing::write;
 use std::alloc::Global;
 use tclforms::outside_loop;
+use tclforms::substitution::Stop;
+use tclforms::variables::Variables;
 use tclrules::{EvalFault, Limits};
-use tclsubstitution::Stop;
-use tclvariables::Variables;
 
 /// Whether a loop continues after the completion of its body: `break` ends it, `continue` doesn't.
 ///

@@ -6,8 +6,8 @@ ghost use Rattle.tclcommands.specs.Continuations.{ContinuesWithoutHost};
 use crate::value::Value;
 use std::alloc::Global;
 use tclforms::parameters;
-use tclsubstitution::Stop;
-use tclvariables::{Procedure, Variables};
+use tclforms::substitution::Stop;
+use tclforms::variables::{Procedure, Variables};
 
 /// proc(n): defines the procedure `name` with the parameters of the list and this body, which isn't parsed yet. The
 /// result is empty.

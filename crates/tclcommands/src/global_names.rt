@@ -6,8 +6,8 @@ ghost use Rattle.tclcommands.specs.Continuations.{ContinuesWithoutHost, Continue
 
 use crate::value::Value;
 use std::alloc::Global;
-use tclsubstitution::Stop;
-use tclvariables::{Variables, sharable};
+use tclforms::substitution::Stop;
+use tclforms::variables::{Variables, sharable};
 
 /// Makes names mean global variables in the procedure that runs, in turn.
 #[tactic(none)]

@@ -10,9 +10,9 @@ use crate::value::Value;
 use message::texts::with_copies;
 use std::alloc::{AllocError, Global};
 use tclforms::no_command;
+use tclforms::substitution::Stop;
+use tclforms::variables::Variables;
 use tclrules::{EvalFault, Host, HostAnswer};
-use tclsubstitution::Stop;
-use tclvariables::Variables;
 
 /// The result of the command of this name and these words, by the host. A name that the host doesn't know is an error
 /// of Tcl, which catch(n) sees; all other refusals halt.

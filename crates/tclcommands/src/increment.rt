@@ -1,14 +1,14 @@
 //! By how much incr(n) increases its variable.
 ghost use Rattle.std.specs.Prelude.{◌≡◌, IfSome, map, string_bytes};
 ghost use Rattle.message.specs.Answers.{Gives};
-ghost use Rattle.tcloperators.specs.Faults.{reason_of};
-ghost use Rattle.tclchars.specs.Numerals.{numeral};
-ghost use Rattle.tclchars.specs.declared.number.Numeral.TheVariants.{Whole};
+ghost use Rattle.tclvalue.specs.operators.Faults.{reason_of};
+ghost use Rattle.tcltext.specs.chars.Numerals.{numeral};
+ghost use Rattle.tcltext.specs.declared.chars.number.Numeral.TheVariants.{Whole};
 ghost use Rattle.tclrules.specs.Forms.{increase_of};
 ghost use Rattle.tclcommands.specs.Increments.{increment_text};
 
 use std::alloc::Global;
-use tcloperators::{ValueFault, whole_number, wrong_words};
+use tclvalue::operators::{ValueFault, whole_number, wrong_words};
 
 /// By how much a variable is increased.
 #[derive(Clone, Copy)]

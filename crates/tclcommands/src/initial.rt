@@ -4,7 +4,7 @@ ghost use Rattle.tclrules.specs.Promise.{texts_of};
 ghost use Rattle.tclrules.specs.Variables.{initial_state};
 
 use std::alloc::{AllocError, Global};
-use tclvariables::{Scalar, Scope, Variables};
+use tclforms::variables::{Scalar, Scope, Variables};
 
 /// Variables with these global ones, each a name and its value, and without procedures, none of which may have one of
 /// the names `reserved`. Of a name that is repeated the last value counts.

@@ -1,26 +1,26 @@
 //! The command lappend(n). Where a variable is known to hold a list that the evaluator wrote itself, elements are
 //! appended to its text in place; any other value is read as a list and written anew.
 ghost use Rattle.std.specs.Prelude.{◌≡◌, ◌++◌, ◌≤◌, [], List, length, map, string_bytes, true, Ok, IfOk};
-ghost use Rattle.tclchars.specs.Runs.{Text};
-ghost use Rattle.tclchars.specs.Faults.{max_bytes};
-ghost use Rattle.tcllist.specs.Lists.{list_text};
-ghost use Rattle.tcloperators.specs.Faults.{GivesText};
+ghost use Rattle.tcltext.specs.chars.Runs.{Text};
+ghost use Rattle.tcltext.specs.chars.Faults.{max_bytes};
+ghost use Rattle.tcltext.specs.list.Lists.{list_text};
+ghost use Rattle.tclvalue.specs.operators.Faults.{GivesText};
 ghost use Rattle.tclrules.specs.Variables.{value_at, writable};
 ghost use Rattle.tclrules.specs.Forms.{ListAppend};
 ghost use Rattle.tclrules.specs.Rules.{form, value_or, lengthened};
-ghost use Rattle.tclvariables.specs.Contents.{IsListText, HoldsList};
+ghost use Rattle.tclforms.specs.variables.Contents.{IsListText, HoldsList};
 ghost use Rattle.tclcommands.specs.Continuations.{append_at, ContinuesWithText, ContinuesWithinLimit};
-ghost use Rattle.tclvariables.specs.Locations.{scalar_view};
+ghost use Rattle.tclforms.specs.variables.Locations.{scalar_view};
 
 use crate::value::{Value, value_or};
 use crate::writing::{put_at, take_text};
 use message::texts::with_copies;
 use std::alloc::{AllocError, Global};
-use tclchars::MAX_BYTES;
-use tcloperators::{ValueFault, elements};
-use tclsubstitution::Stop;
+use tclforms::substitution::Stop;
+use tclforms::variables::{Content, Scalar, Variables, writable};
+use tcltext::chars::MAX_BYTES;
 use tclvalue::list_text;
-use tclvariables::{Content, Scalar, Variables, writable};
+use tclvalue::operators::{ValueFault, elements};
 
 /// The text of a list, as the evaluator writes it, with elements appended.
 fn with_elements(alloc: Global, list: String, values: &[String]) -> Result<String, AllocError>

@@ -1,6 +1,6 @@
 //! Commands that read variables: set(n) with one word, and `info exists` of info(n).
 ghost use Rattle.std.specs.Prelude.{◌≡◌, string_bytes};
-ghost use Rattle.tcloperators.specs.Operators.{truth_text};
+ghost use Rattle.tclvalue.specs.operators.Operators.{truth_text};
 ghost use Rattle.tclrules.specs.Variables as rules;
 ghost use Rattle.tclrules.specs.Variables.{State};
 ghost use Rattle.tclrules.specs.Simulates.{point};
@@ -8,17 +8,17 @@ ghost use Rattle.tclrules.specs.Plans.{Next};
 ghost use Rattle.tclrules.specs.Forms.{Get, Exists};
 ghost use Rattle.tclrules.specs.Rules.{form, exists_at};
 ghost use Rattle.tclcommands.specs.Continuations.{value_text, ContinuesWithResult};
-ghost use Rattle.tclvariables.specs.Locations.{is_global};
+ghost use Rattle.tclforms.specs.variables.Locations.{is_global};
 
 use crate::value::Value;
 use std::alloc::Global;
+use tclforms::substitution::{Stop, read};
+use tclforms::variables::{Location, Scalar, Scope, Variables, location_named};
 use tclrules::Host;
-use tclsubstitution::{Stop, read};
-use tclvariables::{Location, Scalar, Scope, Variables, location_named};
 
 /// set(n) with the name alone: the value of the variable.
 ///
-/// Errors: as of `tclsubstitution::read`.
+/// Errors: as of `tclforms::substitution::read`.
 #[tactic(none)]
 pub fn get<'a, H: Host>(
     alloc: Global,

@@ -9,9 +9,9 @@ ghost use Rattle.tclcommands.specs.Continuations.{ContinuesWithoutHost, Continue
 
 use crate::value::Value;
 use std::alloc::Global;
+use tclforms::substitution::Stop;
+use tclforms::variables::{Variables, writable};
 use tclforms::{WhenMissing, cannot_unset};
-use tclsubstitution::Stop;
-use tclvariables::{Variables, writable};
 
 /// Unsets one variable. What follows where it is unset already, `missing` says.
 #[tactic(none)]

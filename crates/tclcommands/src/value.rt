@@ -2,10 +2,10 @@
 ghost use Rattle.std.specs.Prelude.{◌≡◌, length, nat_le, IfOk, string_bytes};
 ghost use Rattle.tclrules.specs.Rules.{value_or};
 ghost use Rattle.tclcommands.specs.Continuations.{value_text};
-ghost use Rattle.tclvariables.specs.Locations.{scalar_view};
+ghost use Rattle.tclforms.specs.variables.Locations.{scalar_view};
 
 use std::alloc::{AllocError, Global};
-use tclvariables::{Scalar, Variables, is_number_within};
+use tclforms::variables::{Scalar, Variables, is_number_within};
 
 /// The result of a command. Most results are dropped by the script, so a copy is made only where one is needed.
 #[derive(Drop)]

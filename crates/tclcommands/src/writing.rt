@@ -2,27 +2,27 @@
 ghost use Rattle.std.specs.Prelude.{◌≡◌, ◌≤◌, ◌++◌, [], None, Ok, codes, length, map, string_bytes, IfOk, IfSome, OnOk};
 ghost use Rattle.std.specs.Fmt.{signed_decimal};
 ghost use Rattle.message.specs.Answers.{Gives};
-ghost use Rattle.tcloperators.specs.Faults.{GivesText, reason_of};
+ghost use Rattle.tclvalue.specs.operators.Faults.{GivesText, reason_of};
 ghost use Rattle.tclvalue.specs.Limits.{limited};
 ghost use Rattle.tclvalue.specs.Characters.{joined};
-ghost use Rattle.tclchars.specs.Runs.{Text};
+ghost use Rattle.tcltext.specs.chars.Runs.{Text};
 ghost use Rattle.tclrules.specs.Variables.{with_value};
 ghost use Rattle.tclrules.specs.Forms.{Set, Append, Increase};
 ghost use Rattle.tclrules.specs.Rules.{write_at, write, assign, form, value_or, increased};
 ghost use Rattle.tclcommands.specs.Increments.{increment_text};
 ghost use Rattle.tclcommands.specs.Continuations.{named_values, increase_at, ContinuesWithVariablesWithin};
 ghost use Rattle.tclcommands.specs.Continuations.{ContinuesWithText, ContinuesWithNumber, ContinuesWithinLimit};
-ghost use Rattle.tclvariables.specs.Locations.{scalar_view};
+ghost use Rattle.tclforms.specs.variables.Locations.{scalar_view};
 
 use crate::increment::Increment;
 use crate::value::{Value, value_or};
 use itoa::Buffer;
 use std::alloc::{AllocError, Global};
-use tcloperators::{ValueFault, sum};
+use tclforms::substitution::Stop;
+use tclforms::variables::{Content, Scalar, Variables, writable};
 use tclrules::EvalFault;
-use tclsubstitution::Stop;
 use tclvalue::count_of;
-use tclvariables::{Content, Scalar, Variables, writable};
+use tclvalue::operators::{ValueFault, sum};
 
 /// Gives the variable at a location its content, within the limit on values.
 #[tactic(none)]

@@ -3,21 +3,21 @@ use Rattle.std.proofs.Common.{◌≡◌, ℕ, ◌≤◌, Bool, true, false, Ok, 
 use Rattle.std.specs.Prelude.{pos, IfSome}
 use Rattle.std.specs.Fmt.{signed_decimal}
 use Rattle.std.proofs.lemmas.Fmt.{decimal_digit}
-use Rattle.tclchars.specs.Numerals.{numeral}
-use Rattle.tclchars.specs.declared.number.Numeral.TheVariants as numerals
-use Rattle.tclexpr.specs.Tree.{Expr}
-use Rattle.tclexpr.specs.Operands.{Operand}
-use Rattle.tcloperators.specs.Values.{computed_text}
-use Rattle.tcloperators.specs.declared.operators.ComputedValue.{ComputedValue}
-use Rattle.tcloperators.specs.declared.operators.ComputedValue.TheVariants.{Truth}
-use Rattle.tcloperators.specs.Operators.{truth, truth_of, truth_text}
+use Rattle.tcltext.specs.chars.Numerals.{numeral}
+use Rattle.tcltext.specs.declared.chars.number.Numeral.TheVariants as numerals
+use Rattle.tcltext.specs.expr.Tree.{Expr}
+use Rattle.tcltext.specs.expr.Operands.{Operand}
+use Rattle.tclvalue.specs.operators.Values.{computed_text}
+use Rattle.tclvalue.specs.declared.operators.operators.ComputedValue.{ComputedValue}
+use Rattle.tclvalue.specs.declared.operators.operators.ComputedValue.TheVariants.{Truth}
+use Rattle.tclvalue.specs.operators.Operators.{truth, truth_of, truth_text}
 use Rattle.tclrules.specs.Variables.{State}
 use Rattle.tclrules.specs.Plans.{Job, Step, Next, given, sized}
 use Rattle.tclrules.specs.Simulates.{Point, Simulates}
 use Rattle.tclrules.specs.Expressions.{expr, normal}
 use Rattle.tclrules.proofs.Leading.{continue_with}
-use Rattle.tclsubstitution.specs.Machine.{bounds}
-use Rattle.tclsubstitution.proofs.Leading.{given_on, sized_on}
+use Rattle.tclforms.specs.substitution.Machine.{bounds}
+use Rattle.tclforms.proofs.substitution.Leading.{given_on, sized_on}
 use Rattle.tclcommands.specs.Completions.{condition_plan}
 
 -- the digit that a truth value is written as

@@ -1,11 +1,11 @@
 -- Commands of literal words.
 use Rattle.std.proofs.Common.{◌≡◌, ℕ, List, [], ◌∷◌, map, ap, ◌∙◌, Option, Some, None, Ok}
 use Rattle.std.specs.Prelude.{IfSome}
-use Rattle.tclchars.specs.Runs.{Text}
-use Rattle.tclscript.specs.Tree.{words_of}
-use Rattle.tclscript.specs.View.{word_view}
-use Rattle.tclscript.specs.declared.tree.Word.{Word}
-use Rattle.tclscript.specs.declared.piece.ByteRange.{ByteRange}
+use Rattle.tcltext.specs.chars.Runs.{Text}
+use Rattle.tcltext.specs.script.Tree.{words_of}
+use Rattle.tcltext.specs.script.View.{word_view}
+use Rattle.tcltext.specs.declared.script.tree.Word.{Word}
+use Rattle.tcltext.specs.declared.script.piece.ByteRange.{ByteRange}
 use Rattle.tclvalue.specs.Commands.{command_value}
 use Rattle.tclrules.specs.Variables.{State}
 use Rattle.tclrules.specs.Plans.{Bounds, Step, Next, given}
@@ -16,7 +16,7 @@ use Rattle.tclrules.specs.Rules as rules
 use Rattle.tclrules.specs.Rules.{called, value_command, core_command}
 use Rattle.tclforms.specs.Views.{simple_view}
 use Rattle.tclforms.specs.declared.form.SimpleForm.{SimpleForm}
-use Rattle.tclsubstitution.specs.Machine.{range_text, bounds}
+use Rattle.tclforms.specs.substitution.Machine.{range_text, bounds}
 
 -- the words of a command with this form do what the form does
 called_form : (b : Bounds) (name : Text) (ws : List Text) (f : forms.Form) (s : State) (k : Next)

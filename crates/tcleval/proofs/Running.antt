@@ -5,14 +5,14 @@ use Rattle.std.proofs.Common.{sym, ◌∙◌, ap, ◌++◌, append_assoc, append
 use Rattle.std.specs.Prelude.{string_bytes, IsErrAnd, IfOk, IfSome, if◌then◌else◌, nat_le}
 use Rattle.std.proofs.lemmas.Bool.Decides.{nat_tests}
 use Rattle.std.proofs.lemmas.Bool.{ne_eqb}
-use Rattle.tclscript.specs.Tree as tree
-use Rattle.tclscript.specs.Tree.{commands_of, words_of}
-use Rattle.tclscript.specs.View.{script_view, command_view, word_view, content_view, parts_view}
-use Rattle.tclscript.specs.declared.tree.Script as rust_script
-use Rattle.tclscript.specs.declared.tree.Command as rust_command
-use Rattle.tclscript.specs.declared.tree.Word as rust_word
-use Rattle.tclscript.specs.declared.tree.WordContent as rust_content
-use Rattle.tclscript.specs.declared.tree.Part.{Part}
+use Rattle.tcltext.specs.script.Tree as tree
+use Rattle.tcltext.specs.script.Tree.{commands_of, words_of}
+use Rattle.tcltext.specs.script.View.{script_view, command_view, word_view, content_view, parts_view}
+use Rattle.tcltext.specs.declared.script.tree.Script as rust_script
+use Rattle.tcltext.specs.declared.script.tree.Command as rust_command
+use Rattle.tcltext.specs.declared.script.tree.Word as rust_word
+use Rattle.tcltext.specs.declared.script.tree.WordContent as rust_content
+use Rattle.tcltext.specs.declared.script.tree.Part.{Part}
 use Rattle.tclrules.specs.Derivation.{Runs, TooDeep}
 use Rattle.tclrules.specs.Variables.{State}
 use Rattle.tclrules.specs.Plans as plans
@@ -20,30 +20,30 @@ use Rattle.tclrules.specs.Plans.{Bounds, Completion, Normal, Raised, Items, ende
 use Rattle.tclrules.specs.Plans.{halt, sized}
 use Rattle.tclrules.specs.Simulates.{Point, Simulates}
 use Rattle.tclrules.proofs.Leading.{stay, continue_with, starve, run_on, run_halts}
-use Rattle.tclchars.specs.Runs.{Text}
-use Rattle.tclchars.specs.Whole.{FailsWith}
-use Rattle.tclchars.specs.declared.fault.TextFault.{TextFault}
-use Rattle.tclchars.specs.declared.fault.TextFault.TheVariants as texts
-use Rattle.tcloperators.specs.Faults.{Answer, ValueReason, HasReason, reason_of, value_too_long}
+use Rattle.tcltext.specs.chars.Runs.{Text}
+use Rattle.tcltext.specs.chars.Whole.{FailsWith}
+use Rattle.tcltext.specs.declared.chars.fault.TextFault.{TextFault}
+use Rattle.tcltext.specs.declared.chars.fault.TextFault.TheVariants as texts
+use Rattle.tclvalue.specs.operators.Faults.{Answer, ValueReason, HasReason, reason_of, value_too_long}
 use Rattle.tclvalue.specs.Limits.{limited}
-use Rattle.tcloperators.specs.declared.fault.ValueFault.{ValueFault}
-use Rattle.tcloperators.specs.declared.fault.ValueFault.TheVariants as faults
+use Rattle.tclvalue.specs.declared.operators.fault.ValueFault.{ValueFault}
+use Rattle.tclvalue.specs.declared.operators.fault.ValueFault.TheVariants as faults
 use Rattle.tclrules.specs.Rules.{parsed, core_command, body, branches, are_done, foreach_turns, assign, turn_pairs}
 use Rattle.tclrules.specs.Rules.{turn, shortened, after_turn, after_next}
 use Rattle.tclrules.specs.Expressions.{decide}
 use Rattle.tclrules.specs.Forms.{Form}
 use Rattle.tclforms.specs.Views.{transposed, pair_texts}
-use Rattle.tclsubstitution.proofs.Leading.{sized_on, sized_stops}
-use Rattle.tclsubstitution.specs.Stops.{after, error_or_halt, stopped, stop_of, text_stop}
+use Rattle.tclforms.proofs.substitution.Leading.{sized_on, sized_stops}
+use Rattle.tclforms.specs.substitution.Stops.{after, error_or_halt, stopped, stop_of, text_stop}
 use Rattle.tclrules.specs.declared.outcome.EvalFault.{EvalFault}
 use Rattle.tclrules.specs.declared.outcome.EvalFault.TheVariants as evals
-use Rattle.tclsubstitution.specs.declared.stop.Stop.{Stop}
-use Rattle.tclsubstitution.specs.declared.stop.Stop.TheVariants as stops
+use Rattle.tclforms.specs.declared.substitution.stop.Stop.{Stop}
+use Rattle.tclforms.specs.declared.substitution.stop.Stop.TheVariants as stops
 use Rattle.tclcommands.specs.declared.result_use.ResultUse.{ResultUse}
 use Rattle.tclcommands.specs.declared.result_use.ResultUse.TheVariants.{Needed, Dropped}
 use Rattle.tclcommands.specs.Completions.{EvaluatesToText, finish, sized_next, completed}
-use Rattle.tclcache.specs.Trees.{BeginsWith}
-use Rattle.tclcache.specs.Kept.{Kept, BeginWith}
+use Rattle.tcleval.specs.cache.Trees.{BeginsWith}
+use Rattle.tcleval.specs.cache.Kept.{Kept, BeginWith}
 use Rattle.tcleval.specs.OnlyGrows.{OnlyGrows}
 use Rattle.tcleval.specs.declared.evaluator.Evaluator.{Evaluator}
 

@@ -1,6 +1,6 @@
 -- What is answered of a whole file.
 use Rattle.std.proofs.Common.{◌≡◌, ℕ, true, false, List, Result, Ok, Err, String, Global, refl, subst}
-use Rattle.tclchars.specs.Runs.{Text}
+use Rattle.tcltext.specs.chars.Runs.{Text}
 use Rattle.tclrules.specs.Oracle.{Oracle, Trace}
 use Rattle.tclrules.specs.Derivation.{OutOfMemory, EvaluationOutcome, Halted, Plan, Ends, World, Eval, ends}
 use Rattle.tclrules.specs.Derivation.{lacks_memory}

@@ -7,8 +7,8 @@ use Rattle.tclrules.specs.Plans as plans
 use Rattle.tclrules.specs.Plans.{Next, Step}
 use Rattle.tclrules.specs.Rules.{rule}
 use Rattle.tclrules.specs.Simulates.{Point, Simulates, point}
-use Rattle.tclsubstitution.specs.Stops.{after}
-use Rattle.tclsubstitution.specs.declared.stop.Stop.{Stop}
+use Rattle.tclforms.specs.substitution.Stops.{after}
+use Rattle.tclforms.specs.declared.substitution.stop.Stop.{Stop}
 use Rattle.tcleval.specs.declared.bounds.Bounds.{Bounds}
 use Rattle.tcleval.specs.declared.evaluator.Evaluator.{Evaluator}
 

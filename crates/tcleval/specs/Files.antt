@@ -2,7 +2,7 @@
 -- of the program.
 use Rattle.std.specs.Prelude.{◌≡◌, ℕ, Result, Ok, Err, string_bytes, String}
 use Rattle.std.specs.declared.alloc.Global.{Global}
-use Rattle.tclchars.specs.Runs.{Text}
+use Rattle.tcltext.specs.chars.Runs.{Text}
 use Rattle.tclrules.specs.Derivation.{EvaluationOutcome, Ended, Halted}
 use Rattle.tclrules.specs.Variables.{State}
 use Rattle.tclrules.specs.Plans as plans
@@ -11,7 +11,7 @@ use Rattle.tclrules.specs.Promise.{ReportsFault, texts_of}
 use Rattle.tclrules.specs.declared.outcome.Ending.{Ending}
 use Rattle.tclrules.specs.declared.outcome.EvalFault.{EvalFault}
 use Rattle.tclrules.specs.declared.outcome.EvalFault.TheVariants as fault
-use Rattle.tclsubstitution.specs.Stops.{error_or_halt}
+use Rattle.tclforms.specs.substitution.Stops.{error_or_halt}
 
 -- the outcome of a file that fails in this state
 abbrev pub failure_outcome : EvalFault → State → EvaluationOutcome plans.Completion

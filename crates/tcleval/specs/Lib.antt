@@ -1,3 +1,4 @@
+pub mod cache
 pub mod OnlyGrows
 pub mod Continues
 pub mod LoopBodies

@@ -2,10 +2,10 @@
 use Rattle.std.specs.Prelude.{◌≡◌, Option, None, Some, Ok}
 use Rattle.std.specs.declared.alloc.Global.{Global}
 use Rattle.std.specs.declared.rc.Rc.{Rc}
-use Rattle.tclchars.specs.Runs.{Text}
-use Rattle.tclscript.specs.Text.{script_of}
-use Rattle.tclscript.specs.Owned.{owned_view}
-use Rattle.tclscript.specs.declared.owned.OwnedScript.{OwnedScript}
+use Rattle.tcltext.specs.chars.Runs.{Text}
+use Rattle.tcltext.specs.script.Text.{script_of}
+use Rattle.tcltext.specs.script.Owned.{owned_view}
+use Rattle.tcltext.specs.declared.script.owned.OwnedScript.{OwnedScript}
 use Rattle.tcleval.specs.declared.loop_body.LoopBody.{LoopBody}
 
 -- a tree that was parsed already, if one was, is that of this text as a script

@@ -1,10 +1,10 @@
 //! How far an evaluation may go on inside of a script.
 ghost use Rattle.std.specs.Prelude.{◌≡◌, ◌<◌, ◌-◌, MatchResult};
-ghost use Rattle.tclsubstitution.specs.declared.stop.Stop.TheVariants.{Fault};
+ghost use Rattle.tclforms.specs.declared.substitution.stop.Stop.TheVariants.{Fault};
 ghost use Rattle.tclrules.specs.declared.outcome.EvalFault.TheVariants.{TooDeep};
 
+use tclforms::substitution::Stop;
 use tclrules::{EvalFault, Limits};
-use tclsubstitution::Stop;
 
 /// How far an evaluation may go on: the limits of the whole, and how many scripts may still begin inside this one.
 #[derive(Clone, Copy)]

@@ -2,12 +2,12 @@
 //! script in another has less depth remaining, and each command and each turn of a loop is counted.
 ghost use Rattle.std.specs.Prelude.{◌≡◌, ◌<◌, ◌∷◌, [], Bool, true, false, List, drop, map, option_map, IfOk};
 ghost use Rattle.std.specs.Prelude.{string_bytes};
-ghost use Rattle.tclchars.specs.Runs.{Text};
-ghost use Rattle.tclscript.specs.Tree.{commands_of, words_of};
-ghost use Rattle.tclscript.specs.View.{script_view, command_view, word_view, content_view, parts_view};
+ghost use Rattle.tcltext.specs.chars.Runs.{Text};
+ghost use Rattle.tcltext.specs.script.Tree.{commands_of, words_of};
+ghost use Rattle.tcltext.specs.script.View.{script_view, command_view, word_view, content_view, parts_view};
 ghost use Rattle.tclrules.specs.Derivation.{Counts, Runs};
 ghost use Rattle.tclrules.specs.Variables.{State, lookup};
-ghost use Rattle.tclvariables.specs.Views.{procedure_view};
+ghost use Rattle.tclforms.specs.variables.Views.{procedure_view};
 ghost use Rattle.tclrules.specs.Plans as plans;
 ghost use Rattle.tclrules.specs.Plans.{Next, on_normal, sized};
 ghost use Rattle.tclrules.specs.Words as pieces;
@@ -16,8 +16,8 @@ ghost use Rattle.tclrules.specs.Rules as rules;
 ghost use Rattle.tclrules.specs.Rules.{rule, called, turn};
 ghost use Rattle.tclrules.specs.Forms as forms;
 ghost use Rattle.tclforms.specs.Views.{form_view, simple_view, pair_texts};
-ghost use Rattle.tclsubstitution.specs.Machine.{range_text, control_plan};
-ghost use Rattle.tclexpr.specs.Owned as expression;
+ghost use Rattle.tclforms.specs.substitution.Machine.{range_text, control_plan};
+ghost use Rattle.tcltext.specs.expr.Owned as expression;
 ghost use Rattle.tclcommands.specs.CommandTexts.{name_of};
 ghost use Rattle.tclcommands.specs.declared.result_use.ResultUse.TheVariants.{Dropped};
 ghost use Rattle.tclcommands.specs.Completions.{EvaluatesToText, finish, sized_next, loop_continuation, guarded};
@@ -38,14 +38,14 @@ use tclcommands::{
     CommandWords, ResultUse, after_call, after_catch, after_next, after_turn, assign,
     simple_command, unknown_command,
 };
-use tclexpr::OwnedExpr;
+use tclforms::substitution::{Control, Step, Stop, SubstitutionContext, advance};
+use tclforms::variables::Procedure;
 use tclforms::{ForLoop, Form, Loops, SimpleForm, WhileLoop, chosen, core_form, parameter_values};
-use tcloperators::truth;
 use tclrules::Host;
-use tclscript::{ByteRange, Command, Part, Script, Word, WordContent};
-use tclsubstitution::{Control, Step, Stop, SubstitutionContext, advance};
+use tcltext::expr::OwnedExpr;
+use tcltext::script::{ByteRange, Command, Part, Script, Word, WordContent};
+use tclvalue::operators::truth;
 use tclvalue::{concatenated, value_command};
-use tclvariables::Procedure;
 
 impl Evaluator {
     /// Evaluates a text as a script: a body, or the script of catch(n).

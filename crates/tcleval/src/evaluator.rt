@@ -5,22 +5,22 @@ ghost use Rattle.tclrules.specs.Simulates.{Simulates, Point};
 ghost use Rattle.tclrules.specs.Variables.{State};
 ghost use Rattle.tclrules.specs.Plans as plans;
 ghost use Rattle.tclrules.specs.Plans.{Job, Next, sized};
-ghost use Rattle.tclsubstitution.specs.Stops.{after, stopped};
-ghost use Rattle.tclexpr.specs.Owned as expression;
-ghost use Rattle.tclsubstitution.specs.Machine.{bounds};
+ghost use Rattle.tclforms.specs.substitution.Stops.{after, stopped};
+ghost use Rattle.tcltext.specs.expr.Owned as expression;
+ghost use Rattle.tclforms.specs.substitution.Machine.{bounds};
 ghost use Rattle.tclcommands.specs.declared.result_use.ResultUse.{ResultUse};
 ghost use Rattle.tclcommands.specs.Completions.{EvaluatesToText, condition_plan};
-ghost use Rattle.tcloperators.specs.declared.operators.ComputedValue.TheVariants.{Truth};
-ghost use Rattle.tclsubstitution.specs.declared.stop.Stop.TheVariants.{Fault};
+ghost use Rattle.tclvalue.specs.declared.operators.operators.ComputedValue.TheVariants.{Truth};
+ghost use Rattle.tclforms.specs.declared.substitution.stop.Stop.TheVariants.{Fault};
 ghost use Rattle.tclrules.specs.declared.outcome.EvalFault.TheVariants.{TooManyCommands};
 
+use crate::cache::Kept;
 use std::alloc::Global;
-use tclcache::Kept;
-use tclexpr::OwnedExpr;
-use tcloperators::ComputedValue;
+use tclforms::substitution::{Stop, SubstitutionContext, compute_borrowed};
+use tclforms::variables::Variables;
 use tclrules::{EvalFault, Limits};
-use tclsubstitution::{Stop, SubstitutionContext, compute_borrowed};
-use tclvariables::Variables;
+use tcltext::expr::OwnedExpr;
+use tclvalue::operators::ComputedValue;
 
 /// The state of an evaluation.
 #[derive(Drop)]

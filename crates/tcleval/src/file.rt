@@ -1,30 +1,30 @@
 //! A text evaluated as a file, and the fault of a file with its line.
 ghost use Rattle.std.specs.Prelude.{◌≡◌, ◌≤◌, ◌==◌, length, [], take, count_by, min, IfOk, string_bytes};
-ghost use Rattle.tclscript.specs.View.{script_view};
+ghost use Rattle.tcltext.specs.script.View.{script_view};
 ghost use Rattle.tclrules.specs.Variables.{State};
 ghost use Rattle.tclrules.specs.Plans as plans;
 ghost use Rattle.tclrules.specs.Rules as rules;
 ghost use Rattle.tclrules.specs.Rules.{rule, file_ended};
 ghost use Rattle.tclrules.specs.Meaning.{line_at};
 ghost use Rattle.tclrules.specs.Promise.{Evaluates, texts_of};
-ghost use Rattle.tclsubstitution.specs.Machine.{range_text};
-ghost use Rattle.tclcache.specs.Kept.{BeginWith};
+ghost use Rattle.tclforms.specs.substitution.Machine.{range_text};
+ghost use Rattle.tcleval.specs.cache.Kept.{BeginWith};
 ghost use Rattle.tcleval.specs.Continues.{Continues, bounds_of};
 ghost use Rattle.tcleval.specs.OnlyGrows.{OnlyGrows};
 ghost use Rattle.tclcommands.specs.Completions.{finish, completed};
 ghost use Rattle.tcleval.specs.Files.{after_file, ReportsFailure, AnswersFile};
 
 use crate::bounds::Bounds;
+use crate::cache::Kept;
 use crate::evaluator::Evaluator;
 use crate::sourced::SourcedTree;
 use std::alloc::Global;
 use std::mem;
-use tclcache::Kept;
 use tclcommands::{ResultUse, initial_variables};
+use tclforms::substitution::Stop;
+use tclforms::variables::Variables;
 use tclrules::{Ending, EvalFault, Host, Limits};
-use tclscript::{ByteRange, Script};
-use tclsubstitution::Stop;
-use tclvariables::Variables;
+use tcltext::script::{ByteRange, Script};
 
 /// Evaluates the commands of a file in turn. The byte offset of the current one is noted, for the line of an error.
 #[tactic(none)]

@@ -3,6 +3,7 @@
 #![tactic(auto)]
 
 mod bounds;
+pub mod cache;
 mod evaluation;
 mod evaluator;
 mod file;
@@ -13,6 +14,6 @@ mod trees;
 mod turns;
 mod words;
 
+pub use crate::cache::Kept;
 pub use file::{evaluate, evaluate_with};
-pub use tclcache::Kept;
 pub use tclrules::{Ending, EvalFault, Host, HostAnswer, Limits};

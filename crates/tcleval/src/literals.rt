@@ -1,9 +1,9 @@
 //! Commands whose words are all literal, and few: `break`, `continue`, `incr` and `set`. Their forms borrow from the
 //! source, so that the commands of most loops copy no words.
 ghost use Rattle.std.specs.Prelude.{◌≡◌, ◌∷◌, [], ℕ, List, None, Some, Ok, IfSome, map};
-ghost use Rattle.tclchars.specs.Runs.{Text};
-ghost use Rattle.tclscript.specs.Tree.{words_of};
-ghost use Rattle.tclscript.specs.View.{word_view};
+ghost use Rattle.tcltext.specs.chars.Runs.{Text};
+ghost use Rattle.tcltext.specs.script.Tree.{words_of};
+ghost use Rattle.tcltext.specs.script.View.{word_view};
 ghost use Rattle.tclvalue.specs.Commands.{command_value};
 ghost use Rattle.tclrules.specs.Variables.{State};
 ghost use Rattle.tclrules.specs.Plans as plans;
@@ -12,13 +12,13 @@ ghost use Rattle.tclrules.specs.Words as pieces;
 ghost use Rattle.tclrules.specs.Rules as rules;
 ghost use Rattle.tclrules.specs.Forms.{core_form};
 ghost use Rattle.tclforms.specs.Views.{simple_view};
-ghost use Rattle.tclsubstitution.specs.Machine.{range_text, bounds};
+ghost use Rattle.tclforms.specs.substitution.Machine.{range_text, bounds};
 
 use crate::sourced::SourcedTree;
 use crate::words::literal;
 use tclforms::SimpleForm;
 use tclrules::Limits;
-use tclscript::{ByteRange, Word};
+use tcltext::script::{ByteRange, Word};
 
 /// The text of a word that is one literal part within the limit on values; None for any other word.
 fn literal_text<'t>(limits: Limits, source: &'t str, word: &Word<ByteRange>) -> Option<&'t str>

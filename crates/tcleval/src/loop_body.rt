@@ -1,16 +1,16 @@
 //! A script that a loop evaluates in each turn.
 ghost use Rattle.std.specs.Prelude.{◌≡◌, MatchResult};
-ghost use Rattle.tclscript.specs.Text.{script_of};
-ghost use Rattle.tclscript.specs.Owned.{owned_view};
-ghost use Rattle.tclchars.specs.Whole.{Reads};
-ghost use Rattle.tclchars.specs.declared.fault.TextFault.TheVariants.{OutOfMemory};
-ghost use Rattle.tclcache.specs.Kept.{BeginWith};
+ghost use Rattle.tcltext.specs.script.Text.{script_of};
+ghost use Rattle.tcltext.specs.script.Owned.{owned_view};
+ghost use Rattle.tcltext.specs.chars.Whole.{Reads};
+ghost use Rattle.tcltext.specs.declared.chars.fault.TextFault.TheVariants.{OutOfMemory};
+ghost use Rattle.tcleval.specs.cache.Kept.{BeginWith};
 ghost use Rattle.tcleval.specs.LoopBodies.{HasItsTree, IsSameBody};
 
+use crate::cache::Kept;
 use std::rc::Rc;
-use tclcache::Kept;
-use tclchars::TextFault;
-use tclscript::OwnedScript;
+use tcltext::chars::TextFault;
+use tcltext::script::OwnedScript;
 
 /// A script that a loop evaluates in each turn, which is parsed once.
 #[derive(Drop)]

@@ -2,25 +2,25 @@
 //! expression is written.
 ghost use Rattle.std.specs.Prelude.{◌≡◌, if◌then◌else◌, IfOk, Some, None, MatchOption, drop, option_map, string_bytes};
 ghost use Rattle.std.specs.Fmt.{signed_decimal};
-ghost use Rattle.tclexpr.specs.Text.{expr_of};
-ghost use Rattle.tclexpr.specs.Owned as expressions;
-ghost use Rattle.tclchars.specs.Numerals.{numeral};
+ghost use Rattle.tcltext.specs.expr.Text.{expr_of};
+ghost use Rattle.tcltext.specs.expr.Owned as expressions;
+ghost use Rattle.tcltext.specs.chars.Numerals.{numeral};
 ghost use Rattle.message.specs.Answers.{Gives};
-ghost use Rattle.tcloperators.specs.Faults.{reason_of, GivesText};
-ghost use Rattle.tclchars.specs.Runs.{begins, take_while};
-ghost use Rattle.tclexpr.specs.UnsupportedSyntax.{begins_power, is_letter, is_operator_word, names_function};
-ghost use Rattle.tclexpr.specs.UnsupportedSyntax.{unsupported_at};
-ghost use Rattle.tclchars.specs.Classes.{is_name, begins_in};
+ghost use Rattle.tclvalue.specs.operators.Faults.{reason_of, GivesText};
+ghost use Rattle.tcltext.specs.chars.Runs.{begins, take_while};
+ghost use Rattle.tcltext.specs.expr.UnsupportedSyntax.{begins_power, is_letter, is_operator_word, names_function};
+ghost use Rattle.tcltext.specs.expr.UnsupportedSyntax.{unsupported_at};
+ghost use Rattle.tcltext.specs.chars.Classes.{is_name, begins_in};
 ghost use Rattle.tclrules.specs.Expressions.{fault_of, parsed, normal};
-ghost use Rattle.tclcache.specs.Kept.{BeginWith};
+ghost use Rattle.tcleval.specs.cache.Kept.{BeginWith};
 ghost use Rattle.tclcommands.specs.Completions.{IsExpressionFault, value_fault};
 
+use crate::cache::Kept;
 use std::alloc::{AllocError, Global};
 use std::rc::Rc;
-use tclcache::Kept;
-use tclchars::{Class, Numeral, TextFault, read_number, split_run};
-use tclexpr::OwnedExpr;
-use tcloperators::{ValueFault, unsupported};
+use tcltext::chars::{Class, Numeral, TextFault, read_number, split_run};
+use tcltext::expr::OwnedExpr;
+use tclvalue::operators::{ValueFault, unsupported};
 
 /// The rest of a text from a byte offset on, where a character begins there. Where none does, no name that is
 /// unsupported begins there either.

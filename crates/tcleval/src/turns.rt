@@ -5,15 +5,15 @@ ghost use Rattle.tclrules.specs.Variables.{State};
 ghost use Rattle.tclrules.specs.Plans as plans;
 ghost use Rattle.tclrules.specs.Plans.{Job};
 ghost use Rattle.tclrules.specs.Rules.{assign, turn_pairs, shortened};
-ghost use Rattle.tclsubstitution.specs.Machine.{bounds};
-ghost use Rattle.tclsubstitution.specs.Stops.{after};
+ghost use Rattle.tclforms.specs.substitution.Machine.{bounds};
+ghost use Rattle.tclforms.specs.substitution.Stops.{after};
 
 use std::alloc::Global;
 use tclcommands::assign;
 use tclforms::Loops;
+use tclforms::substitution::Stop;
+use tclforms::variables::Variables;
 use tclrules::Limits;
-use tclsubstitution::Stop;
-use tclvariables::Variables;
 
 /// Gives the variables of a turn the next items of their lists; a list that is used up gives empty texts.
 fn assign_items(

@@ -1,25 +1,25 @@
 //! The words that a word of the source becomes, one or by `{*}` any number (Tcl(n), rule 5), and words that are one
 //! piece of it.
 ghost use Rattle.std.specs.Prelude.{◌≡◌, ◌++◌, ℕ, List, Ok, Err, map, MatchResult, IfSome, string_bytes};
-ghost use Rattle.tclchars.specs.Runs.{Text};
-ghost use Rattle.tcloperators.specs.Faults.{reason_of};
-ghost use Rattle.tclscript.specs.Tree.{part, literal, no_parts};
-ghost use Rattle.tclscript.specs.View.{content_view, parts_view};
-ghost use Rattle.tclchars.specs.BracedText.{braced_text};
+ghost use Rattle.tcltext.specs.chars.Runs.{Text};
+ghost use Rattle.tclvalue.specs.operators.Faults.{reason_of};
+ghost use Rattle.tcltext.specs.script.Tree.{part, literal, no_parts};
+ghost use Rattle.tcltext.specs.script.View.{content_view, parts_view};
+ghost use Rattle.tcltext.specs.chars.BracedText.{braced_text};
 ghost use Rattle.tclrules.specs.Simulates.{Simulates, Point};
 ghost use Rattle.tclrules.specs.Variables.{State};
 ghost use Rattle.tclrules.specs.Plans as plans;
 ghost use Rattle.tclrules.specs.Plans.{Job, Next};
 ghost use Rattle.tclrules.specs.Words.{expanded};
-ghost use Rattle.tclsubstitution.specs.Stops.{after};
-ghost use Rattle.tclsubstitution.specs.Machine.{range_text};
+ghost use Rattle.tclforms.specs.substitution.Stops.{after};
+ghost use Rattle.tclforms.specs.substitution.Machine.{range_text};
 
 use crate::evaluator::sized;
 use std::alloc::Global;
-use tcloperators::{ValueFault, elements};
+use tclforms::substitution::{Stop, braced};
 use tclrules::Limits;
-use tclscript::{ByteRange, Part, WordContent};
-use tclsubstitution::{Stop, braced};
+use tcltext::script::{ByteRange, Part, WordContent};
+use tclvalue::operators::{ValueFault, elements};
 
 /// Appends the words that a word with this value becomes: the value itself or, where the word has `{*}` in front, the
 /// elements of the value as a list.

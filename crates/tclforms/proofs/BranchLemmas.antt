@@ -2,8 +2,8 @@
 use Rattle.std.proofs.Common.{◌≡◌, Bool, true, false, List, [], ◌∷◌, ◌++◌, Some, None, Ok, Err, refl, sym, ap, ◌∙◌}
 use Rattle.std.specs.Prelude.{codes, bytes_eq, if◌then◌else◌}
 use Rattle.std.proofs.lemmas.List.{append_assoc}
-use Rattle.tclchars.specs.Runs.{Text}
-use Rattle.tcloperators.specs.Faults.{Answer}
+use Rattle.tcltext.specs.chars.Runs.{Text}
+use Rattle.tclvalue.specs.operators.Faults.{Answer}
 use Rattle.tclrules.specs.Forms as forms
 use Rattle.tclrules.specs.Forms.{Branches, branch, last_words, branches, after_condition, after_body}
 use Rattle.tclforms.specs.Branches.{FirstBranch, after_then, first_branch, after_elseif, prefixed_pairs}

@@ -8,12 +8,12 @@ use Rattle.std.specs.Str.{bytes_eq}
 use Rattle.std.proofs.lemmas.Bool.Decides.{nat_tests}
 use Rattle.std.proofs.lemmas.List.{map-append, take_all}
 use Rattle.std.proofs.lemmas.Slice.Eq.{bytes_eq-Decides}
-use Rattle.tclchars.specs.Runs.{Text}
-use Rattle.tcloperators.specs.Faults.{Answer, ◌>>=◌}
+use Rattle.tcltext.specs.chars.Runs.{Text}
+use Rattle.tclvalue.specs.operators.Faults.{Answer, ◌>>=◌}
 use Rattle.tclrules.specs.Variables.{Variables, Parameter, without}
 use Rattle.tclrules.specs.Rules.{parameter_value, parameter_values}
-use Rattle.tclvariables.specs.Views.{parameter_view}
-use Rattle.tclvariables.specs.declared.variables.Parameter as program
+use Rattle.tclforms.specs.variables.Views.{parameter_view}
+use Rattle.tclforms.specs.declared.variables.variables.Parameter as program
 use Rattle.tclforms.specs.ArgumentViews.{named_values}
 use Rattle.tclforms.specs.Firsts.{AreNamesOf, with_first, except, prefixed_firsts}
 

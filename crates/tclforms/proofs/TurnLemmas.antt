@@ -6,10 +6,10 @@ use Rattle.std.specs.Prelude.{string_bytes, IfSome}
 use Rattle.std.proofs.lemmas.Bool.Decides.{nat_tests}
 use Rattle.std.proofs.Math.Nat.{mul-suc, suc-mul}
 use Rattle.std.proofs.lemmas.List.{map-append, drop-map, drop-drop, drop_all, drop_more, take_all}
-use Rattle.tclchars.specs.Runs.{Text}
-use Rattle.tcloperators.specs.Faults.{Answer, ValueReason, ◌>>=◌}
+use Rattle.tcltext.specs.chars.Runs.{Text}
+use Rattle.tclvalue.specs.operators.Faults.{Answer, ValueReason, ◌>>=◌}
 use Rattle.tclrules.specs.Plans.{Items}
-use Rattle.tcloperators.specs.Elements.{elements_of}
+use Rattle.tclvalue.specs.operators.Elements.{elements_of}
 use Rattle.tclrules.specs.Rules.{loops, named, shortened}
 use Rattle.tclforms.specs.Views.{texts_of, in_pairs, pair_texts}
 use Rattle.tclforms.specs.ArgumentViews.{remaining_after}

@@ -2,7 +2,7 @@
 use Rattle.std.specs.Prelude.{ℕ, ◌*◌, List, map, length, drop, string_bytes, String}
 use Rattle.std.specs.Borrow.{Bor}
 use Rattle.std.specs.declared.alloc.Global.{Global}
-use Rattle.tclchars.specs.Runs.{Text}
+use Rattle.tcltext.specs.chars.Runs.{Text}
 use Rattle.tclrules.specs.Plans.{Items}
 use Rattle.tclforms.specs.Views.{texts_of}
 use Rattle.tclforms.specs.declared.calls.ParameterValue.{ParameterValue}

@@ -1,7 +1,7 @@
 -- How the words of if(n) and foreach(n) are read from the first on. Own.
 use Rattle.std.specs.Prelude.{List, [], ◌∷◌, ◌++◌, if◌then◌else◌, Option, Some, None, Ok, codes, bytes_eq}
-use Rattle.tclchars.specs.Runs.{Text}
-use Rattle.tcloperators.specs.Faults.{Answer, ◌>>=◌}
+use Rattle.tcltext.specs.chars.Runs.{Text}
+use Rattle.tclvalue.specs.operators.Faults.{Answer, ◌>>=◌}
 use Rattle.tclrules.specs.Forms as forms
 use Rattle.tclrules.specs.Forms.{Branches}
 use Rattle.tclforms.specs.Views.{texts_of}

@@ -1,8 +1,8 @@
 -- Lists that are made from the first element on, and the parameters of a procedure (proc(n)). Own.
 use Rattle.std.specs.Prelude.{List, ◌++◌, Ok}
-use Rattle.tclchars.specs.Runs.{Text}
-use Rattle.tcloperators.specs.Faults.{Answer, ◌>>=◌}
-use Rattle.tcloperators.specs.Elements.{elements_of}
+use Rattle.tcltext.specs.chars.Runs.{Text}
+use Rattle.tclvalue.specs.operators.Faults.{Answer, ◌>>=◌}
+use Rattle.tclvalue.specs.operators.Elements.{elements_of}
 use Rattle.tclrules.specs.Variables.{Parameter}
 use Rattle.tclrules.specs.Plans.{Items}
 use Rattle.tclrules.specs.Rules.{named, parameters, unless_reserved}

@@ -1,17 +1,17 @@
 //! The values that a call gives the parameters of a procedure (proc(n)).
 ghost use Rattle.std.specs.Prelude.{◌≡◌, OnOk, map, string_bytes};
 ghost use Rattle.message.specs.Answers.{Gives};
-ghost use Rattle.tcloperators.specs.Faults.{reason_of};
+ghost use Rattle.tclvalue.specs.operators.Faults.{reason_of};
 ghost use Rattle.tclrules.specs.Rules.{argument, parameter_value, parameter_values};
-ghost use Rattle.tclvariables.specs.Views.{parameter_view};
+ghost use Rattle.tclforms.specs.variables.Views.{parameter_view};
 ghost use Rattle.tclforms.specs.ArgumentViews.{named_values, parameter_value_view};
 ghost use Rattle.tclforms.specs.Firsts.{AreNamesOf, with_first};
 
+use crate::variables::Parameter;
 use indexmap::IndexSet;
 use std::alloc::{AllocError, Global};
-use tcloperators::{ValueFault, wrong_words};
 use tclvalue::list_text;
-use tclvariables::Parameter;
+use tclvalue::operators::{ValueFault, wrong_words};
 
 /// The value of a parameter, and the words that remain for the others.
 #[derive(Drop)]

@@ -2,7 +2,7 @@
 ghost use Rattle.std.specs.Prelude.{map, string_bytes};
 ghost use Rattle.std.specs.Option.{option_map};
 ghost use Rattle.message.specs.Answers.{Gives};
-ghost use Rattle.tcloperators.specs.Faults.{reason_of};
+ghost use Rattle.tclvalue.specs.operators.Faults.{reason_of};
 ghost use Rattle.tclrules.specs.Forms.{core_form};
 ghost use Rattle.tclforms.specs.Views.{form_view, transposed};
 
@@ -16,7 +16,7 @@ use crate::words::{
     without_words,
 };
 use std::alloc::Global;
-use tcloperators::ValueFault;
+use tclvalue::operators::ValueFault;
 
 /// The form of a core command, by its name and the words after it; None for another name.
 ///

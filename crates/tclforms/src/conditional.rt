@@ -2,14 +2,14 @@
 ghost use Rattle.std.specs.Prelude.{◌≡◌, ◌<◌, length, map, string_bytes, IfSome};
 ghost use Rattle.std.specs.Option.{option_map};
 ghost use Rattle.message.specs.Answers.{Gives};
-ghost use Rattle.tcloperators.specs.Faults.{reason_of};
+ghost use Rattle.tclvalue.specs.operators.Faults.{reason_of};
 ghost use Rattle.tclrules.specs.Forms.{last_body, last_words, if_form};
 ghost use Rattle.tclforms.specs.Views.{form_view, pair_texts, texts_of};
 ghost use Rattle.tclforms.specs.Branches.{after_then, first_branch, branch_view, after_elseif, prefixed_pairs, if_of};
 
 use crate::form::Form;
 use std::alloc::Global;
-use tcloperators::{ValueFault, wrong_words};
+use tclvalue::operators::{ValueFault, wrong_words};
 
 /// A condition with its body, and the words after them.
 #[derive(Clone, Copy)]

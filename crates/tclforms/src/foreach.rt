@@ -1,13 +1,13 @@
 //! The words of foreach(n).
 ghost use Rattle.std.specs.Prelude.{map, string_bytes};
 ghost use Rattle.message.specs.Answers.{Gives};
-ghost use Rattle.tcloperators.specs.Faults.{reason_of};
+ghost use Rattle.tclvalue.specs.operators.Faults.{reason_of};
 ghost use Rattle.tclrules.specs.Forms.{foreach_form};
 ghost use Rattle.tclforms.specs.Views.{form_view};
 
 use crate::form::Form;
 use std::alloc::Global;
-use tcloperators::{ValueFault, wrong_words};
+use tclvalue::operators::{ValueFault, wrong_words};
 
 /// `foreach names list ?names list?... body`
 pub(crate) fn foreach_form(alloc: Global, words: &[String]) -> Result<Form<'_>, ValueFault>

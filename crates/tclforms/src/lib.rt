@@ -13,7 +13,9 @@ mod loops;
 mod messages;
 mod names;
 mod procedures;
+pub mod substitution;
 mod switch;
+pub mod variables;
 mod words;
 
 pub use calls::parameter_values;

@@ -1,7 +1,7 @@
 //! What the turns of foreach(n) take.
 ghost use Rattle.std.specs.Prelude.{◌≡◌, ◌++◌, map, string_bytes, IfOk, OnOk};
 ghost use Rattle.message.specs.Answers.{Gives};
-ghost use Rattle.tcloperators.specs.Faults.{reason_of};
+ghost use Rattle.tclvalue.specs.operators.Faults.{reason_of};
 ghost use Rattle.tclrules.specs.Rules.{loops, turn_pairs, shortened, are_done};
 ghost use Rattle.tclrules.specs.Rules as rules;
 ghost use Rattle.tclforms.specs.Views.{pair_texts, texts_of};
@@ -12,7 +12,7 @@ use crate::items::Items;
 use crate::messages::no_loop_variable;
 use std::alloc::{AllocError, Global};
 use std::marker::Model;
-use tcloperators::{ValueFault, elements};
+use tclvalue::operators::{ValueFault, elements};
 
 /// The variables and the items in two lists; the first must name one variable at least.
 fn items_of(alloc: Global, names: &str, items: &str) -> Result<Items, ValueFault>

@@ -1,11 +1,11 @@
 //! The errors of core commands that catch(n) sees.
 ghost use Rattle.std.specs.Prelude.{◌≡◌, IfOk, string_bytes};
-ghost use Rattle.tcloperators.specs.Faults.{HasReason, error};
+ghost use Rattle.tclvalue.specs.operators.Faults.{HasReason, error};
 ghost use Rattle.tclrules.specs.Messages.{bad_option, no_body, no_command, outside_loop, cannot_unset};
 ghost use Rattle.tclrules.specs.Messages.{no_loop_variable, cannot_redefine};
 
 use std::alloc::{AllocError, Global};
-use tcloperators::{ValueFault, in_quotes, tcl_error};
+use tclvalue::operators::{ValueFault, in_quotes, tcl_error};
 
 /// switch(n) has no such option.
 #[tactic(auto, unfolding(tclrules::specs::Messages::bad_option))]

@@ -1,16 +1,16 @@
 //! The parameters of procedures, as proc(n) is given them.
 ghost use Rattle.std.specs.Prelude.{◌≡◌, map, string_bytes};
 ghost use Rattle.message.specs.Answers.{Gives};
-ghost use Rattle.tcloperators.specs.Faults.{reason_of};
+ghost use Rattle.tclvalue.specs.operators.Faults.{reason_of};
 ghost use Rattle.tclrules.specs.Rules.{parameter, parameters};
-ghost use Rattle.tclvariables.specs.Views.{parameter_view};
+ghost use Rattle.tclforms.specs.variables.Views.{parameter_view};
 ghost use Rattle.tclforms.specs.Lists.{defined};
 
 use crate::messages::cannot_redefine;
 use crate::names::is_reserved;
+use crate::variables::Parameter;
 use std::alloc::Global;
-use tcloperators::{ValueFault, elements, not_a_list};
-use tclvariables::Parameter;
+use tclvalue::operators::{ValueFault, elements, not_a_list};
 
 /// The parameter of these words: a name, and perhaps its default.
 fn parameter(alloc: Global, words: &[String]) -> Result<Parameter, ValueFault>

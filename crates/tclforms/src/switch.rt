@@ -2,7 +2,7 @@
 ghost use Rattle.std.specs.Prelude.{◌≡◌, [], ◌∷◌, map, string_bytes, false};
 ghost use Rattle.std.specs.Option.{option_map};
 ghost use Rattle.message.specs.Answers.{Gives};
-ghost use Rattle.tcloperators.specs.Faults.{reason_of};
+ghost use Rattle.tclvalue.specs.operators.Faults.{reason_of};
 ghost use Rattle.tclrules.specs.Forms.{is_option, options, glob_option, by_glob, paired, patterns_in, bodiless};
 ghost use Rattle.tclrules.specs.Forms.{with_patterns, switch_with, even_pairs, switch_form};
 ghost use Rattle.tclforms.specs.Views.{texts_of, in_pairs, is_glob, pattern_texts, form_view};
@@ -10,7 +10,7 @@ ghost use Rattle.tclforms.specs.Views.{texts_of, in_pairs, is_glob, pattern_text
 use crate::form::{Comparison, Form, Patterns};
 use crate::messages::{bad_option, no_body};
 use std::alloc::Global;
-use tcloperators::{ValueFault, elements, not_a_list, unsupported, wrong_words};
+use tclvalue::operators::{ValueFault, elements, not_a_list, unsupported, wrong_words};
 
 /// Whether a word is an option: it begins with `-`, and more than one word follows it.
 fn is_option(word: &str, following: &[String]) -> bool

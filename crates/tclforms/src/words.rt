@@ -1,7 +1,7 @@
 //! The commands whose words are taken as they are: no word is a list, and none is given to more than one operand.
 ghost use Rattle.std.specs.Prelude.{map, string_bytes, ◌≡◌};
 ghost use Rattle.message.specs.Answers.{Gives};
-ghost use Rattle.tcloperators.specs.Faults.{reason_of};
+ghost use Rattle.tclvalue.specs.operators.Faults.{reason_of};
 ghost use Rattle.tclrules.specs.Forms.{set_form, after_dashes, unset_form, append_form, lappend_form, incr_form};
 ghost use Rattle.tclrules.specs.Forms.{expr_form, while_form, for_form, proc_form, return_form, exit_form, error_form};
 ghost use Rattle.tclrules.specs.Forms.{catch_form, exists_form, info_form, to_stderr, without_newline, puts_form};
@@ -10,7 +10,7 @@ ghost use Rattle.tclforms.specs.Views.{form_view, texts_of};
 
 use crate::form::{ForLoop, Form, SimpleForm, WhenMissing, WhileLoop};
 use std::alloc::Global;
-use tcloperators::{ValueFault, unsupported, unsupported_subcommand, wrong_words};
+use tclvalue::operators::{ValueFault, unsupported, unsupported_subcommand, wrong_words};
 
 /// `set name ?value?`
 pub(crate) fn set_form(alloc: Global, words: &[String]) -> Result<Form<'_>, ValueFault>

@@ -2,7 +2,7 @@
 use Rattle.std.proofs.Common.{◌≡◌, ℕ, Bool, true, false, if◌then◌else◌, List, [], ◌∷◌, ◌++◌, ◌⊎◌, ⊎_elim, inl, inr}
 use Rattle.std.proofs.Common.{refl, ap, sym, ◌∙◌}
 use Rattle.std.proofs.lemmas.List.{append_assoc, append-nil}
-use Rattle.tclchars.specs.Runs.{Text}
+use Rattle.tcltext.specs.chars.Runs.{Text}
 use Rattle.tclrules.specs.Oracle.{CommandWords, Addition, Nothing, NewRecord, Message, OracleAnswer, Done, Unknown, LeftOut}
 use Rattle.tclrules.specs.Oracle.{Refused, Oracle, Question, OfCommand, OfVariable, Trace, records_with, asked_with}
 use Rattle.tclrules.specs.Oracle.{addition, is_question, is_refusal}

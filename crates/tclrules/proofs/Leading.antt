@@ -1,7 +1,7 @@
 -- How a program builds a derivation from its first step on: each lemma is one step between plans, for every table of
 -- rules.
 use Rattle.std.proofs.Common.{◌≡◌, ℕ, ◌+◌, ◌<◌, ◌≤◌, true, List, Option, refl, ◌∙◌}
-use Rattle.tclchars.specs.Runs.{Text}
+use Rattle.tcltext.specs.chars.Runs.{Text}
 use Rattle.tclrules.specs.Oracle.{Oracle, Question, Trace, OracleAnswer, trace_after}
 use Rattle.tclrules.specs.Derivation.{Halt, TooManyCommands, OutOfMemory, EvaluationOutcome, Ended, Halted, HostReply}
 use Rattle.tclrules.specs.Derivation.{Plan, Ends, Counts, Consults, ReadsEnvironment, Runs, World, Eval, ends, counts}

@@ -1,20 +1,20 @@
 -- What the rules run before the next count: the scripts of brackets, by the conditions of loops.
 use Rattle.std.proofs.Common.{ℕ, Bool, true, false, List, [], ◌∷◌, ◌++◌, Option, Some, None, Result, Ok, Err, arith}
 use Rattle.std.specs.Prelude.{if◌then◌else◌, codes, bytes_eq, nat_eq, nat_lt, length}
-use Rattle.tclchars.specs.Runs.{Text}
-use Rattle.tclchars.specs.BracedText.{braced_text}
-use Rattle.tclchars.specs.declared.fault.TextFault.{TextFault}
-use Rattle.tclscript.specs.Tree as tree
-use Rattle.tclscript.specs.Tree.{Commands, no_commands, command, Parts, no_parts, part, Part}
-use Rattle.tclscript.specs.Text.{script_of}
-use Rattle.tclchars.specs.Numerals.{numeral}
-use Rattle.tclexpr.specs.Tree.{Expr, operand, unary, binary, conjunction, disjunction, choice}
-use Rattle.tclexpr.specs.Operands as operands
-use Rattle.tclexpr.specs.Operands.{Operand}
-use Rattle.tclexpr.specs.Text.{expr_of}
-use Rattle.tcloperators.specs.Faults as value
-use Rattle.tcloperators.specs.Faults.{Answer, text, error, value_too_long, number_too_large, fraction, unsupported}
-use Rattle.tcloperators.specs.Operators.{truth, truth_text, unary_value, binary_value}
+use Rattle.tcltext.specs.chars.Runs.{Text}
+use Rattle.tcltext.specs.chars.BracedText.{braced_text}
+use Rattle.tcltext.specs.declared.chars.fault.TextFault.{TextFault}
+use Rattle.tcltext.specs.script.Tree as tree
+use Rattle.tcltext.specs.script.Tree.{Commands, no_commands, command, Parts, no_parts, part, Part}
+use Rattle.tcltext.specs.script.Text.{script_of}
+use Rattle.tcltext.specs.chars.Numerals.{numeral}
+use Rattle.tcltext.specs.expr.Tree.{Expr, operand, unary, binary, conjunction, disjunction, choice}
+use Rattle.tcltext.specs.expr.Operands as operands
+use Rattle.tcltext.specs.expr.Operands.{Operand}
+use Rattle.tcltext.specs.expr.Text.{expr_of}
+use Rattle.tclvalue.specs.operators.Faults as value
+use Rattle.tclvalue.specs.operators.Faults.{Answer, text, error, value_too_long, number_too_large, fraction, unsupported}
+use Rattle.tclvalue.specs.operators.Operators.{truth, truth_text, unary_value, binary_value}
 use Rattle.tclrules.specs.Messages.{no_variable}
 use Rattle.tclrules.specs.Variables.{State, Location, Scalar, Element, location_of, location_named, with_value}
 use Rattle.tclrules.specs.Variables.{writable, env}

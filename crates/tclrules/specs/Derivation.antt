@@ -2,8 +2,8 @@
 -- and in which order; a table has a plan for each job. The rules leave the oracle and the limit
 -- on commands to these. Own.
 use Rattle.std.specs.Prelude.{◌≡◌, ℕ, ◌+◌, ◌<◌, ◌≤◌, ◌⊎◌, Bool, true, false, List, [], ◌∷◌, ◌++◌, Option}
-use Rattle.tclchars.specs.Runs.{Text}
-use Rattle.tclchars.specs.declared.fault.TextFault.{TextFault}
+use Rattle.tcltext.specs.chars.Runs.{Text}
+use Rattle.tcltext.specs.declared.chars.fault.TextFault.{TextFault}
 use Rattle.tclrules.specs.Oracle as host
 use Rattle.tclrules.specs.Oracle.{CommandWords, Trace, OracleAnswer, Done, Unknown, Refused, Oracle, trace_after}
 use Rattle.tclrules.specs.Oracle.{Question, OfCommand, OfVariable}

@@ -1,21 +1,21 @@
 -- The evaluation of expressions (expr(n)): what is evaluated of them, and in which order.
 use Rattle.std.specs.Prelude.{[], Bool, true, false, Option, Some, None, Result, Ok, Err, codes, drop}
 use Rattle.std.specs.Fmt.{signed_decimal}
-use Rattle.tclchars.specs.Runs.{Text}
-use Rattle.tclchars.specs.BracedText.{braced_text}
-use Rattle.tclchars.specs.declared.fault.TextFault.{TextFault}
-use Rattle.tclchars.specs.declared.fault.TextFault.TheVariants.{BadExpression}
-use Rattle.tclchars.specs.Numerals.{numeral}
-use Rattle.tclchars.specs.declared.number.Numeral.{Numeral}
-use Rattle.tclchars.specs.declared.number.Numeral.TheVariants as numerals
-use Rattle.tclexpr.specs.Tree.{Expr, operand, unary, binary, conjunction, disjunction, choice}
-use Rattle.tclexpr.specs.Operands as operands
-use Rattle.tclexpr.specs.Operands.{Operand}
-use Rattle.tclexpr.specs.Text.{expr_of}
-use Rattle.tclexpr.specs.UnsupportedSyntax.{unsupported_at}
-use Rattle.tcloperators.specs.Faults as value
-use Rattle.tcloperators.specs.Faults.{Answer, number_too_large, fraction, unsupported}
-use Rattle.tcloperators.specs.Operators.{truth, truth_text, unary_value, binary_value}
+use Rattle.tcltext.specs.chars.Runs.{Text}
+use Rattle.tcltext.specs.chars.BracedText.{braced_text}
+use Rattle.tcltext.specs.declared.chars.fault.TextFault.{TextFault}
+use Rattle.tcltext.specs.declared.chars.fault.TextFault.TheVariants.{BadExpression}
+use Rattle.tcltext.specs.chars.Numerals.{numeral}
+use Rattle.tcltext.specs.declared.chars.number.Numeral.{Numeral}
+use Rattle.tcltext.specs.declared.chars.number.Numeral.TheVariants as numerals
+use Rattle.tcltext.specs.expr.Tree.{Expr, operand, unary, binary, conjunction, disjunction, choice}
+use Rattle.tcltext.specs.expr.Operands as operands
+use Rattle.tcltext.specs.expr.Operands.{Operand}
+use Rattle.tcltext.specs.expr.Text.{expr_of}
+use Rattle.tcltext.specs.expr.UnsupportedSyntax.{unsupported_at}
+use Rattle.tclvalue.specs.operators.Faults as value
+use Rattle.tclvalue.specs.operators.Faults.{Answer, number_too_large, fraction, unsupported}
+use Rattle.tclvalue.specs.operators.Operators.{truth, truth_text, unary_value, binary_value}
 use Rattle.tclrules.specs.Derivation.{Runs}
 use Rattle.tclrules.specs.Variables.{State}
 use Rattle.tclrules.specs.Plans.{Bounds, Step, Next, Bracket, on_normal, given, sized}

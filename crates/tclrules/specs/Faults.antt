@@ -3,11 +3,11 @@ use Rattle.std.specs.Prelude.{[], decimal, string_bytes}
 use Rattle.message.specs.Messages.{at_line}
 use Rattle.message.specs.Refusals.{NumberedText, about, saying}
 use Rattle.message.specs.declared.refusals.RefusalKind.TheVariants as kinds
-use Rattle.tclchars.specs.Faults as text_faults
-use Rattle.tclchars.specs.declared.fault.TextFault.{TextFault}
-use Rattle.tclchars.specs.declared.fault.TextFault.TheVariants as texts
-use Rattle.tcloperators.specs.declared.fault.ValueFault.{ValueFault}
-use Rattle.tcloperators.specs.declared.fault.ValueFault.TheVariants as values
+use Rattle.tcltext.specs.chars.Faults as text_faults
+use Rattle.tcltext.specs.declared.chars.fault.TextFault.{TextFault}
+use Rattle.tcltext.specs.declared.chars.fault.TextFault.TheVariants as texts
+use Rattle.tclvalue.specs.declared.operators.fault.ValueFault.{ValueFault}
+use Rattle.tclvalue.specs.declared.operators.fault.ValueFault.TheVariants as values
 use Rattle.tclrules.specs.declared.outcome.EvalFault.{EvalFault}
 use Rattle.tclrules.specs.declared.outcome.EvalFault.TheVariants as fault
 

@@ -3,10 +3,10 @@
 -- can't be written is refused before it.
 use Rattle.std.specs.Prelude.{List, [], ◌∷◌, ◌++◌, Bool, true, false, ◌&&◌, nat_lt, length, if◌then◌else◌, Option, Some}
 use Rattle.std.specs.Prelude.{None, Ok, Err, codes, bytes_eq}
-use Rattle.tclchars.specs.Runs.{Text, begins}
-use Rattle.tcloperators.specs.Faults.{Answer, ◌>>=◌, error, unsupported}
-use Rattle.tcloperators.specs.Messages.{wrong_words, not_a_list}
-use Rattle.tcloperators.specs.Elements.{elements_of}
+use Rattle.tcltext.specs.chars.Runs.{Text, begins}
+use Rattle.tclvalue.specs.operators.Faults.{Answer, ◌>>=◌, error, unsupported}
+use Rattle.tclvalue.specs.operators.Messages.{wrong_words, not_a_list}
+use Rattle.tclvalue.specs.operators.Elements.{elements_of}
 use Rattle.tclrules.specs.Messages.{bad_option, no_body}
 
 -- what a core command asks for, with its operands; scripts and expressions in it are texts

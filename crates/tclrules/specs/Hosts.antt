@@ -2,7 +2,7 @@
 use Rattle.std.specs.Prelude.{◌≡◌, Bool, List, Option, option_map, Result, Ok, Err, string_bytes, String}
 use Rattle.std.specs.declared.alloc.Global.{Global}
 use Rattle.std.specs.declared.alloc.AllocError.{AllocError}
-use Rattle.tclchars.specs.Runs.{Text}
+use Rattle.tcltext.specs.chars.Runs.{Text}
 use Rattle.tclrules.specs.Oracle as host
 use Rattle.tclrules.specs.Oracle.{Addition, Oracle, Question, Trace, OracleAnswer, trace_after}
 use Rattle.tclrules.specs.Derivation.{variable_read, with_questions}

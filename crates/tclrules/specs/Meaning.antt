@@ -1,6 +1,6 @@
 -- What a script evaluates to. Own, over the rules.
 use Rattle.std.specs.Prelude.{◌≡◌, ℕ, ◌+◌, ◌==◌, ◌<◌, ◌⊎◌, Bool, true, false, List, min, count_by, take}
-use Rattle.tclchars.specs.Runs.{Text}
+use Rattle.tcltext.specs.chars.Runs.{Text}
 use Rattle.tclrules.specs.Oracle.{CommandWords, Oracle, Trace, records_with, addition}
 use Rattle.tclrules.specs.Derivation.{ByHost, EvaluationOutcome, Halted, World, Eval}
 use Rattle.tclrules.specs.Playing.{Played, play}

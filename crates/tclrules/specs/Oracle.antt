@@ -1,6 +1,6 @@
 -- What a host stands for: the oracle, which is how it answers, and the trace, which is what it has recorded. Own.
 use Rattle.std.specs.Prelude.{ℕ, Bool, true, false, if◌then◌else◌, List, [], ◌∷◌, ◌++◌, Option, Some, None}
-use Rattle.tclchars.specs.Runs.{Text}
+use Rattle.tcltext.specs.chars.Runs.{Text}
 
 -- a record is the words of its command
 abbrev pub CommandWords : Type 0

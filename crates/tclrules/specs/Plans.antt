@@ -1,9 +1,9 @@
 -- What the rules are made of: how a script completes, the jobs, and the steps that every rule takes. Own.
 use Rattle.std.specs.Prelude.{ℕ, ◌-◌, List, if◌then◌else◌, nat_eq, nat_lt, length, Ok, Err}
-use Rattle.tclchars.specs.Runs.{Text}
-use Rattle.tclscript.specs.Tree.{Commands}
-use Rattle.tcloperators.specs.Faults as value
-use Rattle.tcloperators.specs.Faults.{Answer, text, error, value_too_long, number_too_large, fraction, unsupported}
+use Rattle.tcltext.specs.chars.Runs.{Text}
+use Rattle.tcltext.specs.script.Tree.{Commands}
+use Rattle.tclvalue.specs.operators.Faults as value
+use Rattle.tclvalue.specs.operators.Faults.{Answer, text, error, value_too_long, number_too_large, fraction, unsupported}
 use Rattle.tclrules.specs.Derivation.{Halt, BadText, TooDeep, ValueTooLong, NumberTooLarge, FractionOperand, LeftOut}
 use Rattle.tclrules.specs.Derivation.{Ended, Halted, Plan, Ends}
 use Rattle.tclrules.specs.Variables.{State}

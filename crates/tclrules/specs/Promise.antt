@@ -1,7 +1,7 @@
 -- What an evaluator of the program promises: the clauses of tcleval. Own.
 use Rattle.std.specs.Prelude.{◌≡◌, ℕ, Bool, true, false, List, map, Result, Ok, Err, string_bytes, String}
 use Rattle.std.specs.declared.alloc.Global.{Global}
-use Rattle.tclchars.specs.Runs.{Text}
+use Rattle.tcltext.specs.chars.Runs.{Text}
 use Rattle.tclrules.specs.Oracle.{Oracle, Trace}
 use Rattle.tclrules.specs.Derivation.{OutOfMemory, BadText, TooManyCommands, TooDeep, ValueTooLong, NumberTooLarge}
 use Rattle.tclrules.specs.Derivation.{FractionOperand, LeftOut, Stopped, ByHost, EvaluationOutcome, Ended, Halted}

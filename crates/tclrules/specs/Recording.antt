@@ -3,7 +3,7 @@ use Rattle.std.specs.Prelude.{false, true, List, [], ◌∷◌, ◌++◌, if◌t
 use Rattle.std.specs.Prelude.{codes, bytes_eq, String}
 use Rattle.std.specs.declared.vec.Vec.{Vec}
 use Rattle.std.specs.declared.alloc.Global.{Global}
-use Rattle.tclchars.specs.Runs.{Text}
+use Rattle.tcltext.specs.chars.Runs.{Text}
 use Rattle.tclrules.specs.Oracle.{CommandWords, Nothing, NewRecord, Message, OracleAnswer, Done, Unknown, Refused}
 use Rattle.tclrules.specs.Variables.{Variables, lookup}
 

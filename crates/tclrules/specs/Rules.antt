@@ -4,16 +4,16 @@ use Rattle.std.specs.Prelude.{None, Result, Ok, Err, codes, bytes_eq, drop}
 use Rattle.std.specs.Fmt.{signed_decimal}
 use Rattle.std.specs.Option.{unwrap_or}
 use Rattle.std.specs.List.{list_all}
-use Rattle.tclchars.specs.Runs.{Text}
-use Rattle.tclchars.specs.declared.fault.TextFault.{TextFault}
-use Rattle.tclscript.specs.Tree.{Commands, no_commands, command}
-use Rattle.tclscript.specs.Text.{script_of}
-use Rattle.tcllist.specs.Lists.{list_text}
-use Rattle.tcloperators.specs.Faults.{Answer, ◌>>=◌, error}
-use Rattle.tcloperators.specs.Messages.{wrong_words, not_a_list}
-use Rattle.tcloperators.specs.Elements.{elements_of}
+use Rattle.tcltext.specs.chars.Runs.{Text}
+use Rattle.tcltext.specs.declared.chars.fault.TextFault.{TextFault}
+use Rattle.tcltext.specs.script.Tree.{Commands, no_commands, command}
+use Rattle.tcltext.specs.script.Text.{script_of}
+use Rattle.tcltext.specs.list.Lists.{list_text}
+use Rattle.tclvalue.specs.operators.Faults.{Answer, ◌>>=◌, error}
+use Rattle.tclvalue.specs.operators.Messages.{wrong_words, not_a_list}
+use Rattle.tclvalue.specs.operators.Elements.{elements_of}
 use Rattle.tclvalue.specs.Indexes.{count_of}
-use Rattle.tcloperators.specs.Numbers.{sum}
+use Rattle.tclvalue.specs.operators.Numbers.{sum}
 use Rattle.tclvalue.specs.Characters.{joined, concatenated}
 use Rattle.tclvalue.specs.Globs.{glob}
 use Rattle.tclvalue.specs.Commands.{command_value}

@@ -1,6 +1,6 @@
 -- How the outcome of a small script is shown, for worked examples. Own.
 use Rattle.std.specs.Prelude.{◌≡◌, ℕ, false, true, List, [], ◌∷◌, None, codes}
-use Rattle.tclchars.specs.Runs.{Text}
+use Rattle.tcltext.specs.chars.Runs.{Text}
 use Rattle.tclrules.specs.Oracle.{CommandWords, Oracle, Question, OfCommand, Trace, Unknown, Done, Nothing}
 use Rattle.tclrules.specs.Derivation.{Halt, EvaluationOutcome, Ended, Halted, World}
 use Rattle.tclrules.specs.Recording.{commands_of_recorder, answer_of, value_in}

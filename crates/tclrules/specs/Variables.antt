@@ -3,8 +3,8 @@
 use Rattle.std.specs.Prelude.{ℕ, List, [], ◌∷◌, ◌++◌, Bool, true, false, not, ◌||◌, ◌&&◌, ◌==◌, ◌-◌, length, take}
 use Rattle.std.specs.Prelude.{reverse, if◌then◌else◌, Option, Some, None, Ok, Err, codes, bytes_eq}
 use Rattle.std.specs.List.{list_any}
-use Rattle.tclchars.specs.Runs.{Text, take_while, drop_while, begins}
-use Rattle.tcloperators.specs.Faults.{Answer, ◌>>=◌, unsupported}
+use Rattle.tcltext.specs.chars.Runs.{Text, take_while, drop_while, begins}
+use Rattle.tclvalue.specs.operators.Faults.{Answer, ◌>>=◌, unsupported}
 use Rattle.tclvalue.specs.Indexes.{after_prefix}
 
 -- Variables with their values, in the order of their making

@@ -1,6 +1,6 @@
 //! Theorems of evaluations, whatever the oracle.
 ghost use Rattle.std.specs.Prelude.{◌≡◌, ℕ, ◌≤◌, ◌<◌, ◌⊎◌, Bool, true, false, List, [], Some};
-ghost use Rattle.tclchars.specs.Runs.{Text};
+ghost use Rattle.tcltext.specs.chars.Runs.{Text};
 ghost use Rattle.tclrules.specs.Oracle.{CommandWords, Oracle, records_with, addition};
 ghost use Rattle.tclrules.specs.Derivation.{EvaluationOutcome, Halted, TooManyCommands, ByHost, World, Throughout};
 ghost use Rattle.tclrules.specs.Derivation.{AnswersOrRefuses, AnswersAlikeUnasked, RepeatsAnswers, IsUnrefused, IsNoted};

@@ -9,8 +9,8 @@ use std::alloc::{AllocError, AllocFailed};
 use std::error::Error;
 use std::fmt;
 use std::fmt::Display;
-use tclchars::TextFault;
-use tcloperators::ValueFault;
+use tcltext::chars::TextFault;
+use tclvalue::operators::ValueFault;
 
 /// How a script ended that was evaluated to its end.
 #[derive(Drop)]

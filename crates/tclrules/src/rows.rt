@@ -1,6 +1,6 @@
 //! Worked examples: small scripts and their outcomes, by computation, one for each of the main rules.
 ghost use Rattle.std.specs.Prelude.{[], ◌∷◌, codes};
-ghost use Rattle.tclchars.specs.declared.fault.TextFault.TheVariants as text;
+ghost use Rattle.tcltext.specs.declared.chars.fault.TextFault.TheVariants as text;
 ghost use Rattle.tclrules.specs.Derivation.{BadText, TooManyCommands, TooDeep, ValueTooLong, ByHost};
 ghost use Rattle.tclrules.specs.Shown.{standard, with_commands, with_depth, with_bytes, setenv_words, asked_for_mode, Results};
 ghost use Rattle.tclrules.specs.Shown.{RaisesOn, Stops, HostStops, HostTraces};

@@ -5,19 +5,19 @@ use Rattle.std.proofs.Common.{inr, lit≤}
 use Rattle.std.proofs.lemmas.Bool.Decides.{nat_tests}
 use Rattle.std.specs.Char.{digit_value}
 use Rattle.std.specs.Str.Parse.{AllDigits, digits_value}
-use Rattle.tclchars.specs.Bytes.{AllPass}
-use Rattle.tclchars.specs.Runs.{Text, take_while, drop_while}
-use Rattle.tclexpr.specs.declared.numbers.Digits.{Digits}
-use Rattle.tclexpr.specs.declared.numbers.Digits.TheVariants.{Binary, Octal, Decimal, Hexadecimal}
-use Rattle.tclexpr.specs.Operands as operands
-use Rattle.tclexpr.specs.Operands.{begins_digit, after_digits, announced, after_announced, after_based, after_sign}
-use Rattle.tclexpr.specs.Operands.{after_exponent, after_fraction, begins_point, after_decimal, first_of_both}
-use Rattle.tclexpr.specs.Operands.{after_number}
-use Rattle.tclchars.specs.Numerals as numerals
-use Rattle.tclchars.specs.Numbers as numbers
-use Rattle.tclchars.proofs.WholeNumbers.{either, magnitude_read, magnitude_found}
-use Rattle.tclchars.proofs.Fractions.{Named, named_is, fraction_begun}
-use Rattle.tclchars.specs.Numbers.{IsMagnitude, IsSigned, IsExponent, IsFraction, IsNumber, IsNumberIn}
+use Rattle.tcltext.specs.chars.Bytes.{AllPass}
+use Rattle.tcltext.specs.chars.Runs.{Text, take_while, drop_while}
+use Rattle.tcltext.specs.declared.expr.numbers.Digits.{Digits}
+use Rattle.tcltext.specs.declared.expr.numbers.Digits.TheVariants.{Binary, Octal, Decimal, Hexadecimal}
+use Rattle.tcltext.specs.expr.Operands as operands
+use Rattle.tcltext.specs.expr.Operands.{begins_digit, after_digits, announced, after_announced, after_based, after_sign}
+use Rattle.tcltext.specs.expr.Operands.{after_exponent, after_fraction, begins_point, after_decimal, first_of_both}
+use Rattle.tcltext.specs.expr.Operands.{after_number}
+use Rattle.tcltext.specs.chars.Numerals as numerals
+use Rattle.tcltext.specs.chars.Numbers as numbers
+use Rattle.tcltext.proofs.chars.WholeNumbers.{either, magnitude_read, magnitude_found}
+use Rattle.tcltext.proofs.chars.Fractions.{Named, named_is, fraction_begun}
+use Rattle.tcltext.specs.chars.Numbers.{IsMagnitude, IsSigned, IsExponent, IsFraction, IsNumber, IsNumberIn}
 
 -- the digits of a base, by their number
 abbrev base_number : Digits → ℕ

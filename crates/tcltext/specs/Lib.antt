@@ -1,0 +1,5 @@
+pub mod chars
+pub mod script
+pub mod expr
+pub mod list
+pub mod pattern

@@ -1,8 +1,8 @@
 //! The law of numbers in expressions: a function that does nothing, whose contract is a theorem about the definitions.
 ghost use Rattle.std.specs.Prelude.{◌≡◌, ◌++◌, Some, None};
-ghost use Rattle.tclchars.specs.Runs.{Text};
-ghost use Rattle.tclexpr.specs.Operands.{after_number};
-ghost use Rattle.tclchars.specs.Numbers.{IsNumber, IsNumberIn};
+ghost use Rattle.tcltext.specs.chars.Runs.{Text};
+ghost use Rattle.tcltext.specs.expr.Operands.{after_number};
+ghost use Rattle.tcltext.specs.chars.Numbers.{IsNumber, IsNumberIn};
 
 /// A number in an expression is the longest prefix that is a number; and where none is read, no prefix is one.
 pub fn number_in_expression()

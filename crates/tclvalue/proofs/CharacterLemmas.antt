@@ -1,6 +1,6 @@
 -- Trimming from the end, one character at a time.
 use Rattle.std.proofs.Common.{◌≡◌, ℕ, [], ◌∷◌, ◌++◌, true, false, refl, ap, ◌∙◌}
-use Rattle.tclchars.specs.Runs.{Text}
+use Rattle.tcltext.specs.chars.Runs.{Text}
 use Rattle.tclvalue.specs.Characters.{is_among, trim_last, without_end}
 
 pub end_among : (set front : Text) (c : ℕ) → is_among set c ≡ true → without_end set (front ++ c ∷ []) ≡ without_end set front

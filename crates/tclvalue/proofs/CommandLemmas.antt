@@ -1,9 +1,9 @@
 -- What a wrong number of words gives.
 use Rattle.std.proofs.Common.{◌≡◌, ◌<◌, ◌≤◌, List, [], ◌∷◌, length, map, Err, refl, arith}
 use Rattle.std.specs.Prelude.{codes}
-use Rattle.tclchars.specs.Runs.{Text}
-use Rattle.tcloperators.specs.Faults.{error}
-use Rattle.tcloperators.specs.Messages.{wrong_words}
+use Rattle.tcltext.specs.chars.Runs.{Text}
+use Rattle.tclvalue.specs.operators.Faults.{error}
+use Rattle.tclvalue.specs.operators.Messages.{wrong_words}
 use Rattle.tclvalue.specs.Commands.{lrange_command, split_command}
 
 pub too_few_to_range : {X : Type 0} (view : X → Text) (words : List X) → length words < 3

@@ -3,10 +3,10 @@ use Rattle.std.specs.Prelude.{◌≡◌, refl, codes, [], ◌∷◌, Ok, Err, So
 use lib.Utf8.{encode}
 use Rattle.std.specs.Str.{chars}
 use Rattle.std.specs.Fmt.{digits}
-use Rattle.tclchars.specs.Numerals.{numeral}
-use Rattle.tcllist.specs.ListReading.{list_of, list_at, element_at, piece_of, piece_at}
-use Rattle.tcloperators.specs.Faults.{error, unsupported, value_too_long}
-use Rattle.tcloperators.specs.Messages.{wrong_words, bad_index}
+use Rattle.tcltext.specs.chars.Numerals.{numeral}
+use Rattle.tcltext.specs.list.ListReading.{list_of, list_at, element_at, piece_of, piece_at}
+use Rattle.tclvalue.specs.operators.Faults.{error, unsupported, value_too_long}
+use Rattle.tclvalue.specs.operators.Messages.{wrong_words, bad_index}
 use Rattle.tclvalue.specs.Characters.{white_space, split_space}
 use Rattle.tclvalue.specs.Commands.{command_value}
 

@@ -2,8 +2,8 @@
 use Rattle.std.proofs.Common.{◌≡◌, ℕ, ◌∷◌, [], Bool, true, false, Option, Some, None, refl, sym, ap, arith}
 use Rattle.std.specs.Prelude.{◌==◌, if◌then◌else◌}
 use Rattle.std.proofs.lemmas.Bool.Decides.{nat_tests}
-use Rattle.tclchars.specs.Runs.{Text}
-use Rattle.tclpattern.specs.Patterns.{is_between, close_bracket, dash}
+use Rattle.tcltext.specs.chars.Runs.{Text}
+use Rattle.tcltext.specs.pattern.Patterns.{is_between, close_bracket, dash}
 use Rattle.tclvalue.specs.Globs.{where_holds, rest_after_set}
 
 -- the other end of an item that begins so, the same where it is a character, and what follows the item

@@ -8,9 +8,9 @@ use Rattle.std.specs.Option.{MatchOption, unwrap_or}
 use Rattle.std.proofs.lemmas.Bool.{cases_lt}
 use Rattle.std.proofs.lemmas.List.{take_min, drop-take, length-take}
 use Rattle.std.proofs.Math.ListN.{drop_of_length-le}
-use Rattle.tclchars.specs.Runs.{Text}
-use Rattle.tclchars.specs.Classes.{begins_in, in_class}
-use Rattle.tclchars.specs.declared.runs.Class.TheVariants.{Space}
+use Rattle.tcltext.specs.chars.Runs.{Text}
+use Rattle.tcltext.specs.chars.Classes.{begins_in, in_class}
+use Rattle.tcltext.specs.declared.chars.runs.Class.TheVariants.{Space}
 use Rattle.tclvalue.specs.Indexes.{begins_space}
 
 -- white space is the class of bytes that texts of Tcl have

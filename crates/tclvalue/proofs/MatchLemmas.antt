@@ -4,10 +4,10 @@ use Rattle.std.proofs.Common.{◌∙◌, arith, inl, inr}
 use Rattle.std.specs.Prelude.{◌==◌, ◌||◌, ◌&&◌, if◌then◌else◌}
 use Rattle.std.proofs.lemmas.Bool.{eqb-true, eq-eqb, or_cases, and_parts, not-true}
 use Rattle.std.proofs.lemmas.Bool.Decides.{nat_tests}
-use Rattle.tclchars.specs.Runs.{Text}
-use Rattle.tclpattern.specs.Patterns.{star, question, open_bracket, close_bracket, backslash, dash, is_between}
-use Rattle.tclpattern.specs.Patterns.{is_ordinary, no_dash, after_close, HoldsIn, as_item, in_range, past_item}
-use Rattle.tclpattern.specs.Patterns.{past_range, IsMatch, both_end, any_text, any_character, in_set, escaped, itself}
+use Rattle.tcltext.specs.chars.Runs.{Text}
+use Rattle.tcltext.specs.pattern.Patterns.{star, question, open_bracket, close_bracket, backslash, dash, is_between}
+use Rattle.tcltext.specs.pattern.Patterns.{is_ordinary, no_dash, after_close, HoldsIn, as_item, in_range, past_item}
+use Rattle.tcltext.specs.pattern.Patterns.{past_range, IsMatch, both_end, any_text, any_character, in_set, escaped, itself}
 use Rattle.tclvalue.specs.Globs.{where_holds, rest_after_set, after_set, after_escape, matches_first, matches_from}
 use Rattle.tclvalue.specs.Globs.{matches_nothing, matches}
 use Rattle.tclvalue.proofs.GlobLemmas.{item, behind_item, set_step}

@@ -3,7 +3,7 @@ use Rattle.std.proofs.Common.{◌≡◌, Bor, ℕ, zero, suc, ◌-◌, ◌<◌, 
 use Rattle.std.proofs.Common.{map, find, take, drop, Option, Some, refl, sym, ap, ◌∙◌, append_assoc, arith}
 use Rattle.std.specs.Option.{option_map, option_copied}
 use Rattle.std.proofs.lemmas.List.{take_all}
-use Rattle.tclchars.specs.Runs.{Text}
+use Rattle.tcltext.specs.chars.Runs.{Text}
 use Rattle.tclvalue.specs.Searches.{Pair, first_fit, replaced, mapped}
 
 -- to pass over characters is to leave them out

@@ -2,9 +2,9 @@
 use Rattle.std.specs.Prelude.{ℕ, ◌==◌, List, [], ◌∷◌, ◌++◌, length, Bool, if◌then◌else◌, codes, map, filter, not}
 use Rattle.std.specs.List.{list_any, slice_split}
 use Rattle.std.specs.Str.{chars, encode_utf8_all}
-use Rattle.tclchars.specs.Bytes.{newline}
-use Rattle.tclchars.specs.Runs.{Text}
-use Rattle.tcloperators.specs.Operators.{is_nil}
+use Rattle.tcltext.specs.chars.Bytes.{newline}
+use Rattle.tcltext.specs.chars.Runs.{Text}
+use Rattle.tclvalue.specs.operators.Operators.{is_nil}
 use Rattle.tclvalue.specs.Indexes.{Index, position, items_between}
 
 -- a character is one of a set

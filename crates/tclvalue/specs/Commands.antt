@@ -7,12 +7,12 @@ use Rattle.std.specs.declared.cmp.Ordering.TheVariants.{Less, Equal, Greater}
 use Rattle.std.specs.Option.{unwrap_or}
 use Rattle.std.specs.List.{repeat}
 use Rattle.std.specs.Str.{chars}
-use Rattle.tclchars.specs.Runs.{Text}
-use Rattle.tcllist.specs.Lists.{list_text}
-use Rattle.tcloperators.specs.Faults.{Answer, ◌>>=◌, error, unsupported}
-use Rattle.tcloperators.specs.Messages.{wrong_words}
-use Rattle.tcloperators.specs.Operators.{truth_text, text_order, is_nil}
-use Rattle.tcloperators.specs.Elements.{elements_of}
+use Rattle.tcltext.specs.chars.Runs.{Text}
+use Rattle.tcltext.specs.list.Lists.{list_text}
+use Rattle.tclvalue.specs.operators.Faults.{Answer, ◌>>=◌, error, unsupported}
+use Rattle.tclvalue.specs.operators.Messages.{wrong_words}
+use Rattle.tclvalue.specs.operators.Operators.{truth_text, text_order, is_nil}
+use Rattle.tclvalue.specs.operators.Elements.{elements_of}
 use Rattle.tclvalue.specs.Limits.{limited}
 use Rattle.tclvalue.specs.Indexes.{Index, index_of, position, item_at, items_between, count_of, at_least_0}
 use Rattle.tclvalue.specs.Searches.{first_position, last_position, pairs_of, mapped}

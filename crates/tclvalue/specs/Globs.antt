@@ -3,9 +3,9 @@
 use Rattle.std.specs.Prelude.{◌≡◌, ◌↔◌, ℕ, [], ◌∷◌, Bool, true, false, ◌||◌, ◌&&◌, ◌==◌, if◌then◌else◌, Option, Some}
 use Rattle.std.specs.Prelude.{None}
 use Rattle.std.specs.Str.{chars}
-use Rattle.tclchars.specs.Runs.{Text}
-use Rattle.tclpattern.specs.Patterns.{star, question, open_bracket, close_bracket, backslash, dash, is_between}
-use Rattle.tclpattern.specs.Patterns.{after_close, IsMatch}
+use Rattle.tcltext.specs.chars.Runs.{Text}
+use Rattle.tcltext.specs.pattern.Patterns.{star, question, open_bracket, close_bracket, backslash, dash, is_between}
+use Rattle.tcltext.specs.pattern.Patterns.{after_close, IsMatch}
 
 -- the pattern after the closing bracket, where the item has the character; else what more answers
 abbrev pub where_holds : Bool → Text → Option Text → Option Text

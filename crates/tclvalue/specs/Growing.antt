@@ -1,9 +1,9 @@
 -- Texts that are made within a limit on their bytes. Own.
 use Rattle.std.specs.Prelude.{◌≡◌, ℕ, ◌<◌, ◌≤◌, ◌++◌, length, string_bytes, String, Result, Ok, Err, IfSome}
 use Rattle.std.specs.declared.alloc.Global.{Global}
-use Rattle.tclchars.specs.Runs.{Text}
-use Rattle.tcloperators.specs.Faults.{Answer, ◌>>=◌, GivesText, reason_of, value_too_long}
-use Rattle.tcloperators.specs.declared.fault.ValueFault.{ValueFault}
+use Rattle.tcltext.specs.chars.Runs.{Text}
+use Rattle.tclvalue.specs.operators.Faults.{Answer, ◌>>=◌, GivesText, reason_of, value_too_long}
+use Rattle.tclvalue.specs.declared.operators.fault.ValueFault.{ValueFault}
 use Rattle.tclvalue.specs.Limits.{limited}
 use Rattle.tclvalue.specs.declared.bounded.BoundedText.{BoundedText}
 

@@ -1,13 +1,13 @@
 -- Indexes of lists and texts (lindex(n), string(n)): a whole number, end, or end-N.
 use Rattle.std.specs.Prelude.{ℕ, List, [], ◌∷◌, Bool, false, ◌==◌, nat_lt, if◌then◌else◌, ℤ, pos, negsuc, ◌+ℤ◌, ◌-ℤ◌}
 use Rattle.std.specs.Prelude.{Option, Some, None, Ok, Err, take, drop, slice_get, bytes_eq, codes}
-use Rattle.tclchars.specs.Runs.{Text}
-use Rattle.tclchars.specs.Numerals.{numeral}
-use Rattle.tclchars.specs.Bytes.{is_space}
-use Rattle.tclchars.specs.declared.number.Numeral.{Numeral}
-use Rattle.tclchars.specs.declared.number.Numeral.TheVariants as numerals
-use Rattle.tcloperators.specs.Faults.{Answer, ◌>>=◌, error, number_too_large, fraction}
-use Rattle.tcloperators.specs.Messages.{bad_index, not_a_whole_number}
+use Rattle.tcltext.specs.chars.Runs.{Text}
+use Rattle.tcltext.specs.chars.Numerals.{numeral}
+use Rattle.tcltext.specs.chars.Bytes.{is_space}
+use Rattle.tcltext.specs.declared.chars.number.Numeral.{Numeral}
+use Rattle.tcltext.specs.declared.chars.number.Numeral.TheVariants as numerals
+use Rattle.tclvalue.specs.operators.Faults.{Answer, ◌>>=◌, error, number_too_large, fraction}
+use Rattle.tclvalue.specs.operators.Messages.{bad_index, not_a_whole_number}
 
 -- an index as it is spelled: counted from 0, the first item, or back from the last
 pub data Index : Type 0 where

@@ -1,3 +1,4 @@
+pub mod operators
 -- The definitions that the contracts of this crate are written in: the commands of values, by their pages.
 pub mod Indexes
 pub mod Searches

@@ -4,10 +4,10 @@ use Rattle.std.specs.Prelude.{Option, Some, None, option_map, nat_eq, encode_utf
 use Rattle.std.specs.Str.{chars}
 use Rattle.std.specs.Option.{option_or}
 use Rattle.std.specs.List.{starts_with}
-use Rattle.tclchars.specs.Runs.{Text}
-use Rattle.tcloperators.specs.Faults.{Answer, ◌>>=◌, error}
-use Rattle.tcloperators.specs.Messages.{not_a_list}
-use Rattle.tcloperators.specs.Operators.{is_nil}
+use Rattle.tcltext.specs.chars.Runs.{Text}
+use Rattle.tclvalue.specs.operators.Faults.{Answer, ◌>>=◌, error}
+use Rattle.tclvalue.specs.operators.Messages.{not_a_list}
+use Rattle.tclvalue.specs.operators.Operators.{is_nil}
 
 -- the first position at which a text stands in another
 abbrev pub first_position : Text → Text → Option ℕ

@@ -1,6 +1,6 @@
 -- What the types of `src/` stand for in this crate's contracts.
 use Rattle.std.specs.Prelude.{ℕ, List, Bool, true, false, if◌then◌else◌, Option, None}
-use Rattle.tclchars.specs.Runs.{Text}
+use Rattle.tcltext.specs.chars.Runs.{Text}
 use Rattle.tclvalue.specs.Searches.{Pair, first_position, last_position}
 use Rattle.tclvalue.specs.Indexes.{Index, from_start, from_end}
 use Rattle.tclvalue.specs.Characters.{trimmed, trimmed_left, trimmed_right, without_start, without_end}

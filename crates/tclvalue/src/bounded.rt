@@ -1,11 +1,11 @@
 //! Texts within the limit on the bytes of a value.
 ghost use Rattle.std.specs.Prelude.{◌≡◌, [], string_bytes, encode_utf8};
-ghost use Rattle.tcloperators.specs.Faults.{GivesText};
+ghost use Rattle.tclvalue.specs.operators.Faults.{GivesText};
 ghost use Rattle.tclvalue.specs.Limits.{limited};
 ghost use Rattle.tclvalue.specs.Growing.{Appends};
 
+use crate::operators::ValueFault;
 use std::alloc::Global;
-use tcloperators::ValueFault;
 
 /// The text, or `ValueTooLong` where it has more bytes than the limit.
 pub(crate) fn limited(text: String, limit: usize) -> Result<String, ValueFault>

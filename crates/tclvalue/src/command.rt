@@ -2,13 +2,13 @@
 ghost use Rattle.std.specs.Prelude.{map, string_bytes};
 ghost use Rattle.std.specs.Option.{option_map};
 ghost use Rattle.message.specs.Answers.{Gives};
-ghost use Rattle.tcloperators.specs.Faults.{reason_of};
+ghost use Rattle.tclvalue.specs.operators.Faults.{reason_of};
 ghost use Rattle.tclvalue.specs.Commands.{command_value};
 
 use crate::list_commands::value_of;
 use crate::names::command_named;
+use crate::operators::ValueFault;
 use std::alloc::Global;
-use tcloperators::ValueFault;
 
 /// The answer of `list`, `llength`, `lindex`, `lrange`, `split`, `join`, `concat` or `string` to its words, of which
 /// the first names it; None for another first word, and for no word. Characters are Unicode code points. An index is a

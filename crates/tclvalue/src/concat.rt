@@ -1,14 +1,14 @@
 //! The texts of concat(n) made one.
 ghost use Rattle.std.specs.Prelude.{◌≡◌, ◌++◌, ◌∷◌, [], map, filter, not, string_bytes, IfOk, OnOk};
-ghost use Rattle.tcloperators.specs.Operators.{is_nil};
-ghost use Rattle.tcloperators.specs.Faults.{GivesText};
+ghost use Rattle.tclvalue.specs.operators.Operators.{is_nil};
+ghost use Rattle.tclvalue.specs.operators.Faults.{GivesText};
 ghost use Rattle.tclvalue.specs.Limits.{limited};
 ghost use Rattle.tclvalue.specs.Characters.{concatenated, trimmed, white_space};
 
 use crate::lists::joined;
+use crate::operators::ValueFault;
 use crate::texts::{Ends, trimmed_of_space};
 use std::alloc::{AllocError, Global};
-use tcloperators::ValueFault;
 
 /// The texts, each without the white space around it and those of white space alone dropped, joined by a space.
 ///

@@ -1,15 +1,15 @@
 //! Indexes of lists and texts (lindex(n), string(n)): a whole number, `end`, or `end-N`.
 ghost use Rattle.std.specs.Prelude.{◌≡◌, ◌+ℤ◌, ℤ, pos, min, length, Some, Ok};
-ghost use Rattle.tclchars.specs.Numerals.{numeral};
+ghost use Rattle.tcltext.specs.chars.Numerals.{numeral};
 ghost use Rattle.message.specs.Answers.{Gives};
-ghost use Rattle.tcloperators.specs.Faults.{reason_of};
+ghost use Rattle.tclvalue.specs.operators.Faults.{reason_of};
 ghost use Rattle.tclvalue.specs.Indexes.{index_of, index_after_end, index_number, count_of, position, position_among};
 ghost use Rattle.tclvalue.specs.Indexes.{at_least_0, items_between};
 ghost use Rattle.tclvalue.specs.Views.{index_view};
 
+use crate::operators::{ValueFault, bad_index, not_a_whole_number};
 use std::alloc::Global;
-use tclchars::{Class, Numeral, begins_class, read_number};
-use tcloperators::{ValueFault, bad_index, not_a_whole_number};
+use tcltext::chars::{Class, Numeral, begins_class, read_number};
 
 /// An index as it is spelled, before the number of items is known.
 #[derive(Clone, Copy)]

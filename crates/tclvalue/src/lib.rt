@@ -11,11 +11,16 @@ mod laws;
 mod list_commands;
 mod lists;
 mod names;
+pub mod operators;
 mod pattern;
 mod searches;
 mod string_command;
 mod texts;
 
+pub use crate::operators::{
+    ValueFault, binary, bits, division, elements, in_quotes, is_among, sum, text_order, truth,
+    truth_text, unary, unsupported, whole_number,
+};
 pub use command::value_command;
 pub use concat::concatenated;
 pub use index::count_of;
@@ -23,7 +28,3 @@ pub use laws::string_match;
 pub use lists::{joined, list_text};
 pub use names::is_value_command;
 pub use pattern::glob;
-pub use tcloperators::{
-    ValueFault, binary, bits, division, elements, in_quotes, is_among, sum, text_order, truth,
-    truth_text, unary, unsupported, whole_number,
-};

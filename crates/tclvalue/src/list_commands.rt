@@ -10,10 +10,10 @@ use crate::concat::concatenated;
 use crate::index::{Index, between, index_of};
 use crate::lists::{joined, list_text};
 use crate::names::ValueCommand;
+use crate::operators::{ValueFault, elements, wrong_words};
 use crate::string_command::string_value;
 use crate::texts::{parts, parts_at_space};
 use std::alloc::Global;
-use tcloperators::{ValueFault, elements, wrong_words};
 
 /// The answer of a command of values to the words after its name, within a limit on its bytes.
 pub(crate) fn value_of(

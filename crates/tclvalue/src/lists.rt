@@ -1,16 +1,16 @@
 //! The text of a list, and texts joined (list(n), join(n)).
 ghost use Rattle.std.specs.Prelude.{◌≡◌, map, IfOk, string_bytes};
-ghost use Rattle.tcllist.specs.Lists.{list_text};
-ghost use Rattle.tcloperators.specs.Faults.{GivesText};
+ghost use Rattle.tcltext.specs.list.Lists.{list_text};
+ghost use Rattle.tclvalue.specs.operators.Faults.{GivesText};
 ghost use Rattle.tclvalue.specs.Limits.{limited};
 ghost use Rattle.tclvalue.specs.Growing.{Appends};
 ghost use Rattle.tclvalue.specs.Characters.{joined, joined_rest, encoded_all};
 
 use crate::bounded::{BoundedText, limited};
 use crate::characters::text_of;
+use crate::operators::ValueFault;
 use std::alloc::{AllocError, Global};
-use tcllist::write_list;
-use tcloperators::ValueFault;
+use tcltext::list::write_list;
 
 /// The texts as slices, as the writer of lists takes them.
 fn slices(alloc: Global, texts: &[String]) -> Result<Vec<&str>, AllocError>

@@ -2,7 +2,7 @@
 ghost use Rattle.std.specs.Prelude.{◌≡◌};
 ghost use Rattle.tclvalue.specs.Globs.{glob};
 
-use tclpattern::glob_match;
+use tcltext::pattern::glob_match;
 
 /// Whether the text matches the pattern: `*`, `?`, sets in brackets and backslashes. It takes no memory.
 pub fn glob(pattern: &str, text: &str) -> bool

@@ -3,7 +3,7 @@ ghost use Rattle.std.specs.Prelude.{◌≡◌, ◌<◌, ◌-◌, ◌++◌, lengt
 ghost use Rattle.std.specs.Option.{option_map, option_copied};
 ghost use Rattle.std.specs.Str.{chars};
 ghost use Rattle.message.specs.Answers.{Gives};
-ghost use Rattle.tcloperators.specs.Faults.{reason_of, GivesText};
+ghost use Rattle.tclvalue.specs.operators.Faults.{reason_of, GivesText};
 ghost use Rattle.tclvalue.specs.Limits.{limited};
 ghost use Rattle.tclvalue.specs.Growing.{Appends, Exceeds, StaysWithin};
 ghost use Rattle.tclvalue.specs.Searches.{first_position, last_position, fits, first_fit, pairs_of, mapped};
@@ -11,8 +11,8 @@ ghost use Rattle.tclvalue.specs.Views.{pair_view};
 
 use crate::bounded::{BoundedText, limited};
 use crate::characters::characters;
+use crate::operators::{ValueFault, not_a_list};
 use std::alloc::Global;
-use tcloperators::{ValueFault, not_a_list};
 
 /// Which of the copies of a text in another is sought.
 #[derive(Clone, Copy)]

@@ -11,14 +11,14 @@ use crate::bounded::limited;
 use crate::characters::{character_count, characters};
 use crate::index::{count_of, index_of};
 use crate::names::{Subcommand, is_option, subcommand_named, takes_options};
+use crate::operators::{
+    ValueFault, elements, text_order, truth_text, unsupported_subcommand, wrong_words,
+};
 use crate::pattern::glob;
 use crate::searches::{Occurrence, first_position, last_position, mapped, replacements};
 use crate::texts::{Ends, characters_between, repeated, trimmed, trimmed_of_space};
 use std::alloc::{AllocError, Global};
 use std::cmp::Ordering;
-use tcloperators::{
-    ValueFault, elements, text_order, truth_text, unsupported_subcommand, wrong_words,
-};
 
 /// The answer of `string` to a subcommand and its operands, within a limit on its bytes.
 pub(crate) fn string_value(

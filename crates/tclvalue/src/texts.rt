@@ -1,7 +1,7 @@
 //! Texts trimmed, cut, split and repeated (string(n), split(n)).
 ghost use Rattle.std.specs.Prelude.{◌≡◌, ◌∷◌, [], map, string_bytes, IfOk};
 ghost use Rattle.std.specs.List.{repeat, slice_split};
-ghost use Rattle.tcloperators.specs.Faults.{GivesText};
+ghost use Rattle.tclvalue.specs.operators.Faults.{GivesText};
 ghost use Rattle.tclvalue.specs.Limits.{limited};
 ghost use Rattle.tclvalue.specs.Characters.{is_among, characters_between, parts, pieces, encoded_all, white_space};
 ghost use Rattle.tclvalue.specs.Characters.{split_space};
@@ -10,8 +10,8 @@ ghost use Rattle.tclvalue.specs.Views.{without, trimmed_at, index_view};
 use crate::characters::{characters, is_among, text_of, without_end, without_start};
 use crate::index::{Index, between};
 use crate::lists::texts_of;
+use crate::operators::ValueFault;
 use std::alloc::{AllocError, Global};
-use tcloperators::ValueFault;
 
 /// What string(n) trims by itself: space, tab, newline, vertical tab, form feed and carriage return.
 const WHITE_SPACE: &str = " \t\n\u{b}\u{c}\r";

@@ -1,8 +1,8 @@
 use Rattle.std.proofs.Common.{List, ℕ, Bor, string_bytes}
-use Rattle.tclscript.specs.View.{script_view}
-use Rattle.portforms.specs.Words.{commands_in}
-use Rattle.shownrecords.specs.Views.{person_view}
-use Rattle.translation.specs.TranslationViews.{notes_view}
+use Rattle.tcltext.specs.script.View.{script_view}
+use Rattle.port_reading.specs.forms.Words.{commands_in}
+use Rattle.port_flatten.specs.Views.{person_view}
+use Rattle.port_rewriting.specs.TranslationViews.{notes_view}
 use Rattle.modport.specs.LineViews.{coming_view, porting_view}
 use Rattle.modport.proofs.Flat.{flat_so}
 use Rattle.modport.proofs.flattening.of_flat.Goals as goal

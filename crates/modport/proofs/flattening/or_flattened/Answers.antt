@@ -1,5 +1,5 @@
 use Rattle.std.proofs.Common.{string_bytes}
-use Rattle.shownrecords.specs.Views.{person_view}
+use Rattle.port_flatten.specs.Views.{person_view}
 use Rattle.modport.specs.LineViews.{coming_view, porting_view}
 use Rattle.modport.proofs.Flat.{taken_so}
 use Rattle.modport.proofs.flattening.or_flattened.Goals as goal

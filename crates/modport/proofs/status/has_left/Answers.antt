@@ -1,11 +1,11 @@
 use Rattle.std.proofs.Common.{rules, tests, ◌∙◌}
 use Rattle.std.proofs.lemmas.Iterator.Search.{any_from_yields_List}
 use Rattle.std.proofs.lemmas.Iterator.{YieldsList-from_slice}
-use Rattle.families.proofs.Lists.{any_mapped}
-use Rattle.translation.specs.Notes as notes
-use Rattle.translation.specs.TranslationViews.{note_view}
-use Rattle.translation.specs.declared.notes.Note.{Note}
-use Rattle.modport.specs.Ported.{is_left}
+use Rattle.port_rewriting.proofs.families.Lists.{any_mapped}
+use Rattle.port_rewriting.specs.Notes as notes
+use Rattle.port_rewriting.specs.TranslationViews.{note_view}
+use Rattle.port_rewriting.specs.declared.notes.Note.{Note}
+use Rattle.modport.specs.TranslatedFile.{is_left}
 use Rattle.modport.proofs.status.has_left.Goals as goal
 
 pub returns : goal.returns

@@ -1,6 +1,6 @@
 use Rattle.std.proofs.Common.{string_bytes, ap, ◌∙◌, ◌++◌, ◌+◌, drop}
 use Rattle.envvars.specs.Texts.{slice_texts, texts_in}
-use Rattle.envpaths.specs.PathTexts.{split_elements}
+use Rattle.envstate.specs.paths.PathTexts.{split_elements}
 use Rattle.modulefile.proofs.CutLemmas.{split_next, cut_on}
 use Rattle.modulefile.proofs.recording.elements.Goals as goal
 

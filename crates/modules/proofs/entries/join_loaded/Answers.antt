@@ -1,9 +1,9 @@
 use Rattle.std.proofs.Common.{◌≡◌, List, map, Some, Ok, Err, ap, ◌∙◌, subst}
 use Rattle.std.proofs.lemmas.Result.{err_from_is_err_and}
 use Rattle.envvars.specs.Reasons.{EnvReason, reason_of}
-use Rattle.envloaded.specs.Loaded.{Entry, added_to}
-use Rattle.envloaded.specs.LoadedEntries.{entry_view}
-use Rattle.envloaded.specs.declared.entry.Loaded.{Loaded}
+use Rattle.envstate.specs.loaded_list.Loaded.{Entry, added_to}
+use Rattle.envstate.specs.loaded_list.LoadedEntries.{entry_view}
+use Rattle.envstate.specs.declared.loaded_list.entry.Loaded.{Loaded}
 use Rattle.requests.specs.Conditions.{load_objection}
 use Rattle.modulefile.specs.Moves.{entry_of}
 use Rattle.modules.specs.MoveViews.{module_view}

@@ -2,8 +2,8 @@ use Rattle.std.proofs.Common.{◌≡◌, List, map, string_bytes, String, Option
 use Rattle.std.specs.Option.{option_map, option_or}
 use Rattle.std.specs.declared.alloc.Global.{Global}
 use Rattle.envvars.specs.Texts.{Text}
-use Rattle.envloaded.specs.Loaded.{Entry}
-use Rattle.envloaded.specs.LoadedEntries.{entry_view}
+use Rattle.envstate.specs.loaded_list.Loaded.{Entry}
+use Rattle.envstate.specs.loaded_list.LoadedEntries.{entry_view}
 use Rattle.requests.specs.Conditions.{recorded_conflict}
 use Rattle.requests.specs.Reasons.{RequestReason, conflict_with, prereq_missing}
 use Rattle.requests.specs.Refusals.{unless}

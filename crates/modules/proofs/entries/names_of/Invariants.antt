@@ -1,7 +1,7 @@
 use Rattle.std.proofs.Common.{◌≡◌, map, take}
 use Rattle.envvars.specs.Texts.{texts_in}
-use Rattle.envloaded.specs.Loaded.{names_of}
-use Rattle.envloaded.specs.LoadedEntries.{entry_view}
+use Rattle.envstate.specs.loaded_list.Loaded.{names_of}
+use Rattle.envstate.specs.loaded_list.LoadedEntries.{entry_view}
 use Rattle.modules.proofs.entries.names_of.Given as goal
 
 abbrev pub invariant-loop-entry : goal.invariant-loop-entry

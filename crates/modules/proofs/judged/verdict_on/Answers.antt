@@ -1,7 +1,7 @@
 use Rattle.std.proofs.Common.{sym, ap, ◌∙◌}
 use Rattle.std.specs.List.{list_all}
 use Rattle.modulefile.specs.RecordViews.{record_view}
-use Rattle.modulerun.specs.Running.{ran_view}
+use Rattle.modulefile_run.specs.Running.{ran_view}
 use Rattle.reversal.specs.VariableUses.{is_reversible}
 use Rattle.requests.proofs.ListLemmas.{all_seen}
 use Rattle.modules.proofs.VerdictLemmas.{plain_by, asked_by, one_way_by}

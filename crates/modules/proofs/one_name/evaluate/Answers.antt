@@ -1,11 +1,11 @@
 use Rattle.std.proofs.Common.{◌≡◌, List, map, string_bytes, Ok, Err, IfSome, refl, ap, ◌∙◌, subst}
 use Rattle.std.proofs.lemmas.Result.{err_from_is_err_and}
 use Rattle.envvars.specs.Texts.{Text}
-use Rattle.envloaded.specs.Loaded.{names_of}
-use Rattle.envloaded.specs.LoadedEntries.{entry_view}
+use Rattle.envstate.specs.loaded_list.Loaded.{names_of}
+use Rattle.envstate.specs.loaded_list.LoadedEntries.{entry_view}
 use Rattle.modulefile.specs.RecordViews.{mode_view}
 use Rattle.modulefile.specs.Files.{RunsFile}
-use Rattle.modulerun.specs.Running.{ran_view, file_reason_of}
+use Rattle.modulefile_run.specs.Running.{ran_view, file_reason_of}
 use Rattle.modules.specs.Parts.{context_with_loaded, file_context}
 use Rattle.modules.proofs.StepLemmas.{run_refused, run_made}
 use Rattle.requests.specs.Steps.{consistent}

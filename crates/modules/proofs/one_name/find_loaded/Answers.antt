@@ -2,7 +2,7 @@ use Rattle.std.proofs.Common.{◌≡◌, true, false, map, Some, None, Ok, Err, 
 use Rattle.std.proofs.lemmas.Result.{err_from_is_err_and}
 use Rattle.std.specs.Option.{option_map}
 use Rattle.envvars.specs.Texts.{Text}
-use Rattle.envloaded.specs.LoadedEntries.{entry_view}
+use Rattle.envstate.specs.loaded_list.LoadedEntries.{entry_view}
 use Rattle.modulename.specs.ModuleName.{is_module_name}
 use Rattle.filetree.specs.Relations.{Is}
 use Rattle.search.specs.Reasons.{bad_name}

@@ -1,13 +1,13 @@
 use Rattle.std.proofs.Common.{◌≡◌, false, List, map, Ok, Err, sym, ap, ◌∙◌}
 use Rattle.std.proofs.lemmas.Result.{err_from_is_err_and}
 use Rattle.envvars.specs.Texts.{Text, has}
-use Rattle.envloaded.specs.Loaded.{names_of}
-use Rattle.envloaded.specs.LoadedEntries.{entry_view}
-use Rattle.envloaded.specs.declared.entry.Loaded.{Loaded}
+use Rattle.envstate.specs.loaded_list.Loaded.{names_of}
+use Rattle.envstate.specs.loaded_list.LoadedEntries.{entry_view}
+use Rattle.envstate.specs.declared.loaded_list.entry.Loaded.{Loaded}
 use Rattle.modulefile.specs.Effects as modes
 use Rattle.modulefile.specs.Files.{RunsFile}
 use Rattle.search.specs.Answers.{found_view}
-use Rattle.modulerun.specs.Running.{ran_view}
+use Rattle.modulefile_run.specs.Running.{ran_view}
 use Rattle.requests.specs.Reasons.{file_refused}
 use Rattle.requests.specs.Refusals.{RefusedAs}
 use Rattle.requests.specs.Steps.{LoadsFound, module_of}

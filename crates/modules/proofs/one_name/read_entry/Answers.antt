@@ -5,7 +5,7 @@ use Rattle.envvars.specs.Texts.{Text}
 use Rattle.filetree.specs.Agreement.{InEachPair}
 use Rattle.filetree.specs.Modulefiles.{modulefile}
 use Rattle.filetree.specs.Relations.{Is}
-use Rattle.envloaded.specs.LoadedEntries.{entry_view}
+use Rattle.envstate.specs.loaded_list.LoadedEntries.{entry_view}
 use Rattle.requests.specs.Steps.{script_at}
 use Rattle.search.specs.Found.{FoundModule}
 use Rattle.search.specs.Answers.{found_view}

@@ -1,6 +1,6 @@
 use Rattle.std.proofs.Common.{false, map, Ok, Err, refl}
 use Rattle.std.proofs.lemmas.Result.{err_from_is_err_and}
-use Rattle.envloaded.specs.LoadedEntries.{entry_view}
+use Rattle.envstate.specs.loaded_list.LoadedEntries.{entry_view}
 use Rattle.search.specs.Answers.{found_view}
 use Rattle.requests.specs.Steps.{Finds, ShowsName}
 use Rattle.requests.specs.Looked.{SearchLooksAt, ShowLooksAt}

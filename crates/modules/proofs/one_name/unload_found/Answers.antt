@@ -2,12 +2,12 @@ use Rattle.std.proofs.Common.{◌≡◌, false, map, not, string_bytes, List, So
 use Rattle.std.specs.Prelude.{bytes_eq}
 use Rattle.std.proofs.lemmas.Result.{err_from_is_err_and}
 use Rattle.envvars.specs.Reasons.{EnvReason, reason_of}
-use Rattle.envloaded.specs.Loaded.{Entry, dropped_from}
-use Rattle.envloaded.specs.LoadedEntries.{entry_view}
+use Rattle.envstate.specs.loaded_list.Loaded.{Entry, dropped_from}
+use Rattle.envstate.specs.loaded_list.LoadedEntries.{entry_view}
 use Rattle.modulefile.specs.Effects as modes
 use Rattle.modulefile.specs.Files.{RunsFile}
 use Rattle.search.specs.Answers.{found_view}
-use Rattle.modulerun.specs.Running.{ran_view}
+use Rattle.modulefile_run.specs.Running.{ran_view}
 use Rattle.requests.specs.Reasons.{file_refused}
 use Rattle.requests.specs.Refusals.{RefusedAs}
 use Rattle.requests.specs.Steps.{module_of}

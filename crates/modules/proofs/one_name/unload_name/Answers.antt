@@ -1,7 +1,7 @@
 use Rattle.std.proofs.Common.{map, Some, None, Ok, Err, refl}
 use Rattle.std.proofs.lemmas.Result.{err_from_is_err_and}
 use Rattle.std.specs.Option.{option_map}
-use Rattle.envloaded.specs.LoadedEntries.{entry_view}
+use Rattle.envstate.specs.loaded_list.LoadedEntries.{entry_view}
 use Rattle.search.specs.Answers.{found_view}
 use Rattle.requests.specs.Steps.{UnloadsName}
 use Rattle.requests.specs.Looked.{UnloadLooksAt}

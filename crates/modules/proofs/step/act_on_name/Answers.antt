@@ -1,5 +1,5 @@
 use Rattle.std.proofs.Common.{◌≡◌, false, OnOk, map, refl, sym, subst}
-use Rattle.envloaded.specs.LoadedEntries.{entry_view}
+use Rattle.envstate.specs.loaded_list.LoadedEntries.{entry_view}
 use Rattle.modules.specs.declared.step.NameAction.{NameAction}
 use Rattle.modules.specs.declared.step.NameAction.TheVariants.{Load, Unload, ReportOn}
 use Rattle.modules.specs.Views.{request_context_of, done_view}

@@ -1,7 +1,7 @@
 use Rattle.std.proofs.Common.{map, string_bytes, String, Ok, Err, refl, ap, ◌∙◌, subst}
 use Rattle.std.proofs.lemmas.Result.{err_from_is_err_and}
 use Rattle.std.specs.declared.alloc.Global.{Global}
-use Rattle.envloaded.specs.LoadedEntries.{entry_view}
+use Rattle.envstate.specs.loaded_list.LoadedEntries.{entry_view}
 use Rattle.filetree.specs.Relations.{Then}
 use Rattle.requests.specs.Steps.{nothing_done, Each, EndsRequest}
 use Rattle.modules.specs.declared.done.RequestResults.{RequestResults}

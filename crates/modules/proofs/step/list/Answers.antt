@@ -1,8 +1,8 @@
 use Rattle.std.proofs.Common.{List, [], map, Ok, ap, ◌∙◌}
 use Rattle.envvars.specs.Texts.{Text}
-use Rattle.envloaded.specs.Loaded.{names_of}
-use Rattle.envloaded.specs.LoadedEntries.{entry_view}
-use Rattle.envloaded.specs.declared.entry.Loaded.{Loaded}
+use Rattle.envstate.specs.loaded_list.Loaded.{names_of}
+use Rattle.envstate.specs.loaded_list.LoadedEntries.{entry_view}
+use Rattle.envstate.specs.declared.loaded_list.entry.Loaded.{Loaded}
 use Rattle.requests.specs.Reports.{loaded_text}
 use Rattle.requests.specs.Steps.{nothing_done, with_report}
 use Rattle.modules.proofs.step.list.Goals as goal

@@ -2,9 +2,9 @@ use Rattle.std.proofs.Common.{◌≡◌, false, List, map, reverse, string_bytes
 use Rattle.std.proofs.lemmas.Result.{err_from_is_err_and}
 use Rattle.std.specs.declared.alloc.Global.{Global}
 use Rattle.envvars.specs.Texts.{Text}
-use Rattle.envloaded.specs.Loaded.{names_of}
-use Rattle.envloaded.specs.LoadedEntries.{entry_view}
-use Rattle.envloaded.specs.declared.entry.Loaded.{Loaded}
+use Rattle.envstate.specs.loaded_list.Loaded.{names_of}
+use Rattle.envstate.specs.loaded_list.LoadedEntries.{entry_view}
+use Rattle.envstate.specs.declared.loaded_list.entry.Loaded.{Loaded}
 use Rattle.filetree.specs.Relations.{Then}
 use Rattle.requests.specs.Requests as actions
 use Rattle.requests.specs.Steps.{nothing_done, entries_of, Each, EndsRequest, RequestStep, UnloadsName}

@@ -1,8 +1,8 @@
 use Rattle.std.proofs.Common.{map, rules, tests}
 use Rattle.std.proofs.lemmas.Iterator.Search.{find_from_yields_List}
 use Rattle.std.proofs.lemmas.Iterator.{YieldsList-from_slice}
-use Rattle.envloaded.specs.LoadedEntries.{entry_view}
-use Rattle.envloaded.specs.declared.entry.Loaded.{Loaded}
+use Rattle.envstate.specs.loaded_list.LoadedEntries.{entry_view}
+use Rattle.envstate.specs.declared.loaded_list.entry.Loaded.{Loaded}
 use Rattle.requests.specs.Conditions.{has_lost}
 use Rattle.requests.proofs.ListLemmas.{find_seen}
 use Rattle.requests.proofs.conditions.first_lost.Goals as goal

@@ -2,9 +2,9 @@ use Rattle.std.proofs.Common.{rules, tests, string_bytes, ◌∙◌}
 use Rattle.std.proofs.lemmas.Iterator.Search.{any_from_yields_List}
 use Rattle.std.proofs.lemmas.Iterator.{YieldsList-from_slice}
 use Rattle.modulename.specs.ModuleName.{means}
-use Rattle.envloaded.specs.Loaded.{Entry}
-use Rattle.envloaded.specs.LoadedEntries.{entry_view}
-use Rattle.envloaded.specs.declared.entry.Loaded.{Loaded}
+use Rattle.envstate.specs.loaded_list.Loaded.{Entry}
+use Rattle.envstate.specs.loaded_list.LoadedEntries.{entry_view}
+use Rattle.envstate.specs.declared.loaded_list.entry.Loaded.{Loaded}
 use Rattle.requests.proofs.ListLemmas.{any_seen}
 use Rattle.requests.proofs.conditions.means_some.Goals as goal
 

@@ -1,6 +1,6 @@
 use Rattle.std.proofs.Common.{◌≡◌, drop, map}
 use Rattle.envvars.specs.Texts.{slice_texts}
-use Rattle.envloaded.specs.LoadedEntries.{entry_view}
+use Rattle.envstate.specs.loaded_list.LoadedEntries.{entry_view}
 use Rattle.requests.specs.Conditions.{own_conflict}
 use Rattle.requests.proofs.conditions.own_conflict.Given as goal
 

@@ -4,9 +4,9 @@ use Rattle.std.proofs.lemmas.Iterator.Search.{find_from_yields_List}
 use Rattle.std.proofs.lemmas.Iterator.{YieldsList-from_slice}
 use Rattle.modulename.specs.ModuleName.{means}
 use Rattle.envvars.specs.Texts.{texts_in}
-use Rattle.envloaded.specs.Loaded.{Entry}
-use Rattle.envloaded.specs.LoadedEntries.{entry_view}
-use Rattle.envloaded.specs.declared.entry.Loaded.{Loaded}
+use Rattle.envstate.specs.loaded_list.Loaded.{Entry}
+use Rattle.envstate.specs.loaded_list.LoadedEntries.{entry_view}
+use Rattle.envstate.specs.declared.loaded_list.entry.Loaded.{Loaded}
 use Rattle.requests.proofs.ListLemmas.{find_seen}
 use Rattle.requests.proofs.conditions.recorded_conflict.Goals as goal
 

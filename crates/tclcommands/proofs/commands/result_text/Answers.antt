@@ -1,7 +1,7 @@
 use Rattle.std.proofs.Common.{◌<◌, ◌≤◌, [], length, arith}
 use Rattle.std.proofs.lemmas.Bool.Decides.{nat_tests}
 use Rattle.tclcommands.specs.Continuations.{value_text}
-use Rattle.tclsubstitution.proofs.Leading.{sized_on, sized_stops}
+use Rattle.tclforms.proofs.substitution.Leading.{sized_on, sized_stops}
 use Rattle.std.proofs.lemmas.Result.{err_from_is_err_and}
 use Rattle.tclrules.proofs.Leading.{starve}
 use Rattle.tclcommands.proofs.commands.result_text.Goals as goal

@@ -1,5 +1,5 @@
 use Rattle.tclrules.proofs.Leading.{continue_with}
-use Rattle.tclsubstitution.proofs.Leading.{passed_on}
+use Rattle.tclforms.proofs.substitution.Leading.{passed_on}
 use Rattle.std.proofs.Common.{[]}
 use Rattle.tclcommands.specs.Completions.{sized_next}
 use Rattle.std.proofs.lemmas.Result.{err_from_is_err_and}

@@ -1,6 +1,6 @@
 use Rattle.tclrules.specs.Simulates.{point}
 use Rattle.tclrules.proofs.Leading.{stay}
-use Rattle.tclsubstitution.specs.Machine.{bounds}
+use Rattle.tclforms.specs.substitution.Machine.{bounds}
 use Rattle.tclcommands.proofs.commands.simple_value.Goals as goal
 
 pub returns-in-Get : goal.returns-in-Get

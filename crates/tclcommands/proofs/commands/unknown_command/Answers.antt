@@ -1,10 +1,10 @@
 use Rattle.std.proofs.Common.{◌≡◌, true, false, sym, ◌∙◌, []}
 use Rattle.tclrules.proofs.Leading.{continue_with}
-use Rattle.tclsubstitution.proofs.Leading.{passed_on}
+use Rattle.tclforms.proofs.substitution.Leading.{passed_on}
 use Rattle.tclcommands.proofs.Stopping.{fault_stops}
 use Rattle.tclcommands.proofs.CommandWordLemmas.{whole}
 use Rattle.tclrules.specs.Names.{is_among, unsupported_commands}
-use Rattle.tcloperators.specs.Faults.{unsupported}
+use Rattle.tclvalue.specs.operators.Faults.{unsupported}
 use Rattle.tclcommands.specs.CommandTexts.{name_of}
 use Rattle.tclcommands.specs.Completions.{sized_next}
 use Rattle.std.proofs.lemmas.Result.{err_from_is_err_and}

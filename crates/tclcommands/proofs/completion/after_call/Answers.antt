@@ -1,6 +1,6 @@
 use Rattle.std.proofs.Common.{codes}
 use Rattle.tclcommands.proofs.Stopping.{fault_stops}
-use Rattle.tcloperators.specs.Faults.{error}
+use Rattle.tclvalue.specs.operators.Faults.{error}
 use Rattle.tclrules.specs.Messages.{outside_loop}
 use Rattle.tclcommands.proofs.completion.after_call.Goals as goal
 

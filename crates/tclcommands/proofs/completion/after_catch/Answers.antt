@@ -1,7 +1,7 @@
 use Rattle.std.proofs.Common.{ℕ, List, Bor, option_map}
 use Rattle.tclrules.proofs.Leading.{stay, continue_with}
-use Rattle.tclsubstitution.specs.Machine.{bounds}
-use Rattle.tclsubstitution.proofs.Leading.{passed_on}
+use Rattle.tclforms.specs.substitution.Machine.{bounds}
+use Rattle.tclforms.proofs.substitution.Leading.{passed_on}
 use Rattle.tclcommands.proofs.Stopping.{same_as}
 use Rattle.tclcommands.proofs.completion.after_catch.Goals as goal
 

@@ -1,7 +1,7 @@
 use Rattle.tclrules.specs.Variables.{State}
 use Rattle.tclrules.proofs.Leading.{stay}
-use Rattle.tclchars.specs.Runs.{Text}
-use Rattle.tclsubstitution.proofs.Leading.{starved_end, starved_after, passed_on}
+use Rattle.tcltext.specs.chars.Runs.{Text}
+use Rattle.tclforms.proofs.substitution.Leading.{starved_end, starved_after, passed_on}
 use Rattle.tclcommands.proofs.completion.store_caught.Goals as goal
 
 pub returns-in_err-from_str-in-None : goal.returns-in_err-from_str-in-None

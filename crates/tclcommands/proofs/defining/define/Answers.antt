@@ -2,13 +2,13 @@ use Rattle.std.specs.Prelude.{◌≡◌, List, Ok, Err}
 use Rattle.std.specs.Option.{IfSome}
 use Rattle.std.proofs.Common.{subst}
 use Rattle.std.proofs.lemmas.Result.{err_from_is_err_and}
-use Rattle.tclchars.specs.Runs.{Text}
-use Rattle.tcloperators.specs.Faults.{reason_of}
-use Rattle.tcloperators.specs.declared.fault.ValueFault.{ValueFault}
+use Rattle.tcltext.specs.chars.Runs.{Text}
+use Rattle.tclvalue.specs.operators.Faults.{reason_of}
+use Rattle.tclvalue.specs.declared.operators.fault.ValueFault.{ValueFault}
 use Rattle.tclrules.specs.Variables.{Parameter}
 use Rattle.tclrules.proofs.Leading.{starve}
 use Rattle.tclforms.specs.Lists.{defined}
-use Rattle.tclsubstitution.proofs.Leading.{given_stops, given_on}
+use Rattle.tclforms.proofs.substitution.Leading.{given_stops, given_on}
 use Rattle.tclcommands.proofs.defining.define.Goals as goal
 
 -- the parameters are judged by equal lists of reserved names

@@ -2,7 +2,7 @@ use Rattle.std.proofs.Common.{rules}
 use Rattle.std.proofs.lemmas.Result.{err_from_is_err_and}
 use Rattle.std.proofs.Math.ListN.{drop_of_length-le}
 use Rattle.tclrules.proofs.Leading.{stay, continue_with, starve}
-use Rattle.tclsubstitution.proofs.Leading.{given_stops, given_on}
+use Rattle.tclforms.proofs.substitution.Leading.{given_stops, given_on}
 use Rattle.tclcommands.proofs.Insides.{names_from}
 use Rattle.tclcommands.proofs.global_names.share.Goals as goal
 

@@ -1,5 +1,5 @@
 use Rattle.tclrules.proofs.Leading.{continue_with, want, hear_on}
-use Rattle.tclsubstitution.proofs.Leading.{reason_stops}
+use Rattle.tclforms.proofs.substitution.Leading.{reason_stops}
 use Rattle.tclcommands.proofs.host_commands.ask_host.Goals as goal
 
 pub returns-in-Done : goal.returns-in-Done

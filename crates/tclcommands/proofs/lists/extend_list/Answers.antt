@@ -1,15 +1,15 @@
 use Rattle.std.proofs.Common.{◌≡◌, ◌++◌, ◌≤◌, [], length, map, string_bytes, Bool, Ok, ap, ◌∙◌, rules}
 use Rattle.std.proofs.lemmas.Result.{err_from_is_err_and}
-use Rattle.tclchars.specs.Runs.{Text}
-use Rattle.tclchars.specs.Faults.{max_bytes}
-use Rattle.tcllist.specs.Lists.{list_text}
+use Rattle.tcltext.specs.chars.Runs.{Text}
+use Rattle.tcltext.specs.chars.Faults.{max_bytes}
+use Rattle.tcltext.specs.list.Lists.{list_text}
 use Rattle.tclrules.specs.Variables.{value_at}
 use Rattle.tclrules.specs.Rules.{value_or, lengthened}
 use Rattle.tclrules.proofs.Leading.{continue_with, starve}
-use Rattle.tclsubstitution.proofs.Leading.{given_on}
-use Rattle.tclvariables.proofs.Stores.{written}
+use Rattle.tclforms.proofs.substitution.Leading.{given_on}
+use Rattle.tclforms.proofs.variables.Stores.{written}
 use Rattle.tclcommands.proofs.ListTexts.{held, read_again}
-use Rattle.tclvariables.specs.Locations.{scalar_view}
+use Rattle.tclforms.specs.variables.Locations.{scalar_view}
 use Rattle.tclcommands.proofs.lists.extend_list.Goals as goal
 
 pub returns-in_err-text : goal.returns-in_err-text

@@ -1,11 +1,11 @@
 use Rattle.std.proofs.Common.{Bool, ap, ◌∙◌, rules}
 use Rattle.std.proofs.lemmas.Result.{err_from_is_err_and}
-use Rattle.tclchars.specs.Runs.{Text}
+use Rattle.tcltext.specs.chars.Runs.{Text}
 use Rattle.tclrules.specs.Variables.{value_at}
 use Rattle.tclrules.proofs.Leading.{continue_with}
-use Rattle.tclsubstitution.proofs.Leading.{given_stops, given_on}
-use Rattle.tclvariables.proofs.Stores.{written}
-use Rattle.tclvariables.specs.Locations.{scalar_view}
+use Rattle.tclforms.proofs.substitution.Leading.{given_stops, given_on}
+use Rattle.tclforms.proofs.variables.Stores.{written}
+use Rattle.tclforms.specs.variables.Locations.{scalar_view}
 use Rattle.tclcommands.proofs.lists.rewrite_list.Goals as goal
 
 pub lengthened-requires-text-list : goal.lengthened-requires-text-list

@@ -1,6 +1,6 @@
 use Rattle.std.proofs.Common.{◌≡◌, ◌++◌, [], ◌∷◌, map, string_bytes, ◌∙◌, rules}
 use Rattle.std.proofs.lemmas.List.{append_assoc}
-use Rattle.tcllist.specs.Lists.{list_text}
+use Rattle.tcltext.specs.list.Lists.{list_text}
 use Rattle.tclcommands.proofs.ListTexts.{longer, nothing_mapped}
 use Rattle.tclcommands.proofs.lists.with_elements.Goals as goal
 

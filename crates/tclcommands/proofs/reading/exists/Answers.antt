@@ -1,7 +1,7 @@
 use Rattle.std.proofs.Common.{rules}
 use Rattle.std.proofs.lemmas.Result.{err_from_is_err_and}
 use Rattle.tclrules.proofs.Leading.{continue_with, want, read_on}
-use Rattle.tclsubstitution.proofs.Leading.{given_stops, given_on}
+use Rattle.tclforms.proofs.substitution.Leading.{given_stops, given_on}
 use Rattle.tclcommands.proofs.Insides.{seen}
 use Rattle.tclcommands.proofs.reading.exists.Goals as goal
 

@@ -1,5 +1,5 @@
 use Rattle.std.proofs.Common.{sym, ◌∙◌}
-use Rattle.tclvariables.specs.Locations.{scalar_view}
+use Rattle.tclforms.specs.variables.Locations.{scalar_view}
 use Rattle.tclcommands.proofs.Insides.{env_set, value_set}
 use Rattle.tclcommands.proofs.reading.is_set.Goals as goal
 

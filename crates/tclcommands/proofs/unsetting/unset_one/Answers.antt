@@ -1,10 +1,10 @@
 use Rattle.std.proofs.Common.{◌≡◌, true, false, is_some, rules}
 use Rattle.std.proofs.lemmas.Result.{err_from_is_err_and}
 use Rattle.tclrules.proofs.Leading.{continue_with}
-use Rattle.tclsubstitution.proofs.Leading.{given_stops, given_on, reason_stops}
+use Rattle.tclforms.proofs.substitution.Leading.{given_stops, given_on, reason_stops}
 use Rattle.tclrules.specs.Variables.{value_at}
 use Rattle.tclcommands.proofs.Insides.{unset_there, unset_absent}
-use Rattle.tclvariables.specs.Locations.{scalar_view}
+use Rattle.tclforms.specs.variables.Locations.{scalar_view}
 use Rattle.tclforms.specs.Views.{is_ignored}
 use Rattle.tclcommands.proofs.unsetting.unset_one.Goals as goal
 

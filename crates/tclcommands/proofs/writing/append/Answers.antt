@@ -2,10 +2,10 @@ use Rattle.std.proofs.Common.{string_bytes, ap, ◌∙◌, rules}
 use Rattle.std.proofs.lemmas.Result.{err_from_is_err_and}
 use Rattle.tclrules.specs.Variables.{value_at}
 use Rattle.tclrules.proofs.Leading.{continue_with}
-use Rattle.tclsubstitution.proofs.Leading.{given_stops, given_on}
-use Rattle.tclvariables.proofs.Stores.{written}
+use Rattle.tclforms.proofs.substitution.Leading.{given_stops, given_on}
+use Rattle.tclforms.proofs.variables.Stores.{written}
 use Rattle.tclcommands.proofs.Limits.{limited_is, limited_stops}
-use Rattle.tclvariables.specs.Locations.{scalar_view}
+use Rattle.tclforms.specs.variables.Locations.{scalar_view}
 use Rattle.tclcommands.proofs.writing.append.Goals as goal
 
 pub write_at-requires : goal.write_at-requires

@@ -4,7 +4,7 @@ use Rattle.std.proofs.lemmas.Result.{err_from_is_err_and}
 use Rattle.std.specs.Vec.Iter.{into_iter_items}
 use Rattle.tclrules.specs.Rules.{assign}
 use Rattle.tclrules.proofs.Leading.{stay, continue_with}
-use Rattle.tclsubstitution.specs.Machine.{bounds}
+use Rattle.tclforms.specs.substitution.Machine.{bounds}
 use Rattle.tclcommands.specs.Continuations.{named_values}
 use Rattle.tclcommands.proofs.writing.assign.Goals as goal
 

@@ -5,7 +5,7 @@ use Rattle.tclrules.specs.Plans as plans
 use Rattle.tclrules.specs.Plans.{Job}
 use Rattle.tclrules.specs.Simulates.{Simulates, Point}
 use Rattle.tclrules.specs.Rules.{assign}
-use Rattle.tclsubstitution.specs.Machine.{bounds}
+use Rattle.tclforms.specs.substitution.Machine.{bounds}
 use Rattle.tclcommands.specs.Continuations.{named_values}
 use Rattle.tclcommands.proofs.writing.assign.Given as goal
 

@@ -2,7 +2,7 @@ use Rattle.std.proofs.Common.{FitsSigned, w64, rules}
 use Rattle.std.proofs.lemmas.Int.{to_z-of_z}
 use Rattle.std.proofs.lemmas.Result.{err_from_is_err_and}
 use Rattle.tclrules.proofs.Leading.{continue_with}
-use Rattle.tclsubstitution.proofs.Leading.{given_stops, given_on}
+use Rattle.tclforms.proofs.substitution.Leading.{given_stops, given_on}
 use Rattle.tclcommands.proofs.Limits.{first_stops}
 use Rattle.tclcommands.proofs.writing.increase.Goals as goal
 

@@ -3,7 +3,7 @@ use Rattle.std.proofs.lemmas.Result.{err_from_is_err_and}
 use Rattle.std.proofs.lemmas.Int.{to_z-of_z}
 use Rattle.std.specs.Fmt.{signed_decimal}
 use Rattle.tclrules.proofs.Leading.{continue_with, starve}
-use Rattle.tclsubstitution.proofs.Leading.{given_stops, given_on}
+use Rattle.tclforms.proofs.substitution.Leading.{given_stops, given_on}
 use Rattle.tclcommands.proofs.writing.increase_anew.Goals as goal
 
 pub write_at-requires : goal.write_at-requires

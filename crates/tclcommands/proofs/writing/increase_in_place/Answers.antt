@@ -1,10 +1,10 @@
 use Rattle.std.proofs.Common.{◌≡◌, w64, to_z, of_z, FitsSigned, ap, sym, ◌∙◌, rules}
 use Rattle.std.proofs.lemmas.Int.{to_z-of_z}
 use Rattle.std.specs.Fmt.{signed_decimal}
-use Rattle.tclchars.specs.Numerals.{numeral}
-use Rattle.tclchars.specs.declared.number.Numeral.TheVariants.{Whole}
+use Rattle.tcltext.specs.chars.Numerals.{numeral}
+use Rattle.tcltext.specs.declared.chars.number.Numeral.TheVariants.{Whole}
 use Rattle.tclrules.specs.Variables.{value_at, with_value}
-use Rattle.tclvariables.specs.Locations.{scalar_view}
+use Rattle.tclforms.specs.variables.Locations.{scalar_view}
 use Rattle.tclcommands.specs.Increments.{increment_text}
 use Rattle.tclcommands.proofs.Sums.{by_rule}
 use Rattle.tclcommands.proofs.writing.increase_in_place.Goals as goal

@@ -1,7 +1,7 @@
 use Rattle.std.proofs.Common.{◌<◌, ◌≤◌, length, ap, refl, arith}
 use Rattle.std.proofs.lemmas.Result.{err_from_is_err_and}
 use Rattle.tclrules.proofs.Leading.{starve}
-use Rattle.tclsubstitution.proofs.Leading.{sized_on, sized_stops}
+use Rattle.tclforms.proofs.substitution.Leading.{sized_on, sized_stops}
 use Rattle.tclcommands.proofs.writing.put_at.Goals as goal
 
 pub returns-then-as_str-limit : goal.returns-then-as_str-limit

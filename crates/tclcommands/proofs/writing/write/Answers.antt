@@ -1,6 +1,6 @@
 use Rattle.std.proofs.lemmas.Result.{err_from_is_err_and}
 use Rattle.tclrules.proofs.Leading.{continue_with}
-use Rattle.tclsubstitution.proofs.Leading.{given_stops, given_on}
+use Rattle.tclforms.proofs.substitution.Leading.{given_stops, given_on}
 use Rattle.tclcommands.proofs.writing.write.Goals as goal
 
 pub returns-in_err-variable : goal.returns-in_err-variable

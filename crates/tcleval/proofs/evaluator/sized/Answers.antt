@@ -1,5 +1,5 @@
 use Rattle.std.proofs.Common.{◌≤◌, ◌<◌, length, string_bytes, arith}
-use Rattle.tclsubstitution.proofs.Leading.{sized_on, sized_stops}
+use Rattle.tclforms.proofs.substitution.Leading.{sized_on, sized_stops}
 use Rattle.tcleval.proofs.evaluator.sized.Goals as goal
 
 pub returns-then-len-limits-clause-within : goal.returns-then-len-limits-clause-within

@@ -1,16 +1,16 @@
 use Rattle.std.proofs.Common.{rules, arith, refl, map, ◌+◌, drop}
-use Rattle.tclchars.specs.Runs.{Text}
-use Rattle.tclscript.specs.Tree.{commands_of}
-use Rattle.tclscript.specs.View.{command_view}
+use Rattle.tcltext.specs.chars.Runs.{Text}
+use Rattle.tcltext.specs.script.Tree.{commands_of}
+use Rattle.tcltext.specs.script.View.{command_view}
 use Rattle.tclrules.specs.Variables.{State}
-use Rattle.tclsubstitution.specs.Machine.{range_text}
+use Rattle.tclforms.specs.substitution.Machine.{range_text}
 use Rattle.tcleval.specs.Continues.{bounds_of}
 use Rattle.tclrules.specs.Rules as table
 use Rattle.std.proofs.lemmas.List.{drop_all}
-use Rattle.tclscript.specs.declared.tree.Script.{out-Script}
-use Rattle.tclscript.specs.declared.piece.ByteRange.{ByteRange}
+use Rattle.tcltext.specs.declared.script.tree.Script.{out-Script}
+use Rattle.tcltext.specs.declared.script.piece.ByteRange.{ByteRange}
 use Rattle.tclrules.proofs.Leading.{stay, continue_with}
-use Rattle.tclsubstitution.proofs.Leading.{passed_on}
+use Rattle.tclforms.proofs.substitution.Leading.{passed_on}
 use Rattle.tcleval.proofs.Running.{drop_here, script_commands, command_place, later_refl, later_on, later_beside}
 use Rattle.tcleval.proofs.file.file_commands.Goals as goal
 

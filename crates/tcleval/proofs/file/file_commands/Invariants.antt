@@ -1,12 +1,12 @@
 use Rattle.std.proofs.Common.{[], map, drop, string_bytes}
-use Rattle.tclscript.specs.Tree.{commands_of}
-use Rattle.tclscript.specs.View.{script_view, command_view}
-use Rattle.tclscript.specs.declared.tree.Script.{out-Script}
-use Rattle.tclscript.specs.declared.piece.ByteRange.{ByteRange}
+use Rattle.tcltext.specs.script.Tree.{commands_of}
+use Rattle.tcltext.specs.script.View.{script_view, command_view}
+use Rattle.tcltext.specs.declared.script.tree.Script.{out-Script}
+use Rattle.tcltext.specs.declared.script.piece.ByteRange.{ByteRange}
 use Rattle.tclrules.specs.Simulates.{Simulates, point}
 use Rattle.tclrules.specs.Rules as rules
 use Rattle.tclrules.specs.Rules.{rule}
-use Rattle.tclsubstitution.specs.Machine.{range_text}
+use Rattle.tclforms.specs.substitution.Machine.{range_text}
 use Rattle.tcleval.specs.Continues.{bounds_of}
 use Rattle.tcleval.specs.OnlyGrows.{OnlyGrows}
 use Rattle.tcleval.proofs.file.file_commands.Given as goal

@@ -1,6 +1,6 @@
 use Rattle.std.proofs.Common.{refl, rules}
 use Rattle.tclrules.proofs.Leading.{continue_with}
-use Rattle.tclsubstitution.proofs.Leading.{passed_on}
+use Rattle.tclforms.proofs.substitution.Leading.{passed_on}
 use Rattle.tcleval.proofs.Running.{begin_on, begin_stops, later_refl, later_begun, later_parsed, text_stops}
 use Rattle.tcleval.proofs.file.run_file.Goals as goal
 

@@ -1,6 +1,6 @@
 use Rattle.std.proofs.Common.{◌≡◌, [], ◌∷◌, ap, ◌∙◌, arith}
 use Rattle.std.proofs.lemmas.List.{drop_all}
-use Rattle.tclsubstitution.proofs.Trees.{first_and_rest}
+use Rattle.tclforms.proofs.substitution.Trees.{first_and_rest}
 use Rattle.tcleval.proofs.Running.{drop_here}
 use Rattle.tcleval.proofs.LiteralWords.{form_found}
 use Rattle.tcleval.proofs.literals.literal_form.Goals as goal

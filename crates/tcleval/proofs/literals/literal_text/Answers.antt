@@ -1,7 +1,7 @@
 use Rattle.std.proofs.Common.{◌≡◌, length, arith, false, refl}
 use Rattle.std.specs.Prelude.{nat_lt}
 use Rattle.std.proofs.lemmas.Bool.Decides.{nat_tests}
-use Rattle.tclsubstitution.specs.Machine.{range_text}
+use Rattle.tclforms.specs.substitution.Machine.{range_text}
 use Rattle.tcleval.proofs.Running.{word_content}
 use Rattle.tcleval.proofs.literals.literal_text.Goals as goal
 

@@ -4,8 +4,8 @@ use Rattle.std.specs.Str.{IsCharBoundary}
 use Rattle.std.proofs.lemmas.Bool.Decides.{nat_tests}
 use Rattle.std.proofs.lemmas.List.{get_or-drop}
 use Rattle.std.proofs.lemmas.Str.{IsCharBoundary-before_ascii}
-use Rattle.tclchars.specs.Classes.{is_name}
-use Rattle.tclexpr.specs.UnsupportedSyntax.{unsupported_at}
+use Rattle.tcltext.specs.chars.Classes.{is_name}
+use Rattle.tcltext.specs.expr.UnsupportedSyntax.{unsupported_at}
 use Rattle.tcleval.proofs.trees.rest_at.Goals as goal
 
 no_star : (b : ℕ) → 128 ≤ b → (b == 42) ≡ false

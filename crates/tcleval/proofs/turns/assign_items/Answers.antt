@@ -1,4 +1,4 @@
-use Rattle.tclsubstitution.proofs.Leading.{starved_end}
+use Rattle.tclforms.proofs.substitution.Leading.{starved_end}
 use Rattle.tcleval.proofs.turns.assign_items.Goals as goal
 
 pub returns-in_err-pairs : goal.returns-in_err-pairs

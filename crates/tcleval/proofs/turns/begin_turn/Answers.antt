@@ -1,4 +1,4 @@
-use Rattle.tclsubstitution.proofs.Leading.{passed_on}
+use Rattle.tclforms.proofs.substitution.Leading.{passed_on}
 use Rattle.tcleval.proofs.turns.begin_turn.Goals as goal
 
 pub returns-in_err-assign_items-clause-evaluates_to : goal.returns-in_err-assign_items-clause-evaluates_to

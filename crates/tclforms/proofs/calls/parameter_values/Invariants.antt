@@ -1,6 +1,6 @@
 use Rattle.std.proofs.Common.{◌≡◌, map, length, string_bytes}
 use Rattle.tclrules.specs.Rules.{parameter_values}
-use Rattle.tclvariables.specs.Views.{parameter_view}
+use Rattle.tclforms.specs.variables.Views.{parameter_view}
 use Rattle.tclforms.specs.ArgumentViews.{named_values}
 use Rattle.tclforms.specs.Firsts.{AreNamesOf, prefixed_firsts}
 use Rattle.tclforms.proofs.calls.parameter_values.Given as goal

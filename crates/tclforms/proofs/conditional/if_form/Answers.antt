@@ -2,7 +2,7 @@ use Rattle.std.proofs.Common.{◌≡◌, map, [], ◌∷◌, ◌++◌, sym, ap, 
 use Rattle.std.specs.Prelude.{string_bytes}
 use Rattle.std.proofs.lemmas.List.{map-append}
 use Rattle.message.specs.Answers.{Gives}
-use Rattle.tcloperators.specs.Faults.{reason_of}
+use Rattle.tclvalue.specs.operators.Faults.{reason_of}
 use Rattle.tclrules.specs.Forms.{branches, last_words}
 use Rattle.tclforms.specs.Views.{form_view, pair_texts}
 use Rattle.tclforms.specs.Branches.{prefixed_pairs, if_of}

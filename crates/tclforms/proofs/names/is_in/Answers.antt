@@ -2,7 +2,7 @@ use Rattle.std.proofs.Common.{◌≡◌, List, [], ◌∷◌, ◌||◌, Bor, map
 use Rattle.std.specs.List.{list_any}
 use Rattle.std.proofs.lemmas.Iterator.{YieldsList-from_slice}
 use Rattle.std.proofs.lemmas.Iterator.Search.{any_from_yields_List}
-use Rattle.tclchars.specs.Runs.{Text}
+use Rattle.tcltext.specs.chars.Runs.{Text}
 use Rattle.tclrules.specs.Names.{is_among}
 use Rattle.tclforms.proofs.names.is_in.Goals as goal
 

@@ -1,6 +1,6 @@
 use Rattle.std.proofs.Common.{◌≡◌, map, drop, string_bytes}
 use Rattle.tclrules.specs.Rules.{parameters}
-use Rattle.tclvariables.specs.Views.{parameter_view}
+use Rattle.tclforms.specs.variables.Views.{parameter_view}
 use Rattle.tclforms.specs.Lists.{prefixed}
 use Rattle.tclforms.proofs.procedures.parameters_of.Given as goal
 

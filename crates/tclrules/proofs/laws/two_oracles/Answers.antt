@@ -1,7 +1,7 @@
 use Rattle.std.specs.Prelude.{◌≡◌, false, List, []}
 use Rattle.std.proofs.Common.{⊎_elim, inl, inr, subst, sym}
 use Rattle.std.proofs.lemmas.List.{append-nil}
-use Rattle.tclchars.specs.Runs.{Text}
+use Rattle.tcltext.specs.chars.Runs.{Text}
 use Rattle.tclrules.specs.Oracle.{Oracle}
 use Rattle.tclrules.specs.Derivation.{EvaluationOutcome, World, Eval}
 use Rattle.tclrules.specs.Plans.{Completion}

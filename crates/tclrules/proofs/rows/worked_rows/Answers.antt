@@ -1,6 +1,6 @@
 use Rattle.std.proofs.Common.{[], ◌∷◌, None}
 use Rattle.std.specs.Prelude.{codes}
-use Rattle.tclchars.specs.declared.fault.TextFault.TheVariants as text
+use Rattle.tcltext.specs.declared.chars.fault.TextFault.TheVariants as text
 use Rattle.tclrules.specs.Derivation.{BadText, TooManyCommands, TooDeep, ValueTooLong, ByHost}
 use Rattle.tclrules.specs.Shown.{standard, with_commands, with_depth, with_bytes, within, recorded, trace_of}
 use Rattle.tclrules.specs.Shown.{setenv_words, asked_for_mode, Result, Fails, Halts}

@@ -1,5 +1,5 @@
 use Rattle.std.proofs.Common.{◌≡◌, map, filter, not, string_bytes, take}
-use Rattle.tcloperators.specs.Operators.{is_nil}
+use Rattle.tclvalue.specs.operators.Operators.{is_nil}
 use Rattle.tclvalue.specs.Characters.{trimmed, white_space}
 use Rattle.tclvalue.proofs.concat.trimmed_texts.Given as goal
 

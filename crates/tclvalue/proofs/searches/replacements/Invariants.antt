@@ -1,5 +1,5 @@
 use Rattle.std.proofs.Common.{◌≡◌, ◌++◌, Ok, length, map, string_bytes}
-use Rattle.tcloperators.specs.Faults.{◌>>=◌}
+use Rattle.tclvalue.specs.operators.Faults.{◌>>=◌}
 use Rattle.tclvalue.specs.Searches.{pairs_of}
 use Rattle.tclvalue.specs.Views.{pair_view}
 use Rattle.tclvalue.proofs.searches.replacements.Given as goal

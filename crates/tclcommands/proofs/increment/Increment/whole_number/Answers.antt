@@ -1,5 +1,5 @@
 use Rattle.std.proofs.Common.{refl}
-use Rattle.tclchars.specs.Numerals.{numeral}
+use Rattle.tcltext.specs.chars.Numerals.{numeral}
 use Rattle.tclcommands.proofs.increment.Increment.whole_number.Goals as goal
 
 pub returns-in-One : goal.returns-in-One

@@ -1,8 +1,8 @@
 use Rattle.std.proofs.Common.{rules, arith, refl, sym, ap, ◌∙◌, ◌≡◌, ◌<◌, [], List, Bor, get_or, map, option_map}
 use Rattle.std.proofs.Common.{string_bytes, ℕ, ◌+◌, ◌++◌, drop}
-use Rattle.tclchars.specs.Runs.{Text}
-use Rattle.tclscript.specs.Tree.{words_of}
-use Rattle.tclscript.specs.View.{word_view, content_view}
+use Rattle.tcltext.specs.chars.Runs.{Text}
+use Rattle.tcltext.specs.script.Tree.{words_of}
+use Rattle.tcltext.specs.script.View.{word_view, content_view}
 use Rattle.tclrules.specs.Derivation.{Runs, Counts}
 use Rattle.tclrules.specs.Simulates.{point}
 use Rattle.tclrules.specs.Variables.{State}
@@ -11,25 +11,25 @@ use Rattle.tclrules.specs.Words as pieces
 use Rattle.tclrules.specs.Plans.{Next, sized}
 use Rattle.tclrules.specs.Rules.{rule, called, turn}
 use Rattle.tclforms.specs.Views.{pair_texts, form_view}
-use Rattle.tclsubstitution.specs.Machine.{range_text}
+use Rattle.tclforms.specs.substitution.Machine.{range_text}
 use Rattle.tcleval.specs.Continues.{bounds_of}
 use Rattle.tclcommands.specs.Completions.{sized_next, guarded, condition_plan}
-use Rattle.tclsubstitution.specs.Stops.{stop_of}
-use Rattle.tclsubstitution.proofs.AtHand.{from_same}
+use Rattle.tclforms.specs.substitution.Stops.{stop_of}
+use Rattle.tclforms.proofs.substitution.AtHand.{from_same}
 use Rattle.tclrules.specs.Rules as table
 use Rattle.std.proofs.lemmas.Bool.{false≢true}
 use Rattle.std.proofs.lemmas.Result.{err_from_is_err_and}
 use Rattle.std.proofs.lemmas.List.{drop_all}
-use Rattle.tclscript.specs.declared.tree.Word.{out-Word}
-use Rattle.tclscript.specs.declared.piece.ByteRange.{ByteRange}
-use Rattle.tclchars.specs.Numerals.{numeral}
+use Rattle.tcltext.specs.declared.script.tree.Word.{out-Word}
+use Rattle.tcltext.specs.declared.script.piece.ByteRange.{ByteRange}
+use Rattle.tcltext.specs.chars.Numerals.{numeral}
 use Rattle.tclrules.specs.Plans.{given}
 use Rattle.tclrules.specs.Words.{expanded}
 use Rattle.tclrules.specs.Expressions.{normal}
 use Rattle.tclrules.proofs.Leading.{stay, continue_with, starve, count_on, count_over, run_on, run_halts, run_tail}
-use Rattle.tclsubstitution.proofs.Leading.{passed_on, starved_end, given_on, given_stops, value_stops, sized_on}
-use Rattle.tclsubstitution.proofs.Leading.{run_stops}
-use Rattle.tclsubstitution.proofs.Trees.{empty_of}
+use Rattle.tclforms.proofs.substitution.Leading.{passed_on, starved_end, given_on, given_stops, value_stops, sized_on}
+use Rattle.tclforms.proofs.substitution.Leading.{run_stops}
+use Rattle.tclforms.proofs.substitution.Trees.{empty_of}
 use Rattle.tclcommands.proofs.Stopping.{same_as}
 use Rattle.tclcommands.proofs.CommandWordLemmas.{whole}
 use Rattle.tcleval.proofs.Running.{run_known, run_normal, run_comes, run_turn, run_next, comes_stopped, comes_cut}

@@ -1,9 +1,9 @@
 use Rattle.std.proofs.Common.{◌≡◌, [], List, map, option_map, reverse, drop, Ok, string_bytes, ◌+◌, ◌-◌, ◌*◌}
-use Rattle.tclchars.specs.Runs.{Text}
-use Rattle.tclscript.specs.Tree.{commands_of, words_of}
-use Rattle.tclscript.specs.View.{script_view, command_view, word_view}
-use Rattle.tclscript.specs.declared.tree.Script.{out-Script}
-use Rattle.tclscript.specs.declared.piece.ByteRange.{ByteRange}
+use Rattle.tcltext.specs.chars.Runs.{Text}
+use Rattle.tcltext.specs.script.Tree.{commands_of, words_of}
+use Rattle.tcltext.specs.script.View.{script_view, command_view, word_view}
+use Rattle.tcltext.specs.declared.script.tree.Script.{out-Script}
+use Rattle.tcltext.specs.declared.script.piece.ByteRange.{ByteRange}
 use Rattle.tclrules.specs.Derivation.{Runs}
 use Rattle.tclrules.specs.Simulates.{Simulates, point}
 use Rattle.tclrules.specs.Variables.{State}
@@ -13,7 +13,7 @@ use Rattle.tclrules.specs.Rules as rules
 use Rattle.tclrules.specs.Plans.{Next, on_normal}
 use Rattle.tclrules.specs.Rules.{rule}
 use Rattle.tclforms.specs.Views.{pair_texts}
-use Rattle.tclsubstitution.specs.Machine.{range_text, control_plan, stack_continuation, control_weight, frames_weight}
+use Rattle.tclforms.specs.substitution.Machine.{range_text, control_plan, stack_continuation, control_weight, frames_weight}
 use Rattle.tclcommands.specs.Completions.{EvaluatesToText}
 use Rattle.tcleval.specs.Continues.{bounds_of}
 use Rattle.tcleval.specs.LoopBodies.{HasItsTree}

@@ -1,5 +1,5 @@
 use Rattle.std.proofs.lemmas.Result.{err_from_is_err_and}
-use Rattle.tclexpr.specs.Owned.{owned_view}
+use Rattle.tcltext.specs.expr.Owned.{owned_view}
 use Rattle.tcleval.proofs.Conditions.{held_found}
 use Rattle.tcleval.proofs.evaluator.Evaluator.comparison.Goals as goal
 

@@ -1,0 +1,15 @@
+use Rattle.std.proofs.Common.{rules, tests, string_bytes, ◌∙◌}
+use Rattle.std.proofs.lemmas.Iterator.Search.{any_from_yields_List}
+use Rattle.std.proofs.lemmas.Iterator.{YieldsList-from_slice}
+use Rattle.modulename.specs.ModuleName.{means}
+use Rattle.envvars.specs.Texts.{Text}
+use Rattle.std.specs.declared.string.String.{String}
+use Rattle.std.specs.declared.alloc.Global.{Global}
+use Rattle.audit_certificate.proofs.Seen.{any_seen}
+use Rattle.audit_certificate.proofs.pairs.is_meant.Goals as goal
+
+pub returns : goal.returns
+returns c =
+    any_from_yields_List (λ (x : String Global). means (string_bytes x) c.args.full_name.now) _ _ c.any.result
+    c.any.ensures.ran (YieldsList-from_slice c.args.names.now cc) (λ x b q k. search (rules, tests))
+    ∙ any_seen (λ (t : Text). means t c.args.full_name.now) (λ (s : String Global). string_bytes s) c.args.names.now

@@ -1,0 +1,8 @@
+use Rattle.std.proofs.Common.{map, take}
+use Rattle.audit_certificate.specs.Tallies.{CountsMore}
+use Rattle.audit_certificate.specs.UsingModules.{candidate_in}
+use Rattle.audit_certificate.proofs.TableLemmas.{use_of}
+use Rattle.audit_certificate.proofs.tally.Tally.enter_module.Given as goal
+
+abbrev pub invariant-loop-used : goal.invariant-loop-used
+invariant-loop-used l = CountsMore l.initial.self l.self (map (use_of (candidate_in l.candidate)) (take l.used-index l.used-items))

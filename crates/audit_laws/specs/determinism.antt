@@ -1,0 +1,5 @@
+pub mod StableInput
+pub mod LoadedAnswers
+pub mod Contexts
+pub mod ContextViews
+pub mod Laws

@@ -1,4 +1,0 @@
-use Rattle.collectionfiles.proofs.follow.+follow.Given as goal
-
-abbrev pub decreases-follow : goal.decreases-follow
-decreases-follow g l = l.left

@@ -1,8 +1,0 @@
-use Rattle.std.proofs.Common.{◌≡◌, drop, map}
-use Rattle.collections.specs.Lines.{with_loaded}
-use Rattle.collections.specs.Views.{kept_view}
-use Rattle.collections.specs.WordViews.{word_view}
-use Rattle.collections.proofs.collection.Collection.add_loaded.Given as goal
-
-abbrev pub invariant-loop-word : goal.invariant-loop-word
-invariant-loop-word l = with_loaded (map word_view (drop l.word-index l.words)) (kept_view l.self) ≡ with_loaded (map word_view l.words) (kept_view l.initial.self)

@@ -1,9 +1,0 @@
-use Rattle.std.proofs.Common.{◌≡◌, ◌++◌, ◌∷◌, flat_map, take}
-use Rattle.columns.specs.Columns.{Text, aligned_line}
-use Rattle.columns.specs.Views.{texts, width_in}
-use Rattle.columns.proofs.aligning.push_later.Given as goal
-
-abbrev pub invariant-loop-line : goal.invariant-loop-line
-invariant-loop-line l =
-    l.text.items ≡ l.initial.text.items
-    ++ flat_map (λ (line : Text). 10 ∷ aligned_line (width_in l.widths) line) (texts (take l.line-index l.lines))

@@ -1,8 +1,0 @@
-use Rattle.std.proofs.Common.{◌≡◌, map, drop}
-use Rattle.tclscript.specs.View.{word_view}
-use Rattle.commandplaces.specs.Bodies.{behind_options, piece_in}
-use Rattle.commandplaces.proofs.bodies.behind_options.Given as goal
-
-abbrev pub invariant-loop-number : goal.invariant-loop-number
-invariant-loop-number l =
-    behind_options (map (word_view (piece_in l.script)) (drop l.number l.words)) ≡ behind_options (map (word_view (piece_in l.script)) l.words)

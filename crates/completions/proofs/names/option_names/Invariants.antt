@@ -1,8 +1,0 @@
-use Rattle.std.proofs.Common.{◌≡◌, map, take}
-use Rattle.envvars.specs.Texts.{texts_in}
-use Rattle.subcommands.specs.Views.{option_view}
-use Rattle.completions.proofs.names.option_names.Given as goal
-
-abbrev pub invariant-loop-row : goal.invariant-loop-row
-invariant-loop-row l =
-    texts_in l.names ≡ map (λ row. row.0) (map option_view (take l.row-index l.rows))

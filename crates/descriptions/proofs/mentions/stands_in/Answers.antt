@@ -1,6 +1,0 @@
-use Rattle.std.proofs.lemmas.Str.Pattern.{contains_text}
-use Rattle.descriptions.proofs.MentionLemmas.{stands_by}
-use Rattle.descriptions.proofs.mentions.stands_in.Goals as goal
-
-pub returns : goal.returns
-returns c = stands_by c.contains.result c.args.text.now c.args.within.now (contains_text c.contains.result c.args.text.now c.args.within.now c.contains.ensures.cases)

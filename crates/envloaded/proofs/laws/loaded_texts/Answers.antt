@@ -1,9 +1,0 @@
-use Rattle.envloaded.proofs.LoadedAgain.{loaded_again}
-use Rattle.envloaded.proofs.LoadedReadable.{loaded_readable}
-use Rattle.envloaded.proofs.laws.loaded_texts.Goals as goal
-
-pub returns-clause-read_again : goal.returns-clause-read_again
-returns-clause-read_again c = loaded_again
-
-pub returns-clause-writable : goal.returns-clause-writable
-returns-clause-writable c = loaded_readable

@@ -1,7 +1,0 @@
-use Rattle.std.proofs.Common.{◌≡◌, map, take}
-use Rattle.envvars.specs.Texts.{slice_texts}
-use Rattle.envloaded.specs.LoadedEntries.{entry_view}
-use Rattle.envloaded.proofs.writing.files_text.Given as goal
-
-abbrev pub invariant-loop-entry : goal.invariant-loop-entry
-invariant-loop-entry l = slice_texts l.files.items ≡ map (λ x. x.path) (map entry_view (take l.entry-index l.list))

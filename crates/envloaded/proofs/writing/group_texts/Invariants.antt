@@ -1,7 +1,0 @@
-use Rattle.std.proofs.Common.{◌≡◌, map, take}
-use Rattle.envloaded.specs.LoadedTexts.{group_text}
-use Rattle.envvars.specs.Texts.{texts_in}
-use Rattle.envloaded.proofs.writing.group_texts.Given as goal
-
-abbrev pub invariant-loop-group : goal.invariant-loop-group
-invariant-loop-group l = texts_in l.texts ≡ map group_text (map texts_in (take l.group-index l.groups))

@@ -1,5 +1,0 @@
-use Rattle.envpaths.proofs.CounterLemmas.{SpellsCounter-counter_of, counter_of-SpellsCounter}
-use Rattle.envpaths.proofs.laws.counters.Goals as goal
-
-pub returns : goal.returns
-returns c = λ t n. (SpellsCounter-counter_of t n, counter_of-SpellsCounter t n)

@@ -1,7 +1,0 @@
-use Rattle.std.proofs.Common.{◌≡◌, ◌++◌, map, drop}
-use Rattle.envstacks.specs.StackTexts.{owners_of}
-use Rattle.envstacks.specs.StackItems.{item_in}
-use Rattle.envstacks.proofs.texts.owners_of.Given as goal
-
-abbrev pub invariant-loop-item : goal.invariant-loop-item
-invariant-loop-item l = map (λ x. x.now) l.owners.items ++ owners_of (map item_in (drop l.item-index l.items)) ≡ owners_of (map item_in l.items)

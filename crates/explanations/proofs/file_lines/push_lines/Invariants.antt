@@ -1,8 +1,0 @@
-use Rattle.std.proofs.Common.{◌≡◌, ◌++◌, map, string_bytes, take, Bor}
-use Rattle.std.specs.Prelude.{flat_map}
-use Rattle.terminaltext.specs.Shown.{Text}
-use Rattle.explanations.specs.FileLines.{shown_line}
-use Rattle.explanations.proofs.file_lines.push_lines.Given as goal
-
-abbrev pub invariant-loop-line : goal.invariant-loop-line
-invariant-loop-line l = string_bytes l.text ≡ string_bytes l.initial.text ++ flat_map shown_line (map (λ (x : Bor Text). x.now) (take l.line-index l.lines))

@@ -1,4 +1,0 @@
--- Which command of a modulefile failed.
-pub mod Failing
-pub mod Locations
-pub mod Views

@@ -1,5 +1,0 @@
-use Rattle.handchanges.proofs.Sessions.{moves_return}
-use Rattle.handchanges.proofs.laws.moves_return.Goals as goal
-
-pub returns : goal.returns
-returns c = moves_return c.runs.ensures.returned c.steps.ensures c.one_change.ensures

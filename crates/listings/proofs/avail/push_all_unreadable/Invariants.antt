@@ -1,8 +1,0 @@
-use Rattle.std.proofs.Common.{◌≡◌, ◌++◌, drop, flat_map, map, string_bytes}
-use Rattle.listings.specs.Reports.{unreadable_line}
-use Rattle.listings.proofs.avail.push_all_unreadable.Given as goal
-
-abbrev pub invariant-loop-path : goal.invariant-loop-path
-invariant-loop-path l =
-    string_bytes l.initial.report ++ flat_map (unreadable_line l.terminal) (map string_bytes l.paths)
-    ≡ string_bytes l.report ++ flat_map (unreadable_line l.terminal) (map string_bytes (drop l.path-index l.paths))

@@ -1,5 +1,0 @@
-use Rattle.std.proofs.Common.{◌≤◌}
-use Rattle.listings.proofs.readable.list_without.Given as goal
-
-abbrev pub invariant-loop : goal.invariant-loop
-invariant-loop g l = g.T.Tree.failures l.initial.tree.tree ≤ g.T.Tree.failures l.tree.tree

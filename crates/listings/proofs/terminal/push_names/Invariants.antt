@@ -1,9 +1,0 @@
-use Rattle.std.proofs.Common.{◌≡◌, ◌++◌, drop, flat_map, map, string_bytes}
-use Rattle.listings.specs.Reports.{name_line}
-use Rattle.listings.specs.Views.{name_view}
-use Rattle.listings.proofs.terminal.push_names.Given as goal
-
-abbrev pub invariant-loop-name : goal.invariant-loop-name
-invariant-loop-name l =
-    string_bytes l.initial.report ++ flat_map name_line (map name_view l.names)
-    ≡ string_bytes l.report ++ flat_map name_line (map name_view (drop l.name-index l.names))

@@ -1,5 +1,0 @@
-use Rattle.std.proofs.Common.{length}
-use Rattle.listings.proofs.texts.+stands_within.Given as goal
-
-abbrev pub decreases-stands_within : goal.decreases-stands_within
-decreases-stands_within l = length l.name.now

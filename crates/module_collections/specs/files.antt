@@ -1,0 +1,13 @@
+pub mod Entries
+pub mod Calls
+pub mod Names
+pub mod Places
+pub mod Faults
+pub mod Ends
+pub mod Failures
+pub mod Found
+pub mod Saves
+pub mod Removes
+pub mod PathKind
+pub mod PreparedSave
+pub mod Lists

@@ -1,0 +1,66 @@
+//! What is known of a name that isn't found.
+ghost use Rattle.std.specs.Prelude.{◌≡◌, false, true, IfOk, IfSome};
+ghost use Rattle.std.specs.Prelude.{◌<◌, IfErr};
+ghost use Rattle.envvars.specs.Texts.{slice_texts};
+ghost use Rattle.modules.specs.Answers.{cause_of};
+ghost use Rattle.filetree.specs.Agreement.{FailsOnlyByDevice, Narrows, ReadsOn};
+ghost use Rattle.requests.specs.Steps.{modulepath};
+ghost use Rattle.module_explain.specs.Advised as spec;
+ghost use Rattle.module_explain.specs.Views.{is_known};
+ghost use Rattle.module_explain.specs.FailedPaths.{IsDeviceOnlyIf};
+
+use crate::advice::Advice;
+use crate::alike::names_like;
+use crate::known::{asked, known};
+use crate::refused::RefusedRequest;
+use filetree::{Tree, TreeFault};
+use modules::Refusal;
+use requests::modulepath;
+use search::directories;
+
+/// Whether one of the directories is there.
+fn is_one_there<T: Tree>(tree: &mut T, directories: &[&str]) -> Result<bool, TreeFault>
+    ensures narrows { Narrows (T.agrees tree.old) (T.agrees tree.new) }
+    ensures cause { FailsOnlyByDevice (T.failures tree.old) (T.failures tree.new) result }
+    ensures none { IfOk result (λ is. is ≡ false → spec.NoneIsThere (T.agrees tree.new) (slice_texts directories.now)) }
+    ensures one { IfOk result (λ is. is ≡ true → spec.IsOneThere (T.agrees tree.new) (slice_texts directories.now)) }
+{
+    for directory in directories {
+        if tree.entries(directory)?.is_some() {
+            return Ok(true);
+        }
+    }
+    Ok(false)
+}
+
+/// For a name that isn't found: that nothing is searched, or names that are like it.
+///
+/// It fails where memory ran out, or the device failed.
+pub(crate) fn for_unknown<T: Tree>(
+    refused: RefusedRequest<'_>,
+    tree: &mut T,
+    name: &str,
+) -> Result<Option<Advice>, Refusal>
+    ensures reads { ReadsOn T.agrees T.failures tree.old tree.new }
+    ensures gave_up { IfErr result (λ refusal.
+        IsDeviceOnlyIf (cause_of refusal) (T.failures tree.old < T.failures tree.new)) }
+    ensures known { IfOk result (λ o. IfSome o (λ advice. is_known advice ≡ true)) }
+    ensures fits { IfOk result (spec.ForUnknown (T.agrees tree.new) refused.entry.limits
+        refused.entry.request.now.shell refused.entry.env.now (modulepath refused.entry.env.now) name.now) }
+{
+    let alloc = refused.alloc;
+    let searched = modulepath(refused.env);
+    if searched.is_empty() {
+        let line =
+            "No MODULEPATH is set: \"module use DIRECTORY\" adds one, and a site has its own in etc/modulespath.";
+        return Ok(known(alloc, Some(line))?);
+    }
+    let directories = directories(alloc, searched)?;
+    if !is_one_there(tree, directories.as_slice())? {
+        let mut line = String::from_str(alloc, "None of the directories of MODULEPATH is there: ")?;
+        line.push_str(searched)?;
+        return Ok(known(alloc, Some(line.as_str()))?);
+    }
+    let names = names_like(alloc, name, searched, tree, refused.limits)?;
+    Ok(asked(alloc, names.as_slice())?)
+}

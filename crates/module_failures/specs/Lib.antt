@@ -1,0 +1,5 @@
+pub mod places
+-- Which command of a modulefile failed.
+pub mod Failing
+pub mod Locations
+pub mod Views

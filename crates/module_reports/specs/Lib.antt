@@ -1,0 +1,3 @@
+pub mod listings
+pub mod completions
+pub mod descriptions

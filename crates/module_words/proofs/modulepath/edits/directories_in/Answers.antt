@@ -1,0 +1,13 @@
+use Rattle.std.proofs.Common.{Bool, [], ap, ◌∙◌, not, rules, tests}
+use Rattle.std.specs.Prelude.{bytes_eq, filter}
+use Rattle.std.proofs.lemmas.Fn.{filter_same}
+use Rattle.envvars.specs.Texts.{Text, slice_texts}
+use Rattle.envvars.proofs.TextLemmas.{slice_texts-filter}
+use Rattle.module_words.proofs.modulepath.ModulePathLemmas.{empty-length}
+use Rattle.module_words.proofs.modulepath.edits.directories_in.Goals as goal
+
+pub returns : goal.returns
+returns c =
+    let p : Text → Bool = λ element. not (bytes_eq element []) in
+    ap slice_texts (filter_same _ (λ y. p y.now) _ (λ x b g k. search (rules, tests, empty-length)) _ _ c.retain.ensures.filtered)
+    ∙ (slice_texts-filter p c.in_ok-list.list.items ∙ ap (filter p) c.in_ok-list.ensures)

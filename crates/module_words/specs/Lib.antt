@@ -1,0 +1,3 @@
+pub mod subcommands
+pub mod function
+pub mod modulepath

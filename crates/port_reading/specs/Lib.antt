@@ -1,0 +1,4 @@
+pub mod file_text
+pub mod script_text
+pub mod forms
+pub mod guards

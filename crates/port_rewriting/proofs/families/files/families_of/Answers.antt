@@ -1,0 +1,14 @@
+use Rattle.std.proofs.Common.{◌≡◌, List, ap, map, subst, sym, ◌∙◌}
+use Rattle.std.specs.Prelude.{IfOk}
+use Rattle.tcltext.specs.script.Tree.{Command}
+use Rattle.tcltext.specs.script.View.{command_view}
+use Rattle.port_reading.specs.forms.Words.{texts}
+use Rattle.port_reading.proofs.forms.Trees.{commands_of_script}
+use Rattle.port_rewriting.specs.families.Families.{families_of}
+use Rattle.port_rewriting.proofs.families.files.families_of.Goals as goal
+
+pub returns : goal.returns
+returns c =
+    subst (λ (cs : List Command). IfOk c.families_among.result (λ names. texts names.items ≡ families_of cs))
+    (ap (map (command_view (λ piece. piece.now))) c.as_slice.ensures.value ∙ sym (commands_of_script (λ piece. piece.now) c.args.script.now))
+    c.families_among.ensures

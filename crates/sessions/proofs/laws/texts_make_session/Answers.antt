@@ -1,5 +1,0 @@
-use Rattle.sessions.proofs.Chain.{chain}
-use Rattle.sessions.proofs.laws.texts_make_session.Goals as goal
-
-pub returns : goal.returns
-returns c s e rs ps end h n = chain c.difference_makes.ensures s e rs h.responses ps h.prints n

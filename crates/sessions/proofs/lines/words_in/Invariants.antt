@@ -1,8 +1,0 @@
-use Rattle.std.proofs.Common.{◌≡◌, take}
-use Rattle.std.specs.List.{flat_map}
-use Rattle.envvars.specs.Texts.{slice_texts, texts_in}
-use Rattle.sessions.specs.Lines.{words_between_tabs}
-use Rattle.sessions.proofs.lines.words_in.Given as goal
-
-abbrev pub invariant-loop-text : goal.invariant-loop-text
-invariant-loop-text l = texts_in l.words ≡ flat_map words_between_tabs (slice_texts (take l.text-index l.text-items))

@@ -1,8 +1,0 @@
-use Rattle.std.specs.Prelude.{string_bytes}
-use Rattle.std.proofs.lemmas.Result.{IfOk-weaker}
-use Rattle.modulefile.specs.Answers.{question_answer}
-use Rattle.settled.proofs.asking.asks_way.Goals as goal
-
-pub returns-in-Command : goal.returns-in-Command
-returns-in-Command c =
-    rw c.in-Command.is (IfOk-weaker c.words_ask_way.result _ _ (λ asks h. rw c.as_slice.ensures.value at (h (question_answer (string_bytes c.in-Command.field-1)))) c.words_ask_way.ensures)

@@ -1,7 +1,0 @@
-use Rattle.std.proofs.Common.{◌≡◌, map, flat_map, take, string_bytes}
-use Rattle.filetree.specs.Modulefiles.{directories}
-use Rattle.sitelaws.specs.DirectorySets.{with_directories}
-use Rattle.siteaudit.proofs.directories.push_each.Given as goal
-
-abbrev pub invariant-loop-element : goal.invariant-loop-element
-invariant-loop-element l = map string_bytes l.dirs.keys ≡ with_directories (map string_bytes l.initial.dirs.keys) (flat_map directories (map string_bytes (take l.element-index l.elements)))

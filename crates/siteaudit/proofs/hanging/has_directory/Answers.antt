@@ -1,6 +1,0 @@
-use Rattle.std.proofs.Common.{◌∙◌}
-use Rattle.siteaudit.proofs.NameLemmas.{any_named}
-use Rattle.siteaudit.proofs.hanging.has_directory.Goals as goal
-
-pub returns : goal.returns
-returns c = c.contains.ensures ∙ any_named c.args.dir.now c.args.dirs.now.keys

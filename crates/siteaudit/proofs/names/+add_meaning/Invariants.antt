@@ -1,5 +1,0 @@
-use Rattle.std.proofs.Common.{length}
-use Rattle.siteaudit.proofs.names.+add_meaning.Given as goal
-
-abbrev pub decreases-add_meaning : goal.decreases-add_meaning
-decreases-add_meaning l = length l.full_name.now

@@ -1,9 +1,0 @@
-use Rattle.std.proofs.Common.{◌≡◌, ◌++◌, map, take, string_bytes}
-use Rattle.siteaudit.specs.Audits.{mention_of, conflict_mention}
-use Rattle.siteaudit.specs.SettledRuns.{evaluated_file}
-use Rattle.siteaudit.proofs.names.push_conflicts.Given as goal
-
-abbrev pub invariant-loop-name : goal.invariant-loop-name
-invariant-loop-name l =
-    map mention_of l.found.items
-    ≡ map mention_of l.initial.found.items ++ map (conflict_mention (evaluated_file l.module)) (map string_bytes (take l.name-index l.names))

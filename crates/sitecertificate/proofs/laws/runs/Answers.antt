@@ -1,5 +1,0 @@
-use Rattle.sitecertificate.proofs.Runs.{runs_stand}
-use Rattle.sitecertificate.proofs.laws.runs.Goals as goal
-
-pub returns : goal.returns
-returns c = runs_stand c.runs.ensures.returned c.steps.ensures

@@ -1,8 +1,0 @@
-use Rattle.std.proofs.Common.{map, take}
-use Rattle.sitecertificate.specs.Users.{uses_of_modules}
-use Rattle.sitecertificate.specs.Tallies.{HasCounts}
-use Rattle.sitecertificate.specs.UsingModules.{candidate_in}
-use Rattle.sitecertificate.proofs.tally.Tally.of.Given as goal
-
-abbrev pub invariant-loop-candidate : goal.invariant-loop-candidate
-invariant-loop-candidate l = HasCounts l.tally (uses_of_modules (map candidate_in (take l.candidate-index l.users)))

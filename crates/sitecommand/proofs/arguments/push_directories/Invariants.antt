@@ -1,6 +1,0 @@
-use Rattle.std.proofs.Common.{◌≡◌, ◌++◌, map, string_bytes, take}
-use Rattle.sitecommand.specs.Arguments.{directories_in}
-use Rattle.sitecommand.proofs.arguments.push_directories.Given as goal
-
-abbrev pub invariant-loop-word : goal.invariant-loop-word
-invariant-loop-word l = map string_bytes l.directories.items ≡ map string_bytes l.initial.directories.items ++ directories_in (map string_bytes (take l.word-index l.words))

@@ -1,7 +1,0 @@
-use Rattle.sitelaws.proofs.Returned.{site_commands_return}
-use Rattle.sitelaws.proofs.laws.command_returns.Goals as goal
-
-pub returns : goal.returns
-returns c =
-    site_commands_return c.files.ensures.one c.outcomes.ensures.reach c.certified.ensures.exact c.conflicts.ensures c.steps.ensures.kept
-    c.settled_records.ensures

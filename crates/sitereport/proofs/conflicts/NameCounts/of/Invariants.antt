@@ -1,7 +1,0 @@
-use Rattle.std.proofs.Common.{take}
-use Rattle.envvars.specs.Texts.{slice_texts}
-use Rattle.sitereport.specs.Counts.{HasCounts}
-use Rattle.sitereport.proofs.conflicts.NameCounts.of.Given as goal
-
-abbrev pub invariant-loop-name : goal.invariant-loop-name
-invariant-loop-name l = HasCounts l.counts (slice_texts (take l.name-index l.names))

@@ -1,8 +1,0 @@
-use Rattle.std.proofs.Common.{flat_map, take}
-use Rattle.json.specs.Tree.{json_tokens}
-use Rattle.sitereport.specs.Documents.{unknown_value}
-use Rattle.sitereport.specs.Tokens.{AddsTokens}
-use Rattle.sitereport.proofs.document.write_unknowns.Given as goal
-
-abbrev pub invariant-loop-unknown : goal.invariant-loop-unknown
-invariant-loop-unknown l = AddsTokens l.initial.writer l.writer (flat_map (λ x. json_tokens (unknown_value x)) (take l.unknown-index l.unknowns))

@@ -1,6 +1,0 @@
-use Rattle.std.proofs.Common.{◌≡◌, map, string_bytes, take}
-use Rattle.sitereport.specs.Remarks.{disagreement_words}
-use Rattle.sitereport.proofs.remarks.all_words.Given as goal
-
-abbrev pub invariant-loop-reason : goal.invariant-loop-reason
-invariant-loop-reason l = map string_bytes l.words.items ≡ map disagreement_words (take l.reason-index l.reasons)

@@ -1,6 +1,0 @@
-use Rattle.std.proofs.Common.{◌≡◌, ◌++◌, flat_map, take}
-use Rattle.sitereport.specs.Remarks.{quoted_name}
-use Rattle.sitereport.proofs.remarks.push_names.Given as goal
-
-abbrev pub invariant-loop-name : goal.invariant-loop-name
-invariant-loop-name l = l.report.items ≡ l.initial.report.items ++ flat_map quoted_name (take l.name-index l.names)

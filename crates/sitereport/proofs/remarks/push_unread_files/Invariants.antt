@@ -1,6 +1,0 @@
-use Rattle.std.proofs.Common.{◌≡◌, ◌++◌, flat_map, take}
-use Rattle.sitereport.specs.Remarks.{unread_file_line}
-use Rattle.sitereport.proofs.remarks.push_unread_files.Given as goal
-
-abbrev pub invariant-loop-path : goal.invariant-loop-path
-invariant-loop-path l = l.report.items ≡ l.initial.report.items ++ flat_map unread_file_line (take l.path-index l.paths)

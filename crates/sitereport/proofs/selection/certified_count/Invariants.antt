@@ -1,9 +1,0 @@
-use Rattle.std.proofs.Common.{◌≡◌, ◌≤◌, take}
-use Rattle.sitereport.specs.Words.{certified_count}
-use Rattle.sitereport.proofs.selection.certified_count.Given as goal
-
-abbrev pub invariant-loop-module : goal.invariant-loop-module
-invariant-loop-module l = record {
-  value : l.count ≡ certified_count (take l.module-index l.modules);
-  bound : l.count ≤ l.module-index;
-}

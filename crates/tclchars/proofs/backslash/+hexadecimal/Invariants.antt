@@ -1,4 +1,0 @@
-use Rattle.tclchars.proofs.backslash.+hexadecimal.Given as goal
-
-abbrev pub decreases-hexadecimal : goal.decreases-hexadecimal
-decreases-hexadecimal l = l.digits

@@ -1,5 +1,0 @@
-use Rattle.tclchars.proofs.NumberLemmas.{DigitsSoFar}
-use Rattle.tclchars.proofs.number.digits_in.Given as goal
-
-abbrev pub invariant-loop-digit : goal.invariant-loop-digit
-invariant-loop-digit l = DigitsSoFar l.base l.digits l.digit-index l.n

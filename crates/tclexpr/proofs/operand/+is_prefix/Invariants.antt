@@ -1,5 +1,0 @@
-use Rattle.std.proofs.Common.{length}
-use Rattle.tclexpr.proofs.operand.+is_prefix.Given as goal
-
-abbrev pub decreases-is_prefix : goal.decreases-is_prefix
-decreases-is_prefix l = length l.word.now

@@ -1,6 +1,0 @@
-use Rattle.std.proofs.Common.{sym}
-use Rattle.tclexpr.proofs.OperandSound.{number_end}
-use Rattle.tclexpr.proofs.operand.read_numeric.Goals as goal
-
-pub taken-requires-clause-rest : goal.taken-requires-clause-rest
-taken-requires-clause-rest g c = number_end c.args.text.now c.in-Some.rest.now (sym c.in-Some.ensures)

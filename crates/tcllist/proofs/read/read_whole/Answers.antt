@@ -1,5 +1,0 @@
-use Rattle.tcllist.proofs.ListAnswers.{within}
-use Rattle.tcllist.proofs.read.read_whole.Goals as goal
-
-pub with_offset-requires : goal.with_offset-requires
-with_offset-requires c = within c.args.text.now c.in-Err-Fault.fault (rw c.in-Err-Fault.field-0-is at c.in-Err-Fault.ensures)

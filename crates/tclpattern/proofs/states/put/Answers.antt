@@ -1,8 +1,0 @@
-use Rattle.tclpattern.proofs.RowLemmas.{put-here, put-elsewhere}
-use Rattle.tclpattern.proofs.states.put.Goals as goal
-
-pub returns-clause-here : goal.returns-clause-here
-returns-clause-here c = put-here c.args.states.now c.args.at c.with_bit.result c.args.value c.requires c.with_bit.ensures.here
-
-pub returns-clause-elsewhere : goal.returns-clause-elsewhere
-returns-clause-elsewhere c = put-elsewhere c.args.states.now c.args.at c.with_bit.result c.requires c.with_bit.ensures.elsewhere

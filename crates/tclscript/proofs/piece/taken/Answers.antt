@@ -1,5 +1,0 @@
-use Rattle.tclscript.proofs.Ends.{end_cut}
-use Rattle.tclscript.proofs.piece.taken.Goals as goal
-
-pub split_at-requires : goal.split_at-requires
-split_at-requires g c = end_cut c.args.text.now c.args.rest.now c.utf8.rest c.requires.rest

@@ -1,5 +1,0 @@
-use Rattle.tclscript.proofs.Skips.{Commented}
-use Rattle.tclscript.proofs.runs.skip_comment.Given as goal
-
-abbrev pub invariant-loop-n : goal.invariant-loop-n
-invariant-loop-n l = Commented l.bytes l.escaped l.n

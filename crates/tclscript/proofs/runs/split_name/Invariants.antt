@@ -1,5 +1,0 @@
-use Rattle.tclscript.proofs.Scans.{Scanned}
-use Rattle.tclscript.proofs.runs.split_name.Given as goal
-
-abbrev pub invariant-loop-n : goal.invariant-loop-n
-invariant-loop-n l = Scanned l.bytes l.after_colon l.n

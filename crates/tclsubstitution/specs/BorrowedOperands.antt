@@ -1,8 +1,0 @@
--- The text of an operand that is borrowed (own).
-use Rattle.tclchars.specs.Runs.{Text}
-use Rattle.tclsubstitution.specs.declared.borrowed_operands.BorrowedOperand.{BorrowedOperand}
-use Rattle.tclsubstitution.specs.declared.borrowed_operands.BorrowedOperand.TheVariants as operands
-
-abbrev pub operand_text : BorrowedOperand → Text
-operand_text (operands.Literal t) = t.now
-operand_text (operands.Variable content) = content.now

@@ -1,0 +1,11 @@
+use Rattle.tcltext.proofs.list.ListAnswers.{reads_found, reads_only, reads_fault}
+use Rattle.tcltext.proofs.list.read.parse_list.Goals as goal
+
+pub returns-clause-found : goal.returns-clause-found
+returns-clause-found c = reads_found c.args.text.now c.read_whole.result c.read_whole.ensures
+
+pub returns-clause-only : goal.returns-clause-only
+returns-clause-only c = reads_only c.args.text.now c.read_whole.result c.read_whole.ensures
+
+pub returns-clause-fault : goal.returns-clause-fault
+returns-clause-fault c = reads_fault c.args.text.now c.read_whole.result c.read_whole.ensures

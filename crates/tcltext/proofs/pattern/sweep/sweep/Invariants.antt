@@ -1,0 +1,18 @@
+use Rattle.std.proofs.Common.{◌≡◌, ◌+◌, ◌≤◌, ℕ, List, length}
+use denote.Text.{Utf8}
+use denote.Shadow.{shadow}
+use Rattle.std.specs.Str.{chars}
+use Rattle.tcltext.specs.pattern.Search.States.{StatesOf}
+use Rattle.tcltext.proofs.pattern.RowLemmas.{IsSwept}
+use Rattle.tcltext.proofs.pattern.sweep.sweep.Given as goal
+
+abbrev pub invariant-loop-rest : goal.invariant-loop-rest
+invariant-loop-rest l = record {
+  utf8 : shadow (Utf8 l.prefix);
+  len : length l.states ≡ length l.fn.states;
+  at : l.at + length l.prefix ≤ length l.pattern;
+  swept : (cs : List ℕ) → StatesOf (chars l.pattern) cs l.fn.states → IsSwept (chars l.pattern) (chars l.prefix) l.states l.at l.c cs l.window;
+}
+
+abbrev pub decreases-loop-rest : goal.decreases-loop-rest
+decreases-loop-rest l = length l.prefix

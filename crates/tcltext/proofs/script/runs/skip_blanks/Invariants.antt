@@ -1,0 +1,17 @@
+use Rattle.std.proofs.Common.{◌≡◌, false, length}
+use denote.Text.{Utf8}
+use denote.Shadow.{shadow}
+use Rattle.tcltext.specs.chars.Bytes.{is_blank}
+use Rattle.tcltext.specs.chars.Classes.{begins_in}
+use Rattle.tcltext.specs.script.ScanState.{skip_blanks}
+use Rattle.tcltext.proofs.script.runs.skip_blanks.Given as goal
+
+abbrev pub invariant-loop-next : goal.invariant-loop-next
+invariant-loop-next l = record {
+  utf8 : shadow (Utf8 l.rest);
+  stops : begins_in is_blank l.rest ≡ false;
+  same : skip_blanks l.text ≡ skip_blanks l.rest;
+}
+
+abbrev pub decreases-loop-next : goal.decreases-loop-next
+decreases-loop-next l = length l.rest

@@ -1,6 +1,0 @@
-use Rattle.std.proofs.Common.{◌∙◌}
-use Rattle.tclvariables.proofs.Names.{any_named}
-use Rattle.tclvariables.proofs.local.Local.sees.Goals as goal
-
-pub returns : goal.returns
-returns c = rw (← c.self.view_is) (c.contains.ensures ∙ any_named c.args.name.now c.self.inside.shared.keys)

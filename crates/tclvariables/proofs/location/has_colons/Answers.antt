@@ -1,7 +1,0 @@
-use Rattle.std.proofs.Common.{[], ◌∷◌}
-use Rattle.std.proofs.lemmas.Str.Pattern.{contains_text}
-use Rattle.tclvariables.proofs.Colons.{colons_by}
-use Rattle.tclvariables.proofs.location.has_colons.Goals as goal
-
-pub returns : goal.returns
-returns c = colons_by c.contains.result c.args.name.now (contains_text c.contains.result (58 ∷ 58 ∷ []) c.args.name.now c.contains.ensures.cases)

@@ -1,0 +1,4 @@
+use Rattle.terminal.proofs.text.table.+push_row.Given as goal
+
+abbrev pub decreases-push_row : goal.decreases-push_row
+decreases-push_row l = l.count

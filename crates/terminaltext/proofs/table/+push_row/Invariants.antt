@@ -1,4 +1,0 @@
-use Rattle.terminaltext.proofs.table.+push_row.Given as goal
-
-abbrev pub decreases-push_row : goal.decreases-push_row
-decreases-push_row l = l.count

@@ -1,8 +1,0 @@
-use Rattle.std.proofs.Common.{◌≡◌, map, drop}
-use Rattle.terminaltext.specs.Tables.{most_of, widest}
-use Rattle.terminaltext.specs.CellViews.{cell_view}
-use Rattle.terminaltext.proofs.table.widest.Given as goal
-
-abbrev pub invariant-loop-cell : goal.invariant-loop-cell
-invariant-loop-cell l =
-    widest (map cell_view l.cells) ≡ most_of l.widest (map cell_view (drop l.cell-index l.cells))

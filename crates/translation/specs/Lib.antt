@@ -1,9 +1,0 @@
-pub mod Aliasing
-pub mod AliasingViews
-pub mod Notes
-pub mod OptionViews
-pub mod Options
-pub mod Places
-pub mod TranslationViews
-pub mod Translations
-pub mod Writing

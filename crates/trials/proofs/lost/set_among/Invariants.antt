@@ -1,7 +1,0 @@
-use Rattle.std.proofs.Common.{◌≡◌, map, string_bytes, take}
-use Rattle.envvars.specs.Texts.{texts_in}
-use Rattle.trials.specs.Trials.{set_among}
-use Rattle.trials.proofs.lost.set_among.Given as goal
-
-abbrev pub invariant-loop-name : goal.invariant-loop-name
-invariant-loop-name l = texts_in l.set ≡ set_among l.env (map string_bytes (take l.name-index l.names))
