@@ -2,7 +2,7 @@
 
 Random trees of modulefiles, of which each uses variables as it likes, and of which some read variables and leave what
 these say, some ask for the mode, the switch or the shell, and undo the same in each way or don't, some ask for
-something else, undo nothing or are refused, and some are withheld by hand; a random environment that agrees with some
+something else, undo nothing or are refused, and some are excluded by hand; a random environment that agrees with some
 of what the certified modules of the site use (`models/standings.py` says which these are, and which starts agree), and
 mostly has the values of the audit; and random lists of loads, unloads, switches and purges, in which each accepted load
 is of a certified module with whose uses the start agrees and whose reads have in it the values of the audit, and each
@@ -42,7 +42,7 @@ MOST_SITES = 20_000
 
 
 class Site:
-    """A tree, a MODULEPATH where its site begins, the other variables of its audit, the names of what is withheld, and
+    """A tree, a MODULEPATH where its site begins, the other variables of its audit, the names of what is excluded, and
     what is certified there."""
 
     def __init__(self, tree, modulepath, others, without=()):
@@ -87,9 +87,9 @@ HOME = "/home/x y"
 TEXTS = (HOME, "v", "a b", "")
 CONDITIONS = st.sampled_from(list(sentence.CONDITIONS))
 OTHERS = ("m", "k", "z", "z/1", "n", "w", "w_1", "m/1", "c", "a")
-# What may be withheld: mostly nothing.
+# What may be excluded: mostly nothing.
 NAMED = st.sampled_from([*sentence.NAMES, *sentence.FOLDERS, *sentence.ODD_NAMES])
-WITHHELD = st.one_of(st.just([]), st.just([]), several(NAMED, 4))
+EXCLUDED = st.one_of(st.just([]), st.just([]), several(NAMED, 4))
 
 
 def odd_lines(variables):
@@ -200,7 +200,7 @@ def sites(draw, shell, dirs):
     tree = draw(sentence.trees(dirs, lines(dirs, kinds), in_all))
     first = draw(st.lists(st.sampled_from(dirs), min_size=1, max_size=3, unique=True))
     others = {"HOME": HOME, "OTHER": draw(st.sampled_from([*TEXTS, *sentence.startable(shell)]))}
-    return Site(tree, ":".join(first), others, draw(WITHHELD))
+    return Site(tree, ":".join(first), others, draw(EXCLUDED))
 
 
 # Starts.
@@ -253,7 +253,7 @@ class Session(hands.ByHand):
     def ways(self):
         """How the live modules use variables, by what they recorded."""
         live = self.live_modules()
-        return truly(standings.uses_by, [SiteModule(*place, standings.in_all_ways(records)) for *place, records in live])
+        return truly(standings.uses_by, [SiteModule(*place, standings.in_all_contexts(records)) for *place, records in live])
 
     def is_read(self, name):
         return not standings.may_be_changed(name, [self.places[place] for place in self.live()])
@@ -337,19 +337,19 @@ def uses_in(values):
 
 def standing_in(value):
     """A module of the document: its place, its standing and its further ones, and what a certified one reads."""
-    stands = [value, *value.get("further", [])]
+    stands = [value, *value.get("other_reasons", [])]
     return value["name"], value["path"], [one["standing"] for one in stands], value.get("reads", [])
 
 
 def standing_by(module, modules):
     """The same by the model."""
-    stands = [standings.standing_of(module, modules), *standings.further_of(module, modules)]
+    stands = [standings.standing_of(module, modules), *standings.other_reasons_of(module, modules)]
     return module.name, module.path, stands, list(module.reads) if stands == ["certified"] else []
 
 
 def clashes_in(value):
     """The clashes of a module of the document: the other's place, the variable and both uses, how many use it so."""
-    found = [one for one in [value, *value.get("further", [])] if one["standing"] == "clashes"]
+    found = [one for one in [value, *value.get("other_reasons", [])] if one["standing"] == "clashes"]
     places = [(one["other"]["name"], one["other"]["path"]) for one in found]
     return [(place, (one["variable"], *map(use_of, one["uses"])), one["alike"]) for place, one in zip(places, found)]
 
@@ -359,7 +359,7 @@ def is_clash(module, place, pair, alike, site):
     others = [other for other in site.certified if (other.name, other.path) == place]
     name, _, theirs = pair
     known = [clash for other in others for clash in standings.clashes_of(module, other)]
-    return pair in known and alike == standings.users_alike(site.modules, name, theirs)
+    return pair in known and alike == standings.users_of_one_use(site.modules, name, theirs)
 
 
 def wrong_clashes(found, modules, site):
@@ -383,7 +383,7 @@ def differs(found, site):
         "the certificate": (uses_in(found["certificate"]), standings.certificate(modules)),
         "the missing directories": (found["missing_directories"], standings.missing(site.directories, os.path.isdir)),
         "the directories that hang": (
-            [(one["name"], one["path"], one["directory"]) for one in found["hanging_directories"]],
+            [(one["name"], one["path"], one["directory"]) for one in found["unreachable_directories"]],
             [(one.name, one.path, directory) for one, directory in standings.hanging(site.modulepath, modules)],
         ),
         "the files that are no modulefiles": (found["no_modulefiles"], []),
@@ -497,16 +497,16 @@ TO_AND_FRO = ["sh load n", "sh unload n"]
 
 CASES = {
     "that the ways undo alike": Case(
-        {"n": [("by way", "unloads", ADDS, NONE)]}, "asks", {"P": "/q"}, TO_AND_FRO
+        {"n": [("by way", "unloads", ADDS, NONE)]}, "unstable", {"P": "/q"}, TO_AND_FRO
     ),
     "that loads can be undone in each way": Case(
         {"n": [("by way", "in csh", ("remove-path", ":", "P", ["/q"]), NONE)]},
-        "asks",
+        "unstable",
         {"P": "/q:/r"},
         ["csh load n", "csh unload n"],
     ),
     "that loads keep the same variables absent in each way": Case(
-        {"n": [("by way", "in csh", ("unsetenv", "P", None), NONE)]}, "asks", {"P": "/q"}, ["csh load n", "csh unload n"]
+        {"n": [("by way", "in csh", ("unsetenv", "P", None), NONE)]}, "unstable", {"P": "/q"}, ["csh load n", "csh unload n"]
     ),
     # The load of the one that unsets V takes it from the one that sets it.
     "that an unset without a value is a use": Case(
@@ -518,27 +518,27 @@ CASES = {
     # Both set V where csh loads them, and the unload of one takes it from the other.
     "that loads are in conflict with the same names in each way": Case(
         {"n": [SETS, ("by way", "in csh", NONE, ("conflict", ["w_1"]))], "w_1": [SETS]},
-        "asks",
+        "unstable",
         {},
         ["csh load n", "csh load w_1", "csh unload n"],
     ),
     "that what another way asks rests": Case(
         {"n": [("by way", "unloads", ("reads", model.NAMES, "is", "n", ADDS, NONE), NONE)]},
-        "asks",
+        "unstable",
         {"P": "/q"},
         TO_AND_FRO,
     ),
     # The mode is asked for in sh, and what csh would do isn't seen.
     "that another way asks no more": Case(
         {"n": [("by way", "unloads", ("by way", "in csh", ADDS, NONE), NONE)]},
-        "asks",
+        "unstable",
         {"P": "/q"},
         ["sh load n", "csh unload n"],
     ),
     # With w_1 loaded it adds what it doesn't add alone, and the unload takes it out.
     "that what is loaded is answered by each choice": Case(
         {"n": [("by way", "beside w_1", ADDS, NONE)], "w_1": [SETS]},
-        "asks",
+        "unstable",
         {"P": "/q"},
         ["sh load n", "sh load w_1", "sh unload n"],
     ),
@@ -551,7 +551,7 @@ CASES = {
             ],
             "w_1": [SETS],
         },
-        "asks",
+        "unstable",
         {"P": "/q"},
         ["sh load n", "sh load w_1", "sh unload n"],
     ),
@@ -663,7 +663,7 @@ def test_modules_that_ask_for_their_way(programs, product, tmp_path, shell):
 
 def site_module(name, *records, reads=()):
     asked = [Question(VARIABLE, variable) for variable in reads]
-    return SiteModule(name, f"/m/{name}", standings.in_all_ways(records, asked))
+    return SiteModule(name, f"/m/{name}", standings.in_all_contexts(records, asked))
 
 
 LIB = [site_module(f"lib/{number:03}", ("prepend-path", ":", "PYTHONPATH", ["/x"])) for number in range(200)]

@@ -46,11 +46,11 @@ ROWS = {
         {"a/1": "remove-path V /b\n"}, ["one-way"], ["load a", "unload a"], {"V": "/a"}, {"V": "/a:/b"}
     ),
     "a variable that is set and pushed": Row(
-        {"a/1": "setenv V x\npushenv V y\n"}, ["out-of-step"], ["load a", "unload a"], {"V": "x"}
+        {"a/1": "setenv V x\npushenv V y\n"}, ["inconsistent"], ["load a", "unload a"], {"V": "x"}
     ),
     "two delimiters in one module": Row(
         {"a/1": "append-path V b\nappend-path -d , V c\n"},
-        ["out-of-step"],
+        ["inconsistent"],
         ["load a", "unload a"],
         {"V": "a:b"},
         {"V": "a"},
@@ -65,35 +65,35 @@ ROWS = {
     ),
     "a MODULEPATH that is pushed": Row(
         {"a/1": "append-path MODULEPATH /x\npushenv MODULEPATH /y\n"},
-        ["out-of-step"],
+        ["inconsistent"],
         ["load a", "unload a/1"],
         {"MODULEPATH": "/m:/x"},
     ),
     # Questions whose answers don't stay, and variables that are read and used: the unload undoes other records.
     "an answer that the mode gives": Row(
         {"a/1": "append-path V /[module-info mode load]\n"},
-        ["asks"],
+        ["unstable"],
         ["load a", "unload a"],
         {"V": "/a:/1"},
         {"V": "/a"},
     ),
     "an answer that the shell gives": Row(
         {"a/1": "append-path V /[module-info shell]\n"},
-        ["asks"],
+        ["unstable"],
         ["bash load a", "zsh unload a"],
         {"V": "/a:/bash"},
         {"V": "/a"},
     ),
     "an answer that a switch gives": Row(
         {"a/1": "append-path V /[module-info mode switch]\n", "b/1": "setenv W x\n"},
-        ["asks", "certified"],
+        ["unstable", "certified"],
         ["load a", "switch a b", "unload b"],
         {"V": "/a:/0"},
         {"V": "/a"},
     ),
     "conflicts that the shell gives": Row(
         {"a/1": "setenv V x\nconflict [module-info shell]\n", "sh/1": "setenv V y\n"},
-        ["asks", "certified"],
+        ["unstable", "certified"],
         ["zsh load a", "load sh", "unload a"],
         {"V": None, "LOADEDMODULES": "sh/1", "_LMFILES_": "/m/sh/1"},
     ),
@@ -106,28 +106,28 @@ ROWS = {
     ),
     "an answer that another module gives": Row(
         {"a/1": "append-path V /[is-loaded b]\n", "b/1": "setenv W x\n"},
-        ["asks", "certified"],
+        ["unstable", "certified"],
         ["load b", "load a", "unload b", "unload a"],
         {"V": "/a:/1"},
         {"V": "/a"},
     ),
     "an answer that the load gives": Row(
         {"a/1": "append-path V /[getenv W]\nsetenv W x\n"},
-        ["asks"],
+        ["unstable"],
         ["load a", "unload a"],
         {"V": "/a:/"},
         {"V": "/a"},
     ),
     "an answer that the unload takes": Row(
         {"a/1": "setenv W x\nappend-path V /[getenv W]\n"},
-        ["asks"],
+        ["unstable"],
         ["load a", "unload a"],
         {"V": "/a:/x"},
         {"V": "/a"},
     ),
     "an answer of the tool": Row(
         {"a/1": "append-path V /[getenv LOADEDMODULES]\n", "b/1": "setenv W x\n"},
-        ["asks", "certified"],
+        ["unstable", "certified"],
         ["load a", "load b", "unload a", "unload b"],
         {"V": "/a:/"},
         {"V": "/a"},
@@ -364,5 +364,5 @@ def test_modules_stand_as_the_row_says(row):
 
 def test_each_standing_has_a_row():
     standing = {word for row in ROWS.values() for word in row.stand}
-    words = ["asks", "certified", "clashes", "one-way", "out-of-step", "refused"]
+    words = ["unstable", "certified", "clashes", "one-way", "inconsistent", "refused"]
     same(sorted(standing), words, "the standings of the rows")

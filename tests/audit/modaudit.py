@@ -94,7 +94,7 @@ class Site:
 
 
 # The remark on a further standing of a module.
-FURTHER = "# {0} (/m/{0}): {1}, and {2}"
+OTHER_REASON = "# {0} (/m/{0}): {1}, and {2}"
 
 
 def row_of(lines):
@@ -123,7 +123,7 @@ def place_of(name, files):
 
 
 # The standings of which a report has the sums, in its order (modaudit(1), How modules stand).
-OTHERS = ("asks", "one-way", "out-of-step", "withheld", "clashes", "refused")
+OTHERS = ("unstable", "one-way", "inconsistent", "excluded", "clashes", "refused")
 
 
 def counts_of(words):
@@ -146,7 +146,7 @@ def test_the_standing_of_each_row(folder, files, rows, remarks):
 
 def test_each_standing_has_a_row():
     words = {word for _, rows, *_ in ROWS.values() for _, word, _ in rows}
-    by_rules = [word for word in ("certified", *OTHERS) if word != "withheld"]
+    by_rules = [word for word in ("certified", *OTHERS) if word != "excluded"]
     same(sorted(words), sorted(by_rules), "the standings of the rows")
 
 
@@ -165,7 +165,7 @@ CLASHING = {name: row[:2] for name, row in ROWS.items() if standing_so(row[1], "
 
 @pytest.mark.parametrize("files, rows", CLASHING.values(), ids=CLASHING)
 def test_none_that_stands_aside_could_be_certified(folder, files, rows):
-    """Where the others that stand aside are withheld, each of them isn't certified beside all that are."""
+    """Where the others that are rejected are excluded, each of them isn't certified beside all that are."""
     site, sure, aside = Site(folder, files), standing_so(rows, "certified"), standing_so(rows, "clashes")
     for name in aside:
         words = [word for other in aside if other != name for word in ("--without", other)]
@@ -201,19 +201,19 @@ def test_two_files_of_one_name(folder):
 
 # What happens here: the load and the unload of each module that isn't certified, in the environment of the audit.
 
-RETURNS = {"trial": "returns"}
+RETURNS = {"dry_run": "returns"}
 
 
 def leaves(*names):
-    return {"trial": "leaves", "variables": list(names)}
+    return {"dry_run": "leaves", "variables": list(names)}
 
 
 def refused(what, text):
-    return {"trial": f"{what}-refused", "refusal": text}
+    return {"dry_run": f"{what}-refused", "refusal": text}
 
 
 def loads(name, path):
-    return {"trial": "another", "name": name, "path": path}
+    return {"dry_run": "another", "name": name, "path": path}
 
 
 # By what happens: modulefiles, the environment, and of each module that has a fifth field its place, the field, and what
@@ -255,7 +255,7 @@ HERE_ROWS = {
     "a module that is loaded": (
         {"/m/a/1": "is-loaded\n"},
         {"LOADEDMODULES": "a/1", "_LMFILES_": "/m/a/1"},
-        [("/m/a/1", "is loaded", {"trial": "loaded"})],
+        [("/m/a/1", "is loaded", {"dry_run": "loaded"})],
     ),
     "another of its name": (
         {"/m/a/1": "", "/n/a/1": "is-loaded\n"},
@@ -309,22 +309,22 @@ def test_what_happens_here(folder, files, variables, rows):
 
 
 def test_what_happens_in_the_directories_of_the_command(folder):
-    """A module that is withheld, and one that would be another's with the MODULEPATH of the environment."""
+    """A module that is excluded, and one that would be another's with the MODULEPATH of the environment."""
     site = Site(folder, {"/m/a/1": "setenv V x\n", "/m/b/1": "is-loaded\n", "/n/b/1": "setenv V x\n"}, "/n")
     there = os.fsdecode(real(folder, "/m"))
-    lines = ["a/1\twithheld\t--without\t/m/a/1\treturns", "b/1\tasks\tis-loaded\t/m/b/1\treturns"]
-    site.says([*lines, "# 0 certified of 2", "# 1 asks", "# 1 withheld"], "--without", "a", there)
+    lines = ["a/1\texcluded\t--without\t/m/a/1\treturns", "b/1\tunstable\tis-loaded\t/m/b/1\treturns"]
+    site.says([*lines, "# 0 certified of 2", "# 1 unstable", "# 1 excluded"], "--without", "a", there)
 
 
-# Modules that are withheld by hand.
+# Modules that are excluded by hand.
 
 
-# Who uses one variable beside those that are withheld, and how.
+# Who uses one variable beside those that are excluded, and how.
 USES_OF_V = (("c", "stack"), ("d", "read"))
 
 
-def test_modules_that_are_withheld(folder):
-    """Of those that would be judged together those are withheld that a name means; the others are judged without them,
+def test_modules_that_are_excluded(folder):
+    """Of those that would be judged together those are excluded that a name means; the others are judged without them,
     and what asks or is refused stands as it does with them."""
     files = {
         "/m/ask/1": "setenv A 1\nis-loaded\n",
@@ -336,35 +336,35 @@ def test_modules_that_are_withheld(folder):
         "/m/f/1": "nope\n",
     }
     site = Site(folder, files)
-    besides = ["e/1\tout-of-step\tE: set, and stack\t/m/e/1", 'f/1\trefused\tinvalid command name "nope" (line 2)\t/m/f/1']
-    first = "ask/1\tasks\tis-loaded\t/m/ask/1"
+    besides = ["e/1\tinconsistent\tE: set, and stack\t/m/e/1", 'f/1\trefused\tinvalid command name "nope" (line 2)\t/m/f/1']
+    first = "ask/1\tunstable\tis-loaded\t/m/ask/1"
     lines = [first, "b/1\tcertified\t\t/m/b/1", "b/2\tcertified\t\t/m/b/2"]
     lines += ["c/1\tclashes\tV: stack here, set in b/1 (/m/b/1); used so by 2\t/m/c/1"]
     lines += ["d/1\tclashes\tV: read here, set in b/1 (/m/b/1); used so by 2\t/m/d/1", *besides]
-    sums = ["# 1 asks", "# 1 out-of-step"]
+    sums = ["# 1 unstable", "# 1 inconsistent"]
     site.says([*lines, "# 2 certified of 7", *sums, "# 2 clashes", "# 1 refused"])
-    left = [f"b/{number}\twithheld\t--without\t/m/b/{number}" for number in (1, 2)]
+    left = [f"b/{number}\texcluded\t--without\t/m/b/{number}" for number in (1, 2)]
     for words in (("--without", "b"), ("--without", "b/1", "--without", "b/2"), ("--quiet", "--without", "b", "--")):
         kept = [] if "--quiet" in words else ["c/1\tcertified\t\t/m/c/1"]
         beside = [*kept, "d/1\tclashes\tV: read here, stack in c/1 (/m/c/1); used so by 1\t/m/d/1", *besides]
-        aside = ["# 2 withheld", "# 1 clashes", "# 1 refused"]
+        aside = ["# 2 excluded", "# 1 clashes", "# 1 refused"]
         site.says([first, *left, *beside, "# 1 certified of 7", *sums, *aside], *words)
     one = [first, left[0], "b/2\tcertified\t\t/m/b/2"]
     clash = "{0}/1\tclashes\tV: {1} here, set in b/2 (/m/b/2); used so by 1\t/m/{0}/1"
     one += [clash.format(name, use) for name, use in USES_OF_V]
-    aside = ["# 1 withheld", "# 2 clashes", "# 1 refused"]
+    aside = ["# 1 excluded", "# 2 clashes", "# 1 refused"]
     site.says([*one, *besides, "# 1 certified of 7", *sums, *aside], "--without", "b/1")
     for words in (("--without", "bb"), ("--without", "b/"), ("--without", ""), ("--without", "--json"), ("--without", "a")):
         site.says([*lines, "# 2 certified of 7", *sums, "# 2 clashes", "# 1 refused"], *words)
     found = site.document("--without", "b")
-    same([module["standing"] for module in found["modules"][1:3]], ["withheld"] * 2, "the document")
+    same([module["standing"] for module in found["modules"][1:3]], ["excluded"] * 2, "the document")
     same(found["certificate"], [{"variable": "V", "use": "stack"}], "the certificate")
     site.refuses(f"Bad arguments\n{USAGE}", "--without")
     site.refuses(f"Bad arguments\n{USAGE}", "--quiet", "--without", "--", "b")
     site.refuses("Not a directory: '--without'", "--", "--without", "b")
 
 
-# Modules that read what withheld ones use: modulefiles, the names of what is withheld, and standings and remarks. So of
+# Modules that read what excluded ones use: modulefiles, the names of what is excluded, and standings and remarks. So of
 # two readers of each other either can be certified.
 SCRATCH = {"/m/scratch/1": "setenv SCRATCH /scratch/u\n", "/m/tmp/1": "setenv MYTMP [getenv SCRATCH /tmp]/tmp\n"}
 EACH_OTHER = {"/m/a/1": "getenv V\nsetenv W x\n", "/m/b/1": "getenv W\nsetenv V x\n"}
@@ -372,74 +372,74 @@ CHAIN = {"/m/a/1": "getenv V\n", "/m/b/1": "getenv W\nsetenv V x\n", "/m/c/1": "
 ASKS_TOO = {"/m/a/1": "is-loaded\ngetenv V\n", "/m/b/1": "setenv V x\n"}
 READS_SCRATCH = ("tmp/1", "clashes", "SCRATCH: read here, set in scratch/1 (/m/scratch/1); used so by 1")
 READERS = {
-    "nothing is withheld": ((SCRATCH, []), [("scratch/1", "certified", ""), READS_SCRATCH]),
-    "the user is withheld": (
+    "nothing is excluded": ((SCRATCH, []), [("scratch/1", "certified", ""), READS_SCRATCH]),
+    "the user is excluded": (
         (SCRATCH, ["scratch"]),
-        [("scratch/1", "withheld", "--without"), ("tmp/1", "certified", "reads SCRATCH")],
+        [("scratch/1", "excluded", "--without"), ("tmp/1", "certified", "reads SCRATCH")],
     ),
-    "the reader is withheld": (
+    "the reader is excluded": (
         (SCRATCH, ["tmp"]),
-        [("scratch/1", "certified", ""), ("tmp/1", "withheld", "--without")],
+        [("scratch/1", "certified", ""), ("tmp/1", "excluded", "--without")],
     ),
-    "both are withheld": (
+    "both are excluded": (
         (SCRATCH, ["scratch", "tmp"]),
-        [("scratch/1", "withheld", "--without"), ("tmp/1", "withheld", "--without")],
+        [("scratch/1", "excluded", "--without"), ("tmp/1", "excluded", "--without")],
     ),
-    "another is withheld": ((SCRATCH, ["scratch/2"]), [("scratch/1", "certified", ""), READS_SCRATCH]),
-    "the first of two users is withheld": (
+    "another is excluded": ((SCRATCH, ["scratch/2"]), [("scratch/1", "certified", ""), READS_SCRATCH]),
+    "the first of two users is excluded": (
         ({**SCRATCH, "/m/work/1": "unsetenv SCRATCH\n"}, ["scratch"]),
         [
-            ("scratch/1", "withheld", "--without"),
+            ("scratch/1", "excluded", "--without"),
             ("tmp/1", "clashes", "SCRATCH: read here, unset in work/1 (/m/work/1); used so by 1"),
             ("work/1", "certified", ""),
         ],
     ),
-    "one of two that read what the other uses is withheld": (
+    "one of two that read what the other uses is excluded": (
         (EACH_OTHER, ["b"]),
-        [("a/1", "certified", "reads V"), ("b/1", "withheld", "--without")],
+        [("a/1", "certified", "reads V"), ("b/1", "excluded", "--without")],
     ),
-    "the other of them is withheld": (
+    "the other of them is excluded": (
         (EACH_OTHER, ["a"]),
-        [("a/1", "withheld", "--without"), ("b/1", "certified", "reads W")],
+        [("a/1", "excluded", "--without"), ("b/1", "certified", "reads W")],
     ),
-    "both of them are withheld": (
+    "both of them are excluded": (
         (EACH_OTHER, ["a", "b"]),
-        [("a/1", "withheld", "--without"), ("b/1", "withheld", "--without")],
+        [("a/1", "excluded", "--without"), ("b/1", "excluded", "--without")],
     ),
-    "the user of a user is withheld": (
+    "the user of a user is excluded": (
         (CHAIN, ["c"]),
         [
             ("a/1", "certified", "reads V"),
             ("b/1", "clashes", "V: set here, read in a/1 (/m/a/1); used so by 1"),
-            ("c/1", "withheld", "--without"),
+            ("c/1", "excluded", "--without"),
         ],
     ),
-    "the user in the middle is withheld": (
+    "the user in the middle is excluded": (
         (CHAIN, ["b"]),
-        [("a/1", "certified", "reads V"), ("b/1", "withheld", "--without"), ("c/1", "certified", "")],
+        [("a/1", "certified", "reads V"), ("b/1", "excluded", "--without"), ("c/1", "certified", "")],
     ),
-    "the reader of the user in the middle is withheld": (
+    "the reader of the user in the middle is excluded": (
         (CHAIN, ["a"]),
         [
-            ("a/1", "withheld", "--without"),
+            ("a/1", "excluded", "--without"),
             ("b/1", "certified", "reads W"),
             ("c/1", "clashes", "W: set here, read in b/1 (/m/b/1); used so by 1"),
         ],
     ),
-    "nothing is withheld, and the reader asks too": (
+    "nothing is excluded, and the reader asks too": (
         (ASKS_TOO, []),
-        [("a/1", "asks", "is-loaded"), ("b/1", "certified", "")],
-        [FURTHER.format("a/1", "asks", "clashes: V: read here, set in b/1 (/m/b/1); used so by 1")],
+        [("a/1", "unstable", "is-loaded"), ("b/1", "certified", "")],
+        [OTHER_REASON.format("a/1", "unstable", "clashes: V: read here, set in b/1 (/m/b/1); used so by 1")],
     ),
-    "the user is withheld, and the reader asks too": (
+    "the user is excluded, and the reader asks too": (
         (ASKS_TOO, ["b"]),
-        [("a/1", "asks", "is-loaded"), ("b/1", "withheld", "--without")],
+        [("a/1", "unstable", "is-loaded"), ("b/1", "excluded", "--without")],
     ),
 }
 
 
 @pytest.mark.parametrize(("given", "rows", "remarks"), [(*row, [])[:3] for row in READERS.values()], ids=READERS)
-def test_readers_of_what_withheld_modules_use(folder, given, rows, remarks):
+def test_readers_of_what_excluded_modules_use(folder, given, rows, remarks):
     files, names = given
     site = Site(folder, files)
     site.says(lines_of(files, rows, remarks), *(word for name in names for word in ("--without", name)))
@@ -448,8 +448,8 @@ def test_readers_of_what_withheld_modules_use(folder, given, rows, remarks):
 # Remarks.
 
 
-def test_remarks_on_directories_behind_modules_that_are_not_settled(folder):
-    """Their modules are judged. No remark is on a directory that MODULEPATH has or a settled module adds."""
+def test_remarks_on_directories_behind_modules_that_are_not_deterministic(folder):
+    """Their modules are judged. No remark is on a directory that MODULEPATH has or a deterministic module adds."""
     files = {
         "/m/a/1": "is-loaded\nappend-path MODULEPATH /n:/o\nprepend-path MODULEPATH /n:/m\n",
         "/m/b/1": "remove-path V x\nappend-path MODULEPATH /n/in:/o\n",
@@ -459,37 +459,37 @@ def test_remarks_on_directories_behind_modules_that_are_not_settled(folder):
         "/o/y/1": "",
     }
     site = Site(folder, files)
-    lines = ["a/1\tasks\tis-loaded\t/m/a/1", "b/1\tone-way\tremove-path V x\t/m/b/1", "c/1\tcertified\t\t/m/c/1"]
+    lines = ["a/1\tunstable\tis-loaded\t/m/a/1", "b/1\tone-way\tremove-path V x\t/m/b/1", "c/1\tcertified\t\t/m/c/1"]
     lines += ['d/1\trefused\tinvalid command name "nope" (line 3)\t/m/d/1', "in/x/1\tcertified\t\t/n/in/x/1"]
     lines += ["y/1\tcertified\t\t/o/y/1", "x/1\tcertified\t\t/n/in/x/1"]
     remarks = [
-        "# a/1 (/m/a/1): isn't settled, and adds the directory /n",
-        "# b/1 (/m/b/1): isn't settled, and adds the directory /n/in",
+        "# a/1 (/m/a/1): isn't deterministic, and adds the directory /n",
+        "# b/1 (/m/b/1): isn't deterministic, and adds the directory /n/in",
     ]
-    site.says([*lines, "# 4 certified of 7", "# 1 asks", "# 1 one-way", "# 1 refused", *remarks])
+    site.says([*lines, "# 4 certified of 7", "# 1 unstable", "# 1 one-way", "# 1 refused", *remarks])
     there = [os.fsdecode(real(folder, path)) for path in ("/m/a/1", "/n", "/m/b/1", "/n/in")]
     wanted = [
         {"name": "a/1", "path": there[0], "directory": there[1]},
         {"name": "b/1", "path": there[2], "directory": there[3]},
     ]
-    same(site.document()["hanging_directories"], wanted, "the document")
+    same(site.document()["unreachable_directories"], wanted, "the document")
 
 
 # What speaks against a module one after the other: its modulefile, how it stands, and how further, where `z/1` is certified
 # and uses R and C. The last has all of them.
 READS_R = "clashes: R: read here, set in z/1 (/m/z/1); used so by 1"
 SETS_C = "clashes: C: set here, set in z/1 (/m/z/1); used so by 1"
-TWO_OF_D = "out-of-step: D: set, and stack"
-FURTHER_ROWS = {
-    "a/1": ("is-loaded\nremove-path P x\nremove-path Q x\n", "asks: is-loaded", ["one-way: remove-path P x"]),
-    "a/2": ("is-loaded\ngetenv Q\ngetenv R\ngetenv C\n", "asks: is-loaded", [READS_R]),
-    "a/3": ("is-loaded\nif {[module-info mode unload]} {getenv R}\n", "asks: is-loaded", [READS_R]),
-    "a/4": ("is-loaded\nsetenv D x\npushenv D y\n", "asks: is-loaded", [TWO_OF_D]),
-    "a/5": ("is-loaded\nsetenv C y\n", "asks: is-loaded", [SETS_C]),
-    "a/6": ("is-loaded\nconflict z\nsetenv C y\n", "asks: is-loaded", []),
-    "a/7": ("is-loaded\nif {[module-info mode unload]} {remove-path P x} else {append-path P x}\n", "asks: is-loaded", []),
-    "a/8": ("is-loaded\nconflict z\ngetenv R\n", "asks: is-loaded", [READS_R]),
-    "a/9": ("is-loaded\nsetenv D x\ngetenv D\n", "asks: is-loaded", []),
+TWO_OF_D = "inconsistent: D: set, and stack"
+OTHER_REASON_ROWS = {
+    "a/1": ("is-loaded\nremove-path P x\nremove-path Q x\n", "unstable: is-loaded", ["one-way: remove-path P x"]),
+    "a/2": ("is-loaded\ngetenv Q\ngetenv R\ngetenv C\n", "unstable: is-loaded", [READS_R]),
+    "a/3": ("is-loaded\nif {[module-info mode unload]} {getenv R}\n", "unstable: is-loaded", [READS_R]),
+    "a/4": ("is-loaded\nsetenv D x\npushenv D y\n", "unstable: is-loaded", [TWO_OF_D]),
+    "a/5": ("is-loaded\nsetenv C y\n", "unstable: is-loaded", [SETS_C]),
+    "a/6": ("is-loaded\nconflict z\nsetenv C y\n", "unstable: is-loaded", []),
+    "a/7": ("is-loaded\nif {[module-info mode unload]} {remove-path P x} else {append-path P x}\n", "unstable: is-loaded", []),
+    "a/8": ("is-loaded\nconflict z\ngetenv R\n", "unstable: is-loaded", [READS_R]),
+    "a/9": ("is-loaded\nsetenv D x\ngetenv D\n", "unstable: is-loaded", []),
     "b/1": ("getenv R\nremove-path P x\n", "one-way: remove-path P x", [READS_R]),
     "b/2": ("setenv D x\nremove-path P x\npushenv D y\n", "one-way: remove-path P x", [TWO_OF_D]),
     "b/3": ("remove-path P x\nsetenv C y\n", "one-way: remove-path P x", [SETS_C]),
@@ -497,53 +497,53 @@ FURTHER_ROWS = {
     "c/1": ("getenv R\nsetenv D x\npushenv D y\n", TWO_OF_D, [READS_R]),
     "c/2": (
         "if {[module-info mode load]} {unsetenv D} else {getenv D}\nsetenv C y\n",
-        "out-of-step: D: unset, and read",
+        "inconsistent: D: unset, and read",
         [SETS_C],
     ),
-    "d/1": ("setenv C y\npushenv C z\n", "out-of-step: C: set, and stack", [SETS_C]),
+    "d/1": ("setenv C y\npushenv C z\n", "inconsistent: C: set, and stack", [SETS_C]),
     "d/2": ("setenv D x\npushenv D y\npushenv C y\n", TWO_OF_D, [SETS_C.replace("set here", "stack here")]),
     "e/1": (
         "pushenv D y\nremove-path P x\nsetenv C y\ngetenv R\nsetenv D x\nis-loaded\n",
-        "asks: is-loaded",
-        ["one-way: remove-path P x", "out-of-step: D: stack, and set", SETS_C],
+        "unstable: is-loaded",
+        ["one-way: remove-path P x", "inconsistent: D: stack, and set", SETS_C],
     ),
 }
 
 
-def test_remarks_on_further_standings(folder):
-    """In the order of the modules, and of each in that of the standings. What is withheld or refused has none."""
-    files = {f"/m/{name}": text for name, (text, *_) in FURTHER_ROWS.items()}
+def test_remarks_on_other_reasons(folder):
+    """In the order of the modules, and of each in that of the standings. What is excluded or refused has none."""
+    files = {f"/m/{name}": text for name, (text, *_) in OTHER_REASON_ROWS.items()}
     files.update({"/m/f/1": "nope\n", "/m/y/1": "setenv C y\n", "/m/z/1": "setenv R x\nsetenv C x\n"})
     site = Site(folder, files)
-    rows = [(name, *stands.split(": ", 1)) for name, (_, stands, _) in FURTHER_ROWS.items()]
-    rows += [("f/1", "refused", 'invalid command name "nope" (line 2)'), ("y/1", "withheld", "--without"), ("z/1", "certified", "")]
-    each = [(name, stands.split(":")[0], further) for name, (_, stands, further) in FURTHER_ROWS.items()]
-    remarks = [FURTHER.format(name, word, one) for name, word, further in each for one in further]
+    rows = [(name, *stands.split(": ", 1)) for name, (_, stands, _) in OTHER_REASON_ROWS.items()]
+    rows += [("f/1", "refused", 'invalid command name "nope" (line 2)'), ("y/1", "excluded", "--without"), ("z/1", "certified", "")]
+    each = [(name, stands.split(":")[0], further) for name, (_, stands, further) in OTHER_REASON_ROWS.items()]
+    remarks = [OTHER_REASON.format(name, word, one) for name, word, further in each for one in further]
     site.says(lines_of(files, rows, remarks), "--without", "y")
     quiet = [line for line in lines_of(files, rows, remarks) if "\tcertified\t" not in line]
     site.says(quiet, "--without", "y", "--quiet")
 
 
-def test_further_standings_in_the_document(folder):
+def test_other_reasons_in_the_document(folder):
     """Each has the members of a standing; a module without one has no such member."""
-    files = {f"/m/{name}": text for name, (text, *_) in FURTHER_ROWS.items()}
+    files = {f"/m/{name}": text for name, (text, *_) in OTHER_REASON_ROWS.items()}
     files["/m/z/1"] = "setenv R x\nsetenv C x\n"
     document = Site(folder, files).document()
-    found = {module["name"]: [one["standing"] for one in module.get("further", [])] for module in document["modules"]}
-    words = {name: [one.split(":")[0] for one in further] for name, (_, _, further) in FURTHER_ROWS.items()}
+    found = {module["name"]: [one["standing"] for one in module.get("other_reasons", [])] for module in document["modules"]}
+    words = {name: [one.split(":")[0] for one in further] for name, (_, _, further) in OTHER_REASON_ROWS.items()}
     same(found, {**words, "z/1": []}, "the words")
-    true(all("further" in module or not words.get(module["name"]) for module in document["modules"]), "no empty member")
+    true(all("other_reasons" in module or not words.get(module["name"]) for module in document["modules"]), "no empty member")
     other = {"name": "z/1", "path": os.fsdecode(real(folder, "/m/z/1"))}
     wanted = [
         {"standing": "one-way", "record": "remove-path P x"},
-        {"standing": "out-of-step", "variable": "D", "uses": [{"use": "stack"}, {"use": "set"}]},
+        {"standing": "inconsistent", "variable": "D", "uses": [{"use": "stack"}, {"use": "set"}]},
         {"standing": "clashes", "variable": "C", "uses": [{"use": "set"}] * 2, "other": other, "alike": 1},
     ]
-    same(next(module["further"] for module in document["modules"] if module["name"] == "e/1"), wanted, "all of one module")
+    same(next(module["other_reasons"] for module in document["modules"] if module["name"] == "e/1"), wanted, "all of one module")
 
 
-def test_further_clashes_are_with_those_that_stay(folder):
-    """By what the first evaluation leaves, and the conflicts of both exclude. Who stays is settled without these."""
+def test_other_clashes_are_with_the_selected(folder):
+    """By what the first evaluation leaves, and the conflicts of both exclude. Who stays is deterministic without these."""
     files = {
         "/m/gcc/1": "setenv CC gcc\nis-loaded\n",
         "/m/gcc/2": "conflict mpi\nsetenv CC gcc\nis-loaded\n",
@@ -554,13 +554,13 @@ def test_further_clashes_are_with_those_that_stay(folder):
         "/m/mpi/2": "setenv CC x\n",
     }
     asks = {1: "is-loaded", 2: "is-loaded", 3: "is-loaded", 4: "module-info specified"}
-    rows = [(f"gcc/{number}", "asks", why) for number, why in asks.items()]
+    rows = [(f"gcc/{number}", "unstable", why) for number, why in asks.items()]
     clash = "CC: set here, set in mpi/1 (/m/mpi/1); used so by 2"
     rows += [("gcc/5", "one-way", "remove-path P /a"), ("mpi/1", "certified", ""), ("mpi/2", "clashes", clash)]
     remarks = [
-        FURTHER.format("gcc/1", "asks", f"clashes: {clash}"),
-        FURTHER.format("gcc/4", "asks", "clashes: P: stack here, path with ':' in mpi/1 (/m/mpi/1); used so by 1"),
-        FURTHER.format("gcc/5", "one-way", f"clashes: {clash}"),
+        OTHER_REASON.format("gcc/1", "unstable", f"clashes: {clash}"),
+        OTHER_REASON.format("gcc/4", "unstable", "clashes: P: stack here, path with ':' in mpi/1 (/m/mpi/1); used so by 1"),
+        OTHER_REASON.format("gcc/5", "one-way", f"clashes: {clash}"),
     ]
     Site(folder, files).says(lines_of(files, rows, remarks))
 
@@ -595,10 +595,10 @@ def test_remarks_on_default_files_and_names(folder):
     lines = [
         "a/1\tcertified\t\t/m/a/1",
         "b/1\tcertified\t\t/m/b/1",
-        "c/1\tasks\tis-loaded\t/m/c/1",
+        "c/1\tunstable\tis-loaded\t/m/c/1",
         "d/1\trefused\tinvalid command name \"nope\" (line 3)\t/m/d/1",
         "# 2 certified of 4",
-        "# 1 asks",
+        "# 1 unstable",
         "# 1 refused",
         "# bad default file: /m/a/.version",
         "# conflict names no module: 'z' (in 1 file)",
@@ -655,9 +655,9 @@ def test_remarks_on_directories_that_are_not_there(folder):
     missing = ["/m/none", "/o", "/o/p", "/m/a/1", "/m/q", "/r"]
     site = Site(folder, files, "/m/none:/m:/m/b")
     lines = [f"a/{number}\tcertified\t\t/m/a/{number}" for number in (1, 2)]
-    lines += ["b/1\tasks\tis-loaded\t/m/b/1", "1\tasks\tis-loaded\t/m/b/1", "c/1\tcertified\t\t/n/c/1"]
-    added = [f"# {name} (/m/b/1): isn't settled, and adds the directory /r" for name in ("b/1", "1")]
-    site.says([*lines, "# 3 certified of 5", "# 2 asks", *[f"# no directory: {path}" for path in missing], *added])
+    lines += ["b/1\tunstable\tis-loaded\t/m/b/1", "1\tunstable\tis-loaded\t/m/b/1", "c/1\tcertified\t\t/n/c/1"]
+    added = [f"# {name} (/m/b/1): isn't deterministic, and adds the directory /r" for name in ("b/1", "1")]
+    site.says([*lines, "# 3 certified of 5", "# 2 unstable", *[f"# no directory: {path}" for path in missing], *added])
     same(site.document()["missing_directories"], [os.fsdecode(real(folder, path)) for path in missing], "the document")
     site.clear()
 
@@ -965,7 +965,7 @@ def test_sums_by_standing(folder):
         "/m/e/1": "nope\n",
         "/m/f/1": "getenv W\n",
     }
-    others = ["# 2 asks", "# 1 one-way", "# 1 out-of-step", "# 2 clashes", "# 1 refused"]
+    others = ["# 2 unstable", "# 1 one-way", "# 1 inconsistent", "# 2 clashes", "# 1 refused"]
     done = Site(folder, files).run("--quiet")
     sums = [line for line in done.stdout.decode().splitlines() if line.startswith("#")]
     same(sums, ["# 1 certified of 8", *others], "the sums")
@@ -1001,11 +1001,11 @@ def test_the_document_says_the_same(folder):
     wanted = {
         "modules": [
             {"name": "a/1", "standing": "certified"},
-            {"name": "b/1", "standing": "asks", "question": "module-info mode load", "here": leaves("B")},
+            {"name": "b/1", "standing": "unstable", "question": "module-info mode load", "here": leaves("B")},
             {"name": "c/1", "standing": "one-way", "record": "remove-path V x", "here": RETURNS},
             {
                 "name": "d/1",
-                "standing": "out-of-step",
+                "standing": "inconsistent",
                 "variable": "D",
                 "uses": [{"use": "set"}, {"use": "stack"}],
                 "here": leaves("D"),
@@ -1049,7 +1049,7 @@ def test_the_document_says_the_same(folder):
         "no_modulefiles": [],
         "bad_default_files": [f"{there}/a/.version"],
         "unread_default_files": [],
-        "hanging_directories": [],
+        "unreachable_directories": [],
         "not_utf8": [],
         "unknown_names": [
             {"name": "a/1", "path": f"{there}/a/1", "command": "conflict", "names": ["q"]},
@@ -1082,7 +1082,7 @@ def test_the_certificate_has_what_certified_modules_read(folder):
         "/m/d/1": "getenv E\nis-loaded\n",
     }
     found = Site(folder, files).document()
-    same([module["standing"] for module in found["modules"]], ["certified"] * 2 + ["clashes", "asks"], "how they stand")
+    same([module["standing"] for module in found["modules"]], ["certified"] * 2 + ["clashes", "unstable"], "how they stand")
     uses = [("V", "set"), ("B", "read"), ("A", "read"), ("S", "stack"), ("C", "read")]
     same(found["certificate"], [{"variable": name, "use": use} for name, use in uses], "the certificate")
 
@@ -1405,7 +1405,7 @@ def test_a_site_of_two_thousand_modules(folder):
     done = folder.run("--quiet")
     lines = done.stdout.decode().splitlines()
     same(lines[1:], ["# 2000 certified of 2001", "# 1 clashes"], "one that sets the variable of four others")
-    same(lines[0].split("\t")[:2], ["p0/own", "clashes"], "who stands aside")
+    same(lines[0].split("\t")[:2], ["p0/own", "clashes"], "who is rejected")
     same("used so by 5" in lines[0], True, "how many set it")
 
 
@@ -1419,7 +1419,7 @@ def test_a_family_of_two_thousand_versions(folder):
 
 
 def test_those_that_most_get_on_with_stay(folder):
-    """One sets what 200 use as a path: it stands aside, whatever its name is."""
+    """One sets what 200 use as a path: it is rejected, whatever its name is."""
     for number in range(200):
         folder.module(f"lib/{number:03}", "prepend-path PYTHONPATH /x\n")
     reason = "PYTHONPATH: set here, path with ':' in lib/000 (/m/lib/000); used so by 200"
@@ -1427,7 +1427,7 @@ def test_those_that_most_get_on_with_stay(folder):
         folder.module(name, "setenv PYTHONPATH /y\n")
     lines = [line.split("\t") for line in folder.run("--quiet").stdout.decode().splitlines()]
     there = os.fsdecode(folder.modules)
-    same([line[:2] for line in lines[:-2]], [["a/1", "clashes"], ["z/1", "clashes"]], "who stands aside")
+    same([line[:2] for line in lines[:-2]], [["a/1", "clashes"], ["z/1", "clashes"]], "who is rejected")
     same({line[2].replace(f"({there}", "(/m") for line in lines[:-2]}, {reason}, "why")
     same(lines[-2:], [["# 200 certified of 202"], ["# 2 clashes"]], "how many are certified")
 
@@ -1542,22 +1542,22 @@ WIDE_FILES = {
 IN_COLUMNS = """\
 e\u0301/1     certified                                        m/e\u0301/1
 gcc/13  certified                                        m/gcc/13
-x/1     asks       is-loaded                             m/x/1     returns
+x/1     unstable   is-loaded                             m/x/1     returns
 \u00fc/\uff12    certified  reads HOME                            m/\u00fc/\uff12
 \u65e5\u672c/2  refused    invalid command name "\u65e5\u672c" (line 2)  m/\u65e5\u672c/2
         refused    Reading failed                        m/\u65e5\u672c/3
 # 3 certified of 6
-# 1 asks
+# 1 unstable
 # 2 refused
 # default file that isn't read: m/.modulerc
 """
 
 QUIET_IN_COLUMNS = """\
-x/1     asks     is-loaded                             m/x/1     returns
-\u65e5\u672c/2  refused  invalid command name "\u65e5\u672c" (line 2)  m/\u65e5\u672c/2
-        refused  Reading failed                        m/\u65e5\u672c/3
+x/1     unstable  is-loaded                             m/x/1     returns
+\u65e5\u672c/2  refused   invalid command name "\u65e5\u672c" (line 2)  m/\u65e5\u672c/2
+        refused   Reading failed                        m/\u65e5\u672c/3
 # 3 certified of 6
-# 1 asks
+# 1 unstable
 # 2 refused
 # default file that isn't read: m/.modulerc
 """
@@ -1565,12 +1565,12 @@ x/1     asks     is-loaded                             m/x/1     returns
 WITH_TABS = """\
 e\u0301/1\tcertified\t\tm/e\u0301/1
 gcc/13\tcertified\t\tm/gcc/13
-x/1\tasks\tis-loaded\tm/x/1\treturns
+x/1\tunstable\tis-loaded\tm/x/1\treturns
 \u00fc/\uff12\tcertified\treads HOME\tm/\u00fc/\uff12
 \u65e5\u672c/2\trefused\tinvalid command name "\u65e5\u672c" (line 2)\tm/\u65e5\u672c/2
 \trefused\tReading failed\tm/\u65e5\u672c/3
 # 3 certified of 6
-# 1 asks
+# 1 unstable
 # 2 refused
 # default file that isn't read: m/.modulerc
 """

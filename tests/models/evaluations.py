@@ -85,7 +85,7 @@ def lists_of(questions):
     return [tuple(name for name in names if not means_one(" ".join(words), [name])) for words in denied]
 
 
-def other_ways(asked):
+def other_contexts(asked):
     """The ways that these questions can tell apart, but for the first."""
     lists = lists_of(loaded_questions(asked)) if are_few(asked) else [()]
     every = dict.fromkeys(way._replace(loaded=loaded) for loaded in lists for way in ways_of(asked))

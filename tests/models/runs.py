@@ -290,7 +290,7 @@ def undone_as(record):
     return record if kind == "unsetenv" and record[2] is not None else None
 
 
-def undo_alike(records, others):
+def undo_equivalently(records, others):
     return [it for it in map(undone_as, records) if it] == [it for it in map(undone_as, others) if it]
 
 
@@ -683,7 +683,7 @@ def run(ways, start, moves):
         if kind == "load" and not is_fit(ways, live, module):
             continue
         old = [m for m in live if m[0] == module[0]]
-        if kind == "unload" and not (old and undo_alike(module[2], old[0][2])):
+        if kind == "unload" and not (old and undo_equivalently(module[2], old[0][2])):
             continue
         try:
             env = moved(env, kind, module)
@@ -780,7 +780,7 @@ def premises(ways, start, moves):
             old = [m for m in live if m[0] == module[0]]
             if not old:
                 broken.add("new modules")
-            elif not undo_alike(module[2], old[0][2]):
+            elif not undo_equivalently(module[2], old[0][2]):
                 broken.add("undone alike")
             live = [m for m in live if m[0] != module[0]]
     return broken

@@ -4,13 +4,13 @@ It is written from the rules in the crates' pages (sites, certificates), and sha
 the prover reads nor with the programs. `runs.py` has the edits of environments.
 
 A module's file is a function of the way in which it is evaluated (`evaluations.py`), in the environment of the audit.
-It may be withheld by hand. A use of a variable is what `runs.py` calls a way: ("fixed", None) where a module sets it,
+It may be excluded by hand. A use of a variable is what `runs.py` calls a way: ("fixed", None) where a module sets it,
 ("fixed", value) where it unsets this value, ("absent",) where it unsets it without a value, ("path", delimiter), or
 ("stack",). What it reads is one more use, ("read",).
 """
 
 from tests.models import runs as model
-from tests.models.evaluations import FIRST, LOADED, MODE, SHELL, VARIABLE, Ran, are_few, asked_for, other_ways
+from tests.models.evaluations import FIRST, LOADED, MODE, SHELL, VARIABLE, Ran, are_few, asked_for, other_contexts
 
 MODULEPATH = "MODULEPATH"
 COLONS = ("path", ":")
@@ -32,7 +32,7 @@ CLAUSES = (
     "clashes",
     "that versions of one name may be loaded at once",
     "that names match by their parts",
-    "that modules are settled",
+    "that modules are deterministic",
     "that the ways undo alike",
     "that another way asks no more",
     "that what is loaded is answered by each choice",
@@ -57,9 +57,9 @@ RARE = (
 
 # Of the choice among modules that clash, each with what it is for.
 CHOICES = {
-    "the rivals": "those that most get on with stay",
-    "the versions that conflicts exclude": "those that most get on with stay",
-    "the readers among these": "those that most get on with stay",
+    "the competitors": "the modules with the fewest competitors are selected",
+    "the versions that conflicts exclude": "the modules with the fewest competitors are selected",
+    "the readers among these": "the modules with the fewest competitors are selected",
     "the names": "the order of the files makes no difference",
 }
 
@@ -71,16 +71,16 @@ def is_without(clause):
 class SiteModule:
     """A module of a site: its name, its file, and what this leaves in each way, in the environment of the audit. It is
     evaluated in the first way, and in those that this evaluation asks for. One that a name of `without` means is
-    withheld."""
+    excluded."""
 
     def __init__(self, name, path, left, without=()):
         self.name = name
         self.path = path
-        self.is_withheld = any(means(given, name) for given in without)
+        self.is_excluded = any(means(given, name) for given in without)
         self.first = left(FIRST)
-        self.others = {} if self.first.fault else {way: left(way) for way in other_ways(self.first.asked)}
-        # Whether it is settled, by what is left out of the definition.
-        self.settled = {}
+        self.others = {} if self.first.fault else {way: left(way) for way in other_contexts(self.first.asked)}
+        # Whether it is deterministic, by what is left out of the definition.
+        self.deterministic = {}
 
     @property
     def records(self):
@@ -94,7 +94,7 @@ class SiteModule:
         return {question.name: question.value for question in asked if question.of == VARIABLE}
 
 
-def in_all_ways(records, asked=(), fault=None):
+def in_all_contexts(records, asked=(), fault=None):
     """A file that leaves the same in each way."""
     return lambda way: Ran(records, list(asked), [], fault)
 
@@ -157,7 +157,7 @@ def kept_absent(records):
     return [record[1] for record in records if record[0] == "unsetenv" and record[2] is None]
 
 
-def load_alike(records, others):
+def load_equivalently(records, others):
     """After loads that leave these the start can be back, and they keep the same variables absent and are in conflict
     with the same names."""
     can_be_back = is_without("that loads can be undone in each way") or all(map(can_return, others))
@@ -167,48 +167,48 @@ def load_alike(records, others):
     return can_be_back and (is_same or names_of_conflicts(records) == names_of_conflicts(others))
 
 
-def is_alike(way, ran, first):
+def is_equivalent(way, ran, first):
     """An evaluation in another way is accepted, and neither what it leaves nor what it asks makes a difference."""
     if ran.fault is not None:
         return False
     all_rest = is_without("that what another way asks rests") or all(rests(one, ran.records) for one in ran.asked)
     no_more = is_without("that another way asks no more") or asked_for(ran.asked) <= asked_for(first.asked)
-    is_undone = is_without("that the ways undo alike") or model.undo_alike(ran.records, first.records)
-    return all_rest and no_more and is_undone and (way.mode != "load" or load_alike(first.records, ran.records))
+    is_undone = is_without("that the ways undo alike") or model.undo_equivalently(ran.records, first.records)
+    return all_rest and no_more and is_undone and (way.mode != "load" or load_equivalently(first.records, ran.records))
 
 
-def is_same_in_all_ways(module):
+def is_same_in_all_contexts(module):
     """Its evaluations are alike in all ways, with what is loaded by each choice of answers, if these are few."""
     few = is_without("that little is asked of what is loaded") or are_few(module.first.asked)
     is_left = is_without("that what is loaded is answered by each choice")
     others = {way: ran for way, ran in module.others.items() if not (is_left and way.loaded)}
-    return few and all(is_alike(way, ran, module.first) for way, ran in others.items())
+    return few and all(is_equivalent(way, ran, module.first) for way, ran in others.items())
 
 
-def keeps_answer(question, module):
+def has_stable_answer(question, module):
     """It rests, and where it is of the way, the evaluations in the ways that are asked for are alike."""
-    return rests(question, module.records) and (question.of == VARIABLE or is_same_in_all_ways(module))
+    return rests(question, module.records) and (question.of == VARIABLE or is_same_in_all_contexts(module))
 
 
 def asks(module):
     """A question of its first evaluation doesn't keep its answer."""
-    return not all(keeps_answer(question, module) for question in module.first.asked)
+    return not all(has_stable_answer(question, module) for question in module.first.asked)
 
 
 def keeps_its_answers(module):
     """It is accepted, each of its questions keeps its answer, and after its records the start can be back."""
     if module.first.fault is not None:
         return False
-    return is_without("that modules are settled") or (not asks(module) and all(map(can_return, module.records)))
+    return is_without("that modules are deterministic") or (not asks(module) and all(map(can_return, module.records)))
 
 
-def is_settled(module):
-    if WITHOUT not in module.settled:
-        module.settled[WITHOUT] = keeps_its_answers(module)
-    return module.settled[WITHOUT]
+def is_deterministic(module):
+    if WITHOUT not in module.deterministic:
+        module.deterministic[WITHOUT] = keeps_its_answers(module)
+    return module.deterministic[WITHOUT]
 
 
-def steps_out(module):
+def is_inconsistent(module):
     """Each variable that a module uses in two ways, with both, and MODULEPATH where records use it otherwise than as a
     path with colons. What one reads that asks doesn't count."""
     if is_without("two uses in one module"):
@@ -249,7 +249,7 @@ def excludes_by(one, other, use):
     return (use != READ or is_without("that a reader's conflicts don't free it")) and names_in_conflict(one, other)
 
 
-def go_together(one, other):
+def are_compatible(one, other):
     return one == other and one[0] in ("path", "stack", "absent", "read")
 
 
@@ -259,7 +259,7 @@ def agree_at_start(one, other):
     return one == other or (one[0], other[0]) != ("fixed", "fixed")
 
 
-def are_apart(one, other, own, its):
+def are_mutually_exclusive(one, other, own, its):
     """They are never loaded at once, whatever the variable is that they use so."""
     return have_one_name(one, other) or excludes_by(one, other, own) or excludes_by(other, one, its)
 
@@ -269,8 +269,8 @@ def clashes_of(one, other):
     if is_without("clashes") or is_same(one, other):
         return []
     pairs = [(name, own, its) for name, own in uses_of(one) for theirs, its in uses_of(other) if name == theirs]
-    pairs = [pair for pair in pairs if not go_together(*pair[1:])]
-    return [pair for pair in pairs if not are_apart(one, other, *pair[1:]) or not agree_at_start(*pair[1:])]
+    pairs = [pair for pair in pairs if not are_compatible(*pair[1:])]
+    return [pair for pair in pairs if not are_mutually_exclusive(one, other, *pair[1:]) or not agree_at_start(*pair[1:])]
 
 
 def is_same(one, other):
@@ -278,8 +278,8 @@ def is_same(one, other):
 
 
 def is_candidate(module):
-    """It may be certified: it is settled and in step, and isn't withheld."""
-    return is_settled(module) and not steps_out(module) and not module.is_withheld
+    """It may be certified: it is deterministic and consistent, and isn't excluded."""
+    return is_deterministic(module) and not is_inconsistent(module) and not module.is_excluded
 
 
 def candidates(modules):
@@ -300,22 +300,22 @@ def excludes_versions(one, other):
     return first_part(other.name) in names_of_conflicts(one.records)
 
 
-def is_rival(one, other, own, its):
+def is_competitor(one, other, own, its):
     """The other's use doesn't go together with a module's own, which reads, or doesn't exclude all its versions."""
     is_read = own == READ and not is_without("the readers among these")
-    return not go_together(own, its) and (is_read or not excludes_versions(one, other))
+    return not are_compatible(own, its) and (is_read or not excludes_versions(one, other))
 
 
-def rivals(module, modules):
-    """How many uses there are of its variables by these modules that are rivals of its own."""
-    if is_without("the rivals"):
+def competitors(module, modules):
+    """How many uses there are of its variables by these modules that are competitors of its own."""
+    if is_without("the competitors"):
         return 0
     users = [(other, *use) for other in modules for use in dict.fromkeys(uses_of(other))]
     pairs = [(use, user) for use in dict.fromkeys(uses_of(module)) for user in users]
-    return sum(is_rival(module, other, own, its) for (name, own), (other, theirs, its) in pairs if name == theirs)
+    return sum(is_competitor(module, other, own, its) for (name, own), (other, theirs, its) in pairs if name == theirs)
 
 
-def users_alike(modules, name, use):
+def users_of_one_use(modules, name, use):
     """How many of the candidates use the variable so."""
     return sum((name, use) in uses_of(module) for module in candidates(modules))
 
@@ -325,7 +325,7 @@ def in_rank(modules):
     places = {module: (module.name.encode(), module.path.encode()) for module in modules}
     if is_without("the names"):
         places = dict.fromkeys(modules, ())
-    return sorted(modules, key=lambda module: (rivals(module, modules), places[module]))
+    return sorted(modules, key=lambda module: (competitors(module, modules), places[module]))
 
 
 def certified(modules):
@@ -364,8 +364,8 @@ def additions(module):
 
 
 def hanging(modulepath, modules):
-    """What modules add that neither the MODULEPATH has nor a settled one adds, with the module."""
-    sure = {*directories(modulepath), *(one for module in modules if is_settled(module) for one in additions(module))}
+    """What modules add that neither the MODULEPATH has nor a deterministic one adds, with the module."""
+    sure = {*directories(modulepath), *(one for module in modules if is_deterministic(module) for one in additions(module))}
     return [(module, one) for module in modules for one in dict.fromkeys(additions(module)) if one not in sure]
 
 
@@ -399,27 +399,27 @@ def standing_of(module, modules):
     if module.first.fault is not None:
         return "refused"
     if asks(module):
-        return "asks"
-    if not is_settled(module):
+        return "unstable"
+    if not is_deterministic(module):
         return "one-way"
-    if steps_out(module):
-        return "out-of-step"
-    if module.is_withheld:
-        return "withheld"
+    if is_inconsistent(module):
+        return "inconsistent"
+    if module.is_excluded:
+        return "excluded"
     return "certified" if module in certified(modules) else "clashes"
 
 
 def stands_by_itself(module):
     """In which ways an accepted module stands whatever others do, by the records of its first evaluation."""
     ways = {
-        "asks": asks(module),
+        "unstable": asks(module),
         "one-way": not all(map(can_return, module.records)),
-        "out-of-step": steps_out(module),
+        "inconsistent": is_inconsistent(module),
     }
     return [word for word, stands in ways.items() if stands]
 
 
-def further_of(module, modules):
+def other_reasons_of(module, modules):
     """How a module of a site stands further, in one word each: behind the first of these ways, and by a clash."""
     ways = [] if module.first.fault is not None else stands_by_itself(module)
     if not ways:

@@ -502,7 +502,7 @@ def test_the_comparison_of_the_translation(finished, judge_rows):
 # The check and the audit.
 
 OVER = f"{BIN}export MODULEPATH={':'.join(f'{NEW}/{start}' for start in STARTS)}\n"
-VERDICTS = {"asks": "Asked", "one-way": "OneWay"}
+VERDICTS = {"unstable": "Asked", "one-way": "OneWay"}
 
 
 def checked(names):

@@ -104,7 +104,8 @@ def test_completes_the_name_of_a_shell_behind_modcheck_and_nothing_behind_that(s
 
 @where_completed
 def test_completes_options_and_directories_behind_modaudit(scripted, start):
-    rows = (("--q", b"--quiet,"), ("--j", b"--json,"), ("--h", b"--help,"), ("bi", b"bin,"), ("--quiet bi", b"--quiet,bin,"))
+    options = (("--q", b"--quiet,"), ("--j", b"--json,"), ("--h", b"--help,"), ("--w", b"--without,"))
+    rows = (*options, ("bi", b"bin,"), ("--quiet bi", b"--quiet,bin,"))
     completes_behind(scripted, start, "modaudit", rows)
 
 

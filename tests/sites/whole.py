@@ -27,7 +27,7 @@ COUNTS = re.compile(
 )
 
 # What is said of a module, besides what comes of it, and that.
-TOLD = {"reads", "asks", "why", "needs", "where", "beside", "does", "ported"}
+TOLD = {"reads", "unstable", "why", "needs", "where", "beside", "does", "ported"}
 OUTCOMES = {"left", "at load", "at unload"}
 
 # What the head of a site says of its translation. Of each of these, and of the samples together as they stand, this
@@ -179,7 +179,7 @@ def test_what_is_said_of_a_module(written, file):
     same(len(outcomes), int(file.standing != "certified"), f"how many outcomes there are: {outcomes}")
     if file.standing in ("outside", "refused"):
         same(outcomes, {"at load"}, "the outcome of a refused evaluation")
-    same(len(file.each("asks")), int(file.standing == "asks"), "how many questions there are")
+    same(len(file.each("unstable")), int(file.standing == "unstable"), "how many questions there are")
 
 
 # A site as it is laid out.
@@ -269,7 +269,7 @@ def said_of(module):
 def wanted_of(file):
     """The same by what is written."""
     standing = "refused" if file.standing == "outside" else file.standing
-    return standing, *map(file.only, ("reads", "asks"))
+    return standing, *map(file.only, ("reads", "unstable"))
 
 
 @each_site

@@ -1,0 +1,434 @@
+"""The way back is always open: what a session of certified modules has loaded can be unloaded, tried by the built program.
+
+Random sessions as in `certified.py`, with changes by hand, and with modules loaded at the start in some, of which a few
+need what the session loads. At each moment of a session what is live is unloaded by one command, in a random order, and
+where nothing was loaded at the start by `purge` as well; at one moment also by one command after another. A module may
+be named by the first parts of its name. Each command has to be accepted, and what its text makes of the environment has
+to be the start, with the changes by hand. Only where a module that stays loaded would lose what it needs, the command
+has to be refused, with that module's name.
+
+The texts are read by the reader of `core/plain.py`. Then sessions in real shells, each with a way back at its end; what
+refuses an unload where a premise is missing; and programs that refuse or leave something without cause, of which each
+has to be found.
+"""
+
+import json
+import os
+import random
+import re
+import subprocess
+import typing
+
+import pytest
+from hypothesis import Phase, find, given, settings
+from hypothesis import strategies as st
+
+from tests.audit import certified, losses
+from tests.core import plain, sentence
+from tests.lib.harness import SECONDS, same, true
+from tests.lib.properties import examples, several
+from tests.models import runs as model
+from tests.models import standings
+from tests.models.evaluations import TYPES
+
+# How many sessions there are until a wrong program is found, at most; and at least this part of the commands is of each
+# kind, and is refused by 53.
+MOST_SESSIONS = 200
+LEAST_PART = 0.03
+
+# What modules of the start need besides: what sessions load, and what nobody loads.
+NEEDS = st.sampled_from([[], [], [["n", "w_1"]], [["m", "k"]], [["z"], ["m/10"]]])
+SEEDS = st.integers(0, 2**32 - 1)
+
+# The shells that call the program on the way back, by that of the session.
+CALLED = {shell: [name for name in TYPES if TYPES[name] == TYPES[shell]] for shell in sentence.SHELLS} | {"any": list(TYPES)}
+
+
+class Wrong(plain.Wrong):
+    """A way back isn't open, or doesn't lead to the start."""
+
+
+# Sessions.
+
+
+@st.composite
+def sessions(draw, shell, top, product=""):
+    """Sessions of certified modules, which mostly begin where the site is judged, with some loads of what may be loaded.
+    With `any` their commands call the program by the names of all shells."""
+    called = sentence.callings() if shell == "any" else None
+    session = draw(certified.sessions("sh" if shell == "any" else shell, top, product, called=called))
+    start, old = dict(session.start), [(*entry[:3], entry[3] + draw(NEEDS)) for entry in session.old]
+    model.write_loaded(start, old)
+    start = certified.judged(session.site, start) if draw(st.integers(0, 7)) else start
+    names = sorted({one.name for one in session.site.certified if standings.may_be_loaded(one, start)})
+    loads = [["load", name] for name in draw(several(st.sampled_from(names), 8) if names else st.just([]))]
+    given = session.tree, start, loads + session.words, session.ends, session.called
+    return certified.Session(session.site, product, session.shell, *given)
+
+
+class Moment(typing.NamedTuple):
+    """What a session has come to: the environment, the start that its changes by hand have made, the names of the modules
+    loaded there, and those of the live ones, oldest first."""
+
+    env: dict
+    start: dict
+    old: list
+    live: list
+
+
+def moment_of(session):
+    live = [name for name, _ in session.live()]
+    return Moment(session.env, session.start, [entry[0] for entry in session.old], live)
+
+
+def moments(session):
+    """The moments of a session in which something is live, one for each environment."""
+    for words in session.words:
+        before = session.env
+        session.take(words)
+        if session.live() and session.env != before:
+            yield moment_of(session)
+
+
+def without_meant(word, live):
+    """The live modules after an unload of a name, which takes the newest one that it means."""
+    meant = [name for name in live if sentence.matches(word, name)]
+    return [name for name in live if name != meant[-1]] if meant else live
+
+
+def names_of_all(chance, moment):
+    """Names that unload what is live, in a random order: each by its full name or the first parts of it. Before or behind
+    them one may stand that means nothing."""
+    words, live = [], moment.live
+    while live:
+        parts = chance.choice(live).split("/")
+        words.append("/".join(parts[: chance.choice([len(parts), len(parts), 1])]))
+        live = without_meant(words[-1], live)
+    other = chance.choice(sentence.NAMES)
+    if not any(sentence.matches(other, name) for name in moment.old):
+        is_free = not any(sentence.matches(other, name) for name in moment.live)
+        words = chance.choice([words, words, [*words, other], [other, *words] if is_free else words])
+    return words
+
+
+# Ways back.
+
+
+def names_in(env):
+    return [entry[0] for entry in model.loaded_in(env)]
+
+
+def in_need(env, left):
+    """The modules that lose what they need where these names are left loaded."""
+    now, needs = names_in(env), {name: groups for name, _, _, groups in model.loaded_in(env)}
+    is_lost = {name: any(sentence.holds(one, now) and not sentence.holds(one, left) for one in needs[name]) for name in left}
+    return [name for name in left if is_lost[name]]
+
+
+def returned(call, env, words, left):
+    """The environment after a command, which leaves these names loaded; or none where it is rightly refused."""
+    out, said, status = call(env, words)
+    needy = in_need(env, left)
+    if needy:
+        if (out, status) != ("", 1) or said not in [f"ERROR: Still needed by '{name}'\n" for name in needy]:
+            raise Wrong(f"{words} ends with {status} and {said!r}, where {needy} would lose what they need")
+        return None
+    if status != 0:
+        raise Wrong(f"{words} is refused: {said!r}")
+    made = plain.after(env, plain.printed(TYPES[words[0]], out))
+    if names_in(made) != left:
+        raise Wrong(f"{words} leaves {names_in(made)} loaded, and not {left}")
+    return made
+
+
+def is_start(moment, made, what):
+    if made is not None and made != moment.start:
+        raise Wrong(f"{what} leaves {plain.difference(moment.start, made)} of the start")
+
+
+class WaysBack:
+    """The ways back by a program that is called so, in one of these shells, and how many there were."""
+
+    def __init__(self, call, shells):
+        self.call = call
+        self.shells = shells
+        self.counts = dict.fromkeys(["unloads of all", "purges", "single unloads", "refused by 53"], 0)
+
+    def shell(self, chance, moment):
+        """A shell that has a text for each value."""
+        is_long = any("\n" in value for env in (moment.env, moment.start) for value in env.values())
+        return chance.choice([name for name in self.shells if not (is_long and TYPES[name] == "csh")])
+
+    def goes(self, kind, env, words, left):
+        made = returned(self.call, env, words, left)
+        self.counts[kind] += 1
+        self.counts["refused by 53"] += made is None
+        return made
+
+    def at_once(self, chance, moment):
+        words = [self.shell(chance, moment), "unload", *names_of_all(chance, moment)]
+        is_start(moment, self.goes("unloads of all", moment.env, words, moment.old), words)
+
+    def purged(self, chance, moment):
+        words = [self.shell(chance, moment), "purge"]
+        is_start(moment, self.goes("purges", moment.env, words, []), words)
+
+    def one_by_one(self, chance, moment):
+        """Rounds of unloads, each of all that is live still, until no unload of a round is accepted."""
+        env, live, is_less = moment.env, moment.live, True
+        while live and is_less:
+            is_less = False
+            for name in chance.sample(live, len(live)):
+                rest = [one for one in live if one != name]
+                words = [self.shell(chance, moment), "unload", name]
+                made = self.goes("single unloads", env, words, moment.old + rest)
+                if made is not None:
+                    env, live, is_less = made, rest, True
+        is_start(moment, None if live else env, "one unload after another")
+
+    def of(self, session, seed):
+        """All of a session."""
+        chance, found = random.Random(seed), []
+        for moment in moments(session):
+            self.at_once(chance, moment)
+            if not moment.old:
+                self.purged(chance, moment)
+            found.append(moment)
+        if found:
+            self.one_by_one(chance, chance.choice(found))
+
+
+def calls(program):
+    """Calls a program in an environment, and gives what it writes, what it says and its status."""
+    programs = plain.Programs("", program, "")
+    return lambda env, words: programs.run(program, words, env)
+
+
+def prepared(session, top):
+    """A session whose files are there."""
+    sentence.emptied(top)
+    certified.begun(session).tree.write()
+    return session
+
+
+@pytest.mark.parametrize("shell", CALLED)
+def test_the_way_back_is_open(program, tmp_path, shell, judge_rows, note):
+    ways, top = WaysBack(calls(program), CALLED[shell]), str(tmp_path / "top")
+
+    @examples(500)
+    @given(sessions(shell, top), SEEDS)
+    def law(session, seed):
+        ways.of(prepared(session, top), seed)
+
+    law()
+    note(", ".join(f"{count} {kind}" for kind, count in ways.counts.items()))
+    true(min(ways.counts.values()) >= LEAST_PART * sum(ways.counts.values()), "there are ways back of each kind")
+    judge_rows(sum(ways.counts.values()), [])
+
+
+# In real shells.
+
+
+@pytest.mark.parametrize("shell", sentence.SHELLS)
+@examples(40)
+@given(data=st.data())
+def test_the_way_back_in_a_shell(program, product, tmp_path, shell, data):
+    top = sentence.emptied(tmp_path / "top")
+    session, chance = data.draw(sessions(shell, top, product)), random.Random(data.draw(SEEDS))
+    session.words = session.words[: chance.randint(len(session.words) // 2, len(session.words))]
+    *_, moment = [None, *moments(prepared(session, top))]
+    if moment is None or not session.live() or in_need(session.env, moment.old):
+        return
+    words = ["purge"] if not moment.old and chance.choice([True, False]) else ["unload", *names_of_all(chance, moment_of(session))]
+    session.take(words)
+    same(session.commands[-1][1::2], (session.start, 0), f"the environment after {words}, and the status")
+    same(sentence.lost(session, program, top), None, "what is lost")
+
+
+# Wrong programs.
+
+
+def taken_by(env, words):
+    """The entries of the modules that a command unloads."""
+    entries, taken = model.loaded_in(env), []
+    for word in [entry[0] for entry in entries] if words[1] == "purge" else words[2:]:
+        meant = [entry for entry in entries if sentence.matches(word, entry[0])][-1:]
+        taken += meant
+        entries = [entry for entry in entries if entry not in meant]
+    return taken
+
+
+def staying_by(env, words):
+    taken = taken_by(env, words)
+    return [entry for entry in model.loaded_in(env) if entry not in taken]
+
+
+def conflict_judged(env, words):
+    return next((f"Conflict with '{entry[0]}'" for entry in taken_by(env, words) if entry[2]), None)
+
+
+def need_of_none(env, words):
+    needy = [entry[0] for entry in taken_by(env, words) if entry[3]]
+    return f"Still needed by '{needy[0]}'" if words[1] == "purge" and needy else None
+
+
+def need_that_is_met(env, words):
+    return next((f"Still needed by '{entry[0]}'" for entry in staying_by(env, words) if entry[3]), None)
+
+
+def stack_of_others(env, words):
+    """A stack on which another module has pushed later."""
+    names = [entry[0] for entry in taken_by(env, words)]
+    for name in filter(lambda one: one.startswith(model.STACK), env):
+        owners = [field.partition("&")[0] for field in model.fields(env[name])]
+        if any(owner in names for owner in owners[1:]):
+            return f"Bad stack of '{name.removeprefix(model.STACK)}'"
+    return None
+
+
+def searched(env, words):
+    for name, *_ in taken_by(env, words):
+        if not any(os.path.isfile(os.path.join(one, name)) for one in env.get("MODULEPATH", "").split(":")):
+            return f"Unable to locate a modulefile for '{name}'"
+    return None
+
+
+def refusing(reason):
+    """A program that refuses a command for a reason, where there is one."""
+
+    def around(call):
+        def called(env, words):
+            said = reason(env, words)
+            return ("", f"ERROR: {said}\n", 1) if said else call(env, words)
+
+        return called
+
+    return around
+
+
+def forgetting(call):
+    """A program that leaves the counters of paths as they are."""
+
+    def called(env, words):
+        out, said, status = call(env, words)
+        return re.sub(rf"^.*{model.SHARE}.*\n", "", out, flags=re.MULTILINE), said, status
+
+    return called
+
+
+# Each with what is said of it.
+WRONG = {
+    "an unload refused because its module has a conflict": (refusing(conflict_judged), "is refused: \"ERROR: Conflict with '"),
+    "a purge refused by 53 though nothing stays": (refusing(need_of_none), "'purge'] is refused: \"ERROR: Still needed by '"),
+    "an unload refused by 53 though what is needed stays": (refusing(need_that_is_met), "is refused: \"ERROR: Still needed by '"),
+    "an unload refused by 36 without cause": (refusing(stack_of_others), "is refused: \"ERROR: Bad stack of '"),
+    "an unload that searches MODULEPATH": (refusing(searched), "is refused: \"ERROR: Unable to locate a modulefile for '"),
+    "an unload that leaves counters": (forgetting, f"'{model.SHARE}"),
+}
+
+
+@pytest.mark.parametrize("around, said", WRONG.values(), ids=WRONG)
+def test_wrong_programs_are_found(program, tmp_path, around, said, note):
+    ways, top, found = WaysBack(around(calls(program)), CALLED["any"]), str(tmp_path / "top"), []
+
+    def is_found(drawn):
+        session, seed = drawn
+        found.append(None)
+        try:
+            ways.of(prepared(session, top), seed)
+        except plain.Wrong as wrong:
+            found.append(str(wrong))
+        return found[-1]
+
+    find(st.tuples(sessions("any", top), SEEDS), is_found, settings=settings(max_examples=MOST_SESSIONS, phases=[Phase.generate]))
+    true(said in found[-1], f"it is found by what it does: {found[-1]}")
+    note(f"in session {len(found) - 1}: {found[-1]}")
+
+
+# What refuses an unload where a premise is missing.
+
+
+class Row(losses.Row):
+    """A site, a session over it whose commands are accepted, and a last one with the text that it is refused by. Before the
+    last one files are changed, or removed where they have no text."""
+
+    def __init__(self, files, stand, commands, last, start=None, reads=None, later=None, place="/"):
+        super().__init__(files, stand, commands[:-1], None, start, reads)
+        self.last = commands[-1], last
+        self.later = later or {}
+        self.place = place
+
+
+# What is loaded at the start: a module without a file, which needs `a` where it is loaded.
+OLD = {"LOADEDMODULES": "old/1", "_LMFILES_": "/m/old/1"}
+NEEDY = {**OLD, "__MODULES_LMPREREQ": "old/1&a"}
+SET = "setenv V x\n"
+NO = "if {{{}}} {{error no}}\n"
+
+ROWS = {
+    "a module that stays needs it": Row(
+        {"a/1": SET, "b/1": "prereq a\n"}, ["certified"] * 2, ["load a", "load b", "unload a"], "Still needed by 'b/1'"
+    ),
+    "a module of the start needs it": Row({"a/1": SET}, ["certified"], ["load a", "unload a"], "Still needed by 'old/1'", NEEDY),
+    "a module of the start is purged": Row({"a/1": SET}, ["certified"], ["load a", "purge"], "No file at '/m/old/1'", OLD),
+    "a name means a module of the start": Row(
+        {"old/2": SET}, ["certified"], ["load old/2", "unload old old"], "No file at '/m/old/1'", OLD
+    ),
+    "the module isn't certified": Row(
+        {"a/1": NO.format("[module-info mode unload]")}, ["unstable"], ["load a", "unload a"], "no (line 2)"
+    ),
+    "a module beside isn't certified": Row(
+        {"a/1": NO.format("[getenv W] ne {}"), "b/1": "setenv W x\n"},
+        ["certified", "clashes"],
+        ["load a", "load b", "unload a"],
+        "no (line 2)",
+    ),
+    "the start has another value than the audit": Row(
+        {"a/1": NO.format("[getenv W] ne {} && [module-info mode unload]")},
+        ["certified"],
+        ["load a", "unload a"],
+        "no (line 2)",
+        reads={"W": "x"},
+    ),
+    "hands change what is read": Row(
+        {"a/1": NO.format("[getenv W] ne {}")}, ["certified"], ["load a", "W=x", "unload a"], "no (line 2)"
+    ),
+    "hands change a stack": Row(
+        {"a/1": "pushenv V x\n"}, ["certified"], ["load a", "__MODULES_PUSHENV_V=x", "unload a"], "Bad stack of 'V'"
+    ),
+    "hands change the loaded list": Row(
+        {"a/1": SET}, ["certified"], ["load a", "_LMFILES_=", "unload a"], "Loaded modules are inconsistent"
+    ),
+    "the file is gone": Row({"a/1": SET}, ["certified"], ["load a", "unload a"], "No file at '/m/a/1'", later={"a/1": None}),
+    "the file is another": Row({"a/1": SET}, ["certified"], ["load a", "unload a"], "no (line 2)", later={"a/1": "error no\n"}),
+    "the working directory is another": Row(
+        {"a/1": SET}, ["certified"], ["load a", "unload a"], "No file at './m/a/1'", {"MODULEPATH": "./m"}, place="/usr"
+    ),
+    "the shell has no text for it": Row(
+        {"a/1": "unsetenv V two\\nlines\n"},
+        ["certified"],
+        ["load a", "csh unload a"],
+        "Value of 'V' can't be said in this shell",
+        {"V": "two\nlines"},
+    ),
+}
+
+
+@pytest.mark.parametrize("row", ROWS.values(), ids=ROWS)
+def test_what_refuses_where_a_premise_is_missing(folder, built, monkeypatch, row):
+    monkeypatch.chdir("/")
+    session = losses.Session(folder, row)
+    words = [built("modaudit"), "--json", os.fsdecode(folder.modules)]
+    done = subprocess.run(words, env={}, capture_output=True, timeout=SECONDS, check=False)
+    same([one["standing"] for one in json.loads(done.stdout)["modules"]], row.stand, "how the modules stand")
+    for words in row.commands:
+        session.does(words)
+    for name, text in row.later.items():
+        if text is None:
+            os.remove(folder.at(name))
+        else:
+            folder.module(name, text)
+    last, said = row.last
+    words = [os.fsdecode(folder.program), *(["sh"] if last.split()[0] not in TYPES else []), *last.split()]
+    done = subprocess.run(words, env=session.env, cwd=row.place, capture_output=True, text=True, timeout=SECONDS, check=False)
+    same((done.stdout, done.stderr, done.returncode), ("", f"ERROR: {session.real(said)}\n", 1), f"the end of {last}")
