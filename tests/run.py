@@ -23,6 +23,9 @@ from tests.lib.times import Sampler, children_seconds, table  # noqa: E402
 
 COUNTS = re.compile(r"(\d+) passed, (\d+) failed")
 
+# The bytes that must be free for each crate that is proved at the same time: the dearest take some 4 GB.
+MEMORY_OF_A_PROOF = 4_500_000_000
+
 # Stands in the output of a suite before the reason why it, or a part of it, wasn't run.
 NOT_RUN = "not run: "
 
@@ -135,12 +138,21 @@ def counted(command):
     return passed, (failed or 0) + bool(wrong), reasons
 
 
+def crates_at_a_time():
+    """How many crates the gate may prove at once. By itself it reckons two to four times the memory that a proof takes, so
+    that large crates are proved alone."""
+    with open("/proc/meminfo", encoding="utf-8") as file:
+        free = 1024 * int(re.search(r"^MemAvailable:\s+(\d+)", file.read(), re.M)[1])
+    return max(1, min(len(os.sched_getaffinity(0)), free // MEMORY_OF_A_PROOF))
+
+
 def gate():
     """Runs the gate. What an earlier run built is removed first, so that what is there afterwards is this gate's."""
     shutil.rmtree(BUILT, ignore_errors=True)
     for name in PROGRAMS:
         if os.path.exists(left_by_the_gate(name)):
             os.remove(left_by_the_gate(name))
+    os.environ.setdefault("RT_JOBS", str(crates_at_a_time()))
     counts = counted(["rt", "ci"])
     os.makedirs(BUILT, exist_ok=True)
     for name in PROGRAMS:
