@@ -67,6 +67,7 @@ SUITES = (
     "module/in_python.py",
     "audit/certified.py",
     "audit/losses.py",
+    "audit/returns.py",
     "audit/modaudit.py",
     "port/modport.py",
     "port/moved.py",

@@ -1,17 +1,21 @@
-"""The way back is always open: what a session of certified modules has loaded can be unloaded, tried by the built program.
+"""The way back is always open: what a session of certified modules has loaded can be unloaded. The built program is tried.
 
-Random sessions as in `certified.py`, with changes by hand, and with modules loaded at the start in some, of which a few
-need what the session loads. At each moment of a session what is live is unloaded by one command, in a random order, and
-where nothing was loaded at the start by `purge` as well; at one moment also by one command after another. A module may
-be named by the first parts of its name. Each command has to be accepted, and what its text makes of the environment has
-to be the start, with the changes by hand. Only where a module that stays loaded would lose what it needs, the command
-has to be refused, with that module's name.
+Random sessions as in `certified.py`, with changes by hand. In most of them modules are loaded at the start, and some of
+these need what the session loads. At each moment one command unloads all that is live, in a random order; and where
+nothing was loaded at the start, `purge` does. At one moment of a session the modules are also unloaded one after
+another. A name may be the first parts of a module's name.
 
-The texts are read by the reader of `core/plain.py`. Then sessions in real shells, each with a way back at its end; what
-refuses an unload where a premise is missing; and programs that refuse or leave something without cause, of which each
-has to be found.
+Each command has to be accepted, and the text of the last one has to lead to the start, with the changes by hand. If a
+module that stays loaded would lose what it needs, the command has to be refused with that module's name.
+
+Texts are read by the reader of `core/plain.py`. Besides there are
+
+- sessions in real shells, each with a way back at its end;
+- wrong programs, each of which has to be found: they refuse without cause, or leave something;
+- rows of what refuses an unload where a premise is missing, which docs/CLAIMS.md names.
 """
 
+import collections
 import json
 import os
 import random
@@ -20,24 +24,27 @@ import subprocess
 import typing
 
 import pytest
-from hypothesis import Phase, find, given, settings
+from hypothesis import Phase, assume, find, given, settings
 from hypothesis import strategies as st
 
 from tests.audit import certified, losses
 from tests.core import plain, sentence
 from tests.lib.harness import SECONDS, same, true
+from tests.lib.named import content
 from tests.lib.properties import examples, several
 from tests.models import runs as model
 from tests.models import standings
 from tests.models.evaluations import TYPES
 
-# How many sessions there are until a wrong program is found, at most; and at least this part of the commands is of each
-# kind, and is refused by 53.
+# How many sessions there are until a wrong program is found, at most.
 MOST_SESSIONS = 200
+
+# At least this part of the commands is of each kind, and is refused by 53.
 LEAST_PART = 0.03
 
-# What modules of the start need besides: what sessions load, and what nobody loads.
-NEEDS = st.sampled_from([[], [], [["n", "w_1"]], [["m", "k"]], [["z"], ["m/10"]]])
+# What modules need besides: names of which one has to be loaded. Those of the start may need them too.
+GROUPS = [["n", "w_1"], ["m"], ["k", "n"], ["m", "k", "z"], ["m/10", "k"]]
+OLD_NEEDS = st.sampled_from([*[[]] * 6, [["n", "w_1"]], [["m", "k"]], [["z"], ["m/10"]]])
 SEEDS = st.integers(0, 2**32 - 1)
 
 # The shells that call the program on the way back, by that of the session.
@@ -51,19 +58,38 @@ class Wrong(plain.Wrong):
 # Sessions.
 
 
+def with_needs(tree, chance):
+    """A tree in which some modules need others. That changes nothing of how they stand."""
+    modules = dict(tree.modules)
+    for path, module in modules.items():
+        if chance.randrange(3) == 0:
+            lines = [*module.lines, ("prereq", chance.choice(GROUPS))]
+            modules[path] = sentence.Module([(line, 0) for line in lines])
+    return sentence.Tree(tree.dirs, modules, tree.defaults)
+
+
 @st.composite
 def sessions(draw, shell, top, product=""):
     """Sessions of certified modules, which mostly begin where the site is judged, with some loads of what may be loaded.
     With `any` their commands call the program by the names of all shells."""
     called = sentence.callings() if shell == "any" else None
     session = draw(certified.sessions("sh" if shell == "any" else shell, top, product, called=called))
-    start, old = dict(session.start), [(*entry[:3], entry[3] + draw(NEEDS)) for entry in session.old]
+    start, old = dict(session.start), [(*entry[:3], entry[3] + draw(OLD_NEEDS)) for entry in session.old]
     model.write_loaded(start, old)
     start = certified.judged(session.site, start) if draw(st.integers(0, 7)) else start
     names = sorted({one.name for one in session.site.certified if standings.may_be_loaded(one, start)})
     loads = [["load", name] for name in draw(several(st.sampled_from(names), 8) if names else st.just([]))]
-    given = session.tree, start, loads + session.words, session.ends, session.called
+    tree = with_needs(session.tree, random.Random(draw(SEEDS)))
+    given = tree, start, loads + session.words, session.ends, session.called
     return certified.Session(session.site, product, session.shell, *given)
+
+
+def shuffled(session, chance):
+    """The same words in another order, over the same site and from the same start: to draw them costs more than to try
+    them."""
+    words = chance.sample(session.words, len(session.words))
+    given = session.tree, session.begun, words, session.ends, session.called
+    return certified.Session(session.site, session.product, session.shell, *given)
 
 
 class Moment(typing.NamedTuple):
@@ -97,8 +123,8 @@ def without_meant(word, live):
 
 
 def names_of_all(chance, moment):
-    """Names that unload what is live, in a random order: each by its full name or the first parts of it. Before or behind
-    them one may stand that means nothing."""
+    """Names that unload what is live, in a random order: full names or their first parts. The first or the last one may
+    mean nothing that is loaded."""
     words, live = [], moment.live
     while live:
         parts = chance.choice(live).split("/")
@@ -126,38 +152,40 @@ def in_need(env, left):
 
 
 def returned(call, env, words, left):
-    """The environment after a command, which leaves these names loaded; or none where it is rightly refused."""
+    """The environment after a command that leaves these names loaded, or none where it is rightly refused."""
     out, said, status = call(env, words)
     needy = in_need(env, left)
-    if needy:
-        if (out, status) != ("", 1) or said not in [f"ERROR: Still needed by '{name}'\n" for name in needy]:
-            raise Wrong(f"{words} ends with {status} and {said!r}, where {needy} would lose what they need")
+    if needy and (out, status) == ("", 1) and said in [f"ERROR: Still needed by '{name}'\n" for name in needy]:
         return None
     if status != 0:
         raise Wrong(f"{words} is refused: {said!r}")
+    if needy:
+        raise Wrong(f"{words} is accepted, and {needy} lose what they need")
     made = plain.after(env, plain.printed(TYPES[words[0]], out))
     if names_in(made) != left:
         raise Wrong(f"{words} leaves {names_in(made)} loaded, and not {left}")
     return made
 
 
-def is_start(moment, made, what):
+def leads_back(moment, made, what):
+    """What is made, if anything, is the start."""
     if made is not None and made != moment.start:
-        raise Wrong(f"{what} leaves {plain.difference(moment.start, made)} of the start")
+        raise Wrong(f"{what} leaves {plain.difference(moment.start, made)}, and not the start")
 
 
 class WaysBack:
-    """The ways back by a program that is called so, in one of these shells, and how many there were."""
+    """The ways back by a program, which is called so, in some of these shells; and how many commands there were."""
 
     def __init__(self, call, shells):
         self.call = call
         self.shells = shells
+        self.sessions = 0
         self.counts = dict.fromkeys(["unloads of all", "purges", "single unloads", "refused by 53"], 0)
 
     def shell(self, chance, moment):
         """A shell that has a text for each value."""
-        is_long = any("\n" in value for env in (moment.env, moment.start) for value in env.values())
-        return chance.choice([name for name in self.shells if not (is_long and TYPES[name] == "csh")])
+        has_lines = any("\n" in value for env in (moment.env, moment.start) for value in env.values())
+        return chance.choice([name for name in self.shells if not (has_lines and TYPES[name] == "csh")])
 
     def goes(self, kind, env, words, left):
         made = returned(self.call, env, words, left)
@@ -167,14 +195,15 @@ class WaysBack:
 
     def at_once(self, chance, moment):
         words = [self.shell(chance, moment), "unload", *names_of_all(chance, moment)]
-        is_start(moment, self.goes("unloads of all", moment.env, words, moment.old), words)
+        leads_back(moment, self.goes("unloads of all", moment.env, words, moment.old), words)
 
     def purged(self, chance, moment):
         words = [self.shell(chance, moment), "purge"]
-        is_start(moment, self.goes("purges", moment.env, words, []), words)
+        leads_back(moment, self.goes("purges", moment.env, words, []), words)
 
     def one_by_one(self, chance, moment):
-        """Rounds of unloads, each of all that is live still, until no unload of a round is accepted."""
+        """Rounds of unloads of all that is still live, one by one. Modules that need each other are left, and unloaded by one
+        command."""
         env, live, is_less = moment.env, moment.live, True
         while live and is_less:
             is_less = False
@@ -184,11 +213,15 @@ class WaysBack:
                 made = self.goes("single unloads", env, words, moment.old + rest)
                 if made is not None:
                     env, live, is_less = made, rest, True
-        is_start(moment, None if live else env, "one unload after another")
+        if live:
+            words = [self.shell(chance, moment), "unload", *live]
+            env = self.goes("unloads of all", env, words, moment.old)
+        leads_back(moment, env, "one unload after another")
 
     def of(self, session, seed):
         """All of a session."""
         chance, found = random.Random(seed), []
+        self.sessions += 1
         for moment in moments(session):
             self.at_once(chance, moment)
             if not moment.old:
@@ -205,8 +238,10 @@ def calls(program):
 
 
 def prepared(session, top):
-    """A session whose files are there."""
-    sentence.emptied(top)
+    """A session whose files are there, and no others. Empty folders of earlier sessions stay: to remove them takes time."""
+    for folder, _, names in os.walk(top):
+        for name in names:
+            os.remove(os.path.join(folder, name))
     certified.begun(session).tree.write()
     return session
 
@@ -215,13 +250,14 @@ def prepared(session, top):
 def test_the_way_back_is_open(program, tmp_path, shell, judge_rows, note):
     ways, top = WaysBack(calls(program), CALLED[shell]), str(tmp_path / "top")
 
-    @examples(500)
+    @examples(250)
     @given(sessions(shell, top), SEEDS)
     def law(session, seed):
         ways.of(prepared(session, top), seed)
+        ways.of(prepared(shuffled(session, random.Random(seed)), top), seed)
 
     law()
-    note(", ".join(f"{count} {kind}" for kind, count in ways.counts.items()))
+    note(", ".join(f"{count} {kind}" for kind, count in [("sessions", ways.sessions), *ways.counts.items()]))
     true(min(ways.counts.values()) >= LEAST_PART * sum(ways.counts.values()), "there are ways back of each kind")
     judge_rows(sum(ways.counts.values()), [])
 
@@ -230,16 +266,17 @@ def test_the_way_back_is_open(program, tmp_path, shell, judge_rows, note):
 
 
 @pytest.mark.parametrize("shell", sentence.SHELLS)
-@examples(40)
+@examples(20)
 @given(data=st.data())
 def test_the_way_back_in_a_shell(program, product, tmp_path, shell, data):
     top = sentence.emptied(tmp_path / "top")
     session, chance = data.draw(sessions(shell, top, product)), random.Random(data.draw(SEEDS))
     session.words = session.words[: chance.randint(len(session.words) // 2, len(session.words))]
-    *_, moment = [None, *moments(prepared(session, top))]
-    if moment is None or not session.live() or in_need(session.env, moment.old):
-        return
-    words = ["purge"] if not moment.old and chance.choice([True, False]) else ["unload", *names_of_all(chance, moment_of(session))]
+    collections.deque(moments(prepared(session, top)), 0)
+    moment = moment_of(session)
+    assume(moment.live and not in_need(moment.env, moment.old))
+    is_purged = not moment.old and chance.choice([True, False])
+    words = ["purge"] if is_purged else ["unload", *names_of_all(chance, moment)]
     session.take(words)
     same(session.commands[-1][1::2], (session.start, 0), f"the environment after {words}, and the status")
     same(sentence.lost(session, program, top), None, "what is lost")
@@ -298,12 +335,22 @@ def refusing(reason):
 
     def around(call):
         def called(env, words):
-            said = reason(env, words)
-            return ("", f"ERROR: {said}\n", 1) if said else call(env, words)
+            text = reason(env, words)
+            return ("", f"ERROR: {text}\n", 1) if text else call(env, words)
 
         return called
 
     return around
+
+
+def unasked(call):
+    """A program that refuses nothing by 53."""
+
+    def called(env, words):
+        out, said, status = call(env, words)
+        return ("", "", 0) if said.startswith("ERROR: Still needed by ") else (out, said, status)
+
+    return called
 
 
 def forgetting(call):
@@ -316,41 +363,45 @@ def forgetting(call):
     return called
 
 
-# Each with what is said of it.
-WRONG = {
-    "an unload refused because its module has a conflict": (refusing(conflict_judged), "is refused: \"ERROR: Conflict with '"),
-    "a purge refused by 53 though nothing stays": (refusing(need_of_none), "'purge'] is refused: \"ERROR: Still needed by '"),
-    "an unload refused by 53 though what is needed stays": (refusing(need_that_is_met), "is refused: \"ERROR: Still needed by '"),
-    "an unload refused by 36 without cause": (refusing(stack_of_others), "is refused: \"ERROR: Bad stack of '"),
-    "an unload that searches MODULEPATH": (refusing(searched), "is refused: \"ERROR: Unable to locate a modulefile for '"),
+REFUSED = "{} is refused: \"ERROR: {} '"
+
+# Each with a part of what is said of it.
+WRONG_PROGRAMS = {
+    "an unload refused because its module has a conflict": (refusing(conflict_judged), REFUSED.format("]", "Conflict with")),
+    "a purge refused by 53 though nothing stays": (refusing(need_of_none), REFUSED.format("'purge']", "Still needed by")),
+    "an unload refused by 53 though what is needed stays": (refusing(need_that_is_met), REFUSED.format("]", "Still needed by")),
+    "an unload refused by 36 without cause": (refusing(stack_of_others), REFUSED.format("]", "Bad stack of")),
+    "an unload that searches MODULEPATH": (refusing(searched), REFUSED.format("]", "Unable to locate a modulefile for")),
+    "an unload that takes what others need": (unasked, "is accepted, and "),
     "an unload that leaves counters": (forgetting, f"'{model.SHARE}"),
 }
 
 
-@pytest.mark.parametrize("around, said", WRONG.values(), ids=WRONG)
+@pytest.mark.parametrize("around, said", WRONG_PROGRAMS.values(), ids=WRONG_PROGRAMS)
 def test_wrong_programs_are_found(program, tmp_path, around, said, note):
     ways, top, found = WaysBack(around(calls(program)), CALLED["any"]), str(tmp_path / "top"), []
 
     def is_found(drawn):
         session, seed = drawn
-        found.append(None)
         try:
+            found.append(None)
             ways.of(prepared(session, top), seed)
         except plain.Wrong as wrong:
-            found.append(str(wrong))
+            found[-1] = str(wrong)
         return found[-1]
 
-    find(st.tuples(sessions("any", top), SEEDS), is_found, settings=settings(max_examples=MOST_SESSIONS, phases=[Phase.generate]))
+    tried = settings(max_examples=MOST_SESSIONS, phases=[Phase.generate])
+    find(st.tuples(sessions("any", top), SEEDS), is_found, settings=tried)
     true(said in found[-1], f"it is found by what it does: {found[-1]}")
-    note(f"in session {len(found) - 1}: {found[-1]}")
+    note(f"in session {len(found)}: {found[-1]}")
 
 
 # What refuses an unload where a premise is missing.
 
 
 class Row(losses.Row):
-    """A site, a session over it whose commands are accepted, and a last one with the text that it is refused by. Before the
-    last one files are changed, or removed where they have no text."""
+    """A site, accepted commands over it, and a last one with the text that refuses it. Before the last one files change, or
+    are removed where they have no later text; and it is run in this working directory."""
 
     def __init__(self, files, stand, commands, last, start=None, reads=None, later=None, place="/"):
         super().__init__(files, stand, commands[:-1], None, start, reads)
@@ -359,7 +410,7 @@ class Row(losses.Row):
         self.place = place
 
 
-# What is loaded at the start: a module without a file, which needs `a` where it is loaded.
+# What is loaded at the start: a module without a file; and the same if it needs `a`.
 OLD = {"LOADEDMODULES": "old/1", "_LMFILES_": "/m/old/1"}
 NEEDY = {**OLD, "__MODULES_LMPREREQ": "old/1&a"}
 SET = "setenv V x\n"
@@ -414,6 +465,11 @@ ROWS = {
 }
 
 
+def test_claims_has_each_row():
+    text = content("docs", "CLAIMS.md")
+    same([name for name in ROWS if f'"{name}"' not in text], [], "the rows that CLAIMS doesn't name")
+
+
 @pytest.mark.parametrize("row", ROWS.values(), ids=ROWS)
 def test_what_refuses_where_a_premise_is_missing(folder, built, monkeypatch, row):
     monkeypatch.chdir("/")
@@ -429,6 +485,7 @@ def test_what_refuses_where_a_premise_is_missing(folder, built, monkeypatch, row
         else:
             folder.module(name, text)
     last, said = row.last
-    words = [os.fsdecode(folder.program), *(["sh"] if last.split()[0] not in TYPES else []), *last.split()]
-    done = subprocess.run(words, env=session.env, cwd=row.place, capture_output=True, text=True, timeout=SECONDS, check=False)
+    words = [os.fsdecode(folder.program), *(last if last.split()[0] in TYPES else f"sh {last}").split()]
+    options = {"env": session.env, "cwd": row.place, "capture_output": True, "text": True, "timeout": SECONDS}
+    done = subprocess.run(words, check=False, **options)
     same((done.stdout, done.stderr, done.returncode), ("", f"ERROR: {session.real(said)}\n", 1), f"the end of {last}")
