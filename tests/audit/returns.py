@@ -2,7 +2,7 @@
 
 Random sessions as in `certified.py`, with changes by hand. In most of them modules are loaded at the start, and some of
 these need what the session loads. At each moment one command unloads all that is live, in a random order; and where
-nothing was loaded at the start, `purge` does. At one moment of a session the modules are also unloaded one after
+nothing was loaded at the start, `purge` does. Over another start `purge` has to end as it would at the start. At one moment of a session the modules are also unloaded one after
 another. A name may be the first parts of a module's name.
 
 Each command has to be accepted, and the text of the last one has to lead to the start, with the changes by hand. If a
@@ -45,6 +45,9 @@ LEAST_PART = 0.03
 # What modules need besides: names of which one has to be loaded. Those of the start may need them too.
 GROUPS = [["n", "w_1"], ["m"], ["k", "n"], ["m", "k", "z"], ["m/10", "k"]]
 OLD_NEEDS = st.sampled_from([*[[]] * 6, [["n", "w_1"]], [["m", "k"]], [["z"], ["m/10"]]])
+
+# The files of modules of the start, which need not be certified.
+OLD_TEXTS = ["setenv OLD x\n", "prepend-path OLD_PATH /old\nputs stderr old\n", "error [module-info mode]\n"]
 SEEDS = st.integers(0, 2**32 - 1)
 
 # The shells that call the program on the way back, by that of the session.
@@ -74,7 +77,10 @@ def sessions(draw, shell, top, product=""):
     With `any` their commands call the program by the names of all shells."""
     called = sentence.callings() if shell == "any" else None
     session = draw(certified.sessions("sh" if shell == "any" else shell, top, product, called=called))
-    start, old = dict(session.start), [(*entry[:3], entry[3] + draw(OLD_NEEDS)) for entry in session.old]
+    # (What a shell is compared with knows no files of the start's modules.)
+    has_files = not product and draw(st.booleans())
+    old = [old_entry(top, has_files, entry, draw(OLD_NEEDS)) for entry in session.old]
+    start = dict(session.start)
     model.write_loaded(start, old)
     start = certified.judged(session.site, start) if draw(st.integers(0, 7)) else start
     names = sorted({one.name for one in session.site.certified if standings.may_be_loaded(one, start)})
@@ -82,6 +88,21 @@ def sessions(draw, shell, top, product=""):
     tree = with_needs(session.tree, random.Random(draw(SEEDS)))
     given = tree, start, loads + session.words, session.ends, session.called
     return certified.Session(session.site, product, session.shell, *given)
+
+
+def old_entry(top, has_files, entry, needs):
+    """An entry of the start with more needs, and with a file below a folder, or a path where nothing is."""
+    name, path, conflicts, groups = entry
+    return name, f"{top}/old/{name}" if has_files else path, conflicts, groups + needs
+
+
+def write_old(session, top):
+    """Writes the files of modules of the start. Their text depends on the name."""
+    for name, path, *_ in model.loaded_in(session.begun):
+        if path.startswith(f"{top}/"):
+            os.makedirs(os.path.dirname(path), exist_ok=True)
+            with open(path, "w", encoding="utf-8") as file:
+                file.write("#%Module\n" + OLD_TEXTS[len(name) % len(OLD_TEXTS)])
 
 
 def shuffled(session, chance):
@@ -139,6 +160,8 @@ def names_of_all(chance, moment):
 
 # Ways back.
 
+KINDS = ["unloads of all", "purges", "purges over others", "accepted purges over others", "single unloads", "refused by 53"]
+
 
 def names_in(env):
     return [entry[0] for entry in model.loaded_in(env)]
@@ -180,7 +203,7 @@ class WaysBack:
         self.call = call
         self.shells = shells
         self.sessions = 0
-        self.counts = dict.fromkeys(["unloads of all", "purges", "single unloads", "refused by 53"], 0)
+        self.counts = dict.fromkeys(KINDS, 0)
 
     def shell(self, chance, moment):
         """A shell that has a text for each value."""
@@ -200,6 +223,17 @@ class WaysBack:
     def purged(self, chance, moment):
         words = [self.shell(chance, moment), "purge"]
         leads_back(moment, self.goes("purges", moment.env, words, []), words)
+
+    def purged_as_at_start(self, chance, moment):
+        words = [self.shell(chance, moment), "purge"]
+        ends = [self.call(env, words) for env in (moment.env, moment.start)]
+        self.counts["purges over others"] += 1
+        if ends[0][2] != ends[1][2] or (ends[1][2] != 0 and ends[0] != ends[1]):
+            raise Wrong(f"{words} ends in {ends[0]}, and at the start in {ends[1]}")
+        if ends[1][2] == 0:
+            made = [plain.after(env, plain.printed(TYPES[words[0]], end[0])) for env, end in zip((moment.env, moment.start), ends)]
+            leads_back(moment._replace(start=made[1]), made[0], words)
+            self.counts["accepted purges over others"] += 1
 
     def one_by_one(self, chance, moment):
         """Rounds of unloads of all that is still live, one by one. Modules that need each other are left, and unloaded by one
@@ -224,7 +258,9 @@ class WaysBack:
         self.sessions += 1
         for moment in moments(session):
             self.at_once(chance, moment)
-            if not moment.old:
+            if moment.old:
+                self.purged_as_at_start(chance, moment)
+            else:
                 self.purged(chance, moment)
             found.append(moment)
         if found:
@@ -243,6 +279,7 @@ def prepared(session, top):
         for name in names:
             os.remove(os.path.join(folder, name))
     certified.begun(session).tree.write()
+    write_old(session, top)
     return session
 
 
@@ -368,7 +405,7 @@ REFUSED = "{} is refused: \"ERROR: {} '"
 # Each with a part of what is said of it.
 WRONG_PROGRAMS = {
     "an unload refused because its module has a conflict": (refusing(conflict_judged), REFUSED.format("]", "Conflict with")),
-    "a purge refused by 53 though nothing stays": (refusing(need_of_none), REFUSED.format("'purge']", "Still needed by")),
+    "a purge refused by 53 though nothing stays": (refusing(need_of_none), "ERROR: Still needed by '"),
     "an unload refused by 53 though what is needed stays": (refusing(need_that_is_met), REFUSED.format("]", "Still needed by")),
     "an unload refused by 36 without cause": (refusing(stack_of_others), REFUSED.format("]", "Bad stack of")),
     "an unload that searches MODULEPATH": (refusing(searched), REFUSED.format("]", "Unable to locate a modulefile for")),

@@ -232,11 +232,11 @@ def test_does_what_is_typed_behind_a_pager_that_was_suspended(real, start):
 def test_says_which_names_are_like_one_that_isn_t_found(real, shell, start):
     at = start(real)
     for line, name, said in (
-        ("module load GCC", "GCC", "Did you mean gcc/9, gcc/10, gcc/11?"),
+        ("module load GCC", "GCC", "Did you mean gcc?"),
         ("ml mpi gxc", "gxc", "Did you mean gcc?"),
         ("module show gcc/13", "gcc/13", "Did you mean gcc/10, gcc/11, gcc/12?"),
         ("module whatis tops", "tops", "Did you mean top?"),
-        ("module switch gcc mp/1", "mp/1", "Did you mean mpi/1?"),
+        ("module switch gcc mp/1", "mp/1", "Did you mean mpi?"),
     ):
         at.shows(line, f"ERROR: Unable to locate a modulefile for '{name}'\r\n{said}\r\n".encode())
     at.settle(0.1)

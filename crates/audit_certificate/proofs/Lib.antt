@@ -3,7 +3,7 @@ mod UseLemmas
 pub mod UsedLemmas
 mod RecordLemmas
 pub mod AsCertified
-mod OneUse
+pub mod OneUse
 pub mod Exact
 pub mod Staying
 pub mod CertifiedOnes

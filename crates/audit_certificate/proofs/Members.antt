@@ -106,7 +106,7 @@ pub any_flat : {X Y : Type 0} (p : Y → Bool) (f : X → List Y) (xs : List X) 
 any_flat p f [] = refl
 any_flat p f (x ∷ xs) = list_any-append p (f x) (flat_map f xs) ∙ ap (λ b. list_any p (f x) || b) (any_flat p f xs)
 
--- The same as answers want them: of a call that pushed a user or not, into a list in its place.
+-- A call pushed a user or not, into a list in its place.
 pub pushed_in_place : {X E : Type 0} (r : Result (Unit {0}) E) (f : X → List ModuleUse) (xs : List X) (i : ℕ) (x z : X) (u : ModuleUse) → i < length xs → x ≡ get_or xs i x
     → f z ≡ cond (is_ok r) (f x ++ u ∷ []) (f x) → OnOk r (HasOneMore (flat_map f xs) (flat_map f (set xs i z)) u)
 pushed_in_place (Ok v) f xs i x z u l is e =

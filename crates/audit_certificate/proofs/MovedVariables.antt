@@ -10,7 +10,7 @@ use Rattle.envvars.specs.Names.{share_name, stack_name}
 use Rattle.envvars.specs.Environment.{Environment, lookup}
 use Rattle.envvars.proofs.TextLemmas.{has-push, or_left, or_right}
 use Rattle.envstate.specs.paths.Paths.{PathState}
-use Rattle.envstate.specs.paths.PathTexts.{state_of, elements_text, pairs_text}
+use Rattle.envstate.specs.paths.PathTexts.{state_of, elements_text, counters_as_text}
 use Rattle.envstate.specs.paths.PathVariables.{path_in}
 use Rattle.envstate.specs.paths.PathOrder.{IsPathInOrder}
 use Rattle.envstate.specs.paths.PathRuns.{IsPathStartWith}
@@ -61,7 +61,7 @@ path_same start e v d h = ap (λ (t : Option Text). state_of d t (lookup e (shar
 pub path_moved : (start e : Environment) (v : Text) (d : ℕ) → IsAsIn start v e → IsPathInOrder start v d → IsPathInOrder e v d
 path_moved start e v d h o = record {
   elements = h.value ∙ o.elements ∙ ap (λ (s : PathState). elements_text d s.elements) (sym (path_same start e v d h));
-  counters = h.counters ∙ o.counters ∙ ap pairs_text (sym (path_same start e v d h));
+  counters = h.counters ∙ o.counters ∙ ap counters_as_text (sym (path_same start e v d h));
 }
 
 stack_same : (start e : Environment) (v : Text) → IsAsIn start v e → stack_in e v ≡ stack_in start v

@@ -19,7 +19,7 @@ names_in_conflict m n = list_any (λ name. means name n.name) (conflict_names m.
 abbrev pub in_conflict : Module → Module → Bool
 in_conflict m n = names_in_conflict m n || names_in_conflict n m
 
--- The same of a module and the entry that another has in the loaded list, where its conflicts are recorded.
+-- The module is in conflict with the entry that another has in the loaded list, where the other's conflicts are kept.
 abbrev pub in_conflict_with_entry : Module → Entry → Bool
 in_conflict_with_entry m x =
     list_any (λ name. means name x.name) (conflict_names m.records) || list_any (λ name. means name m.name) x.conflicts
@@ -73,6 +73,6 @@ pub record Clash (m n : Candidate) (v : Text) (x y : VariableUse) : Type 0 where
 abbrev pub do_clash_by : Candidate → Candidate → UsedVariable → UsedVariable → Bool
 do_clash_by m n p q = bytes_eq p.0 q.0 && uses_clash (are_mutually_exclusive m n p.1 q.1) p.1 q.1
 
--- The same as a test: the candidates clash in some variable.
+-- Whether the candidates clash in some variable, as a test.
 abbrev pub do_clash : Candidate → Candidate → Bool
 do_clash m n = list_any (λ p. list_any (do_clash_by m n p) (uses_of n)) (uses_of m)

@@ -106,8 +106,8 @@ pub record AreLayered (ms : List Candidate) (start : Environment) (live : List M
   pub order : IsInOrder (uses_by live) e
   pub start_with_live : IsStartWith (uses_by live) start live e
 
--- The same from any such environment, whatever was before: this is what one command needs, which knows no history.
--- Where no module is live then, the environment is the start.
+-- Moves from any such environment, whatever was before, as one command makes them, which knows no history. Where no
+-- module is live then, the environment is the start.
 abbrev pub CertifiedMovesPreserve : Type 0
 CertifiedMovesPreserve =
     (ms : List Candidate) (start old new : Environment) (live : List Module) (moves : List Move)

@@ -29,7 +29,7 @@ Uses rs v x = IsAmong (v, x) (used_by rs)
 abbrev pub modulepath : Text
 modulepath = codes "MODULEPATH"
 
--- The same as a test: two uses are one.
+-- whether two uses are one, as a test
 abbrev pub same_use : VariableUse → VariableUse → Bool
 same_use Untouched Untouched = true
 same_use (Fixed x) (Fixed y) = option_eq bytes_eq x y

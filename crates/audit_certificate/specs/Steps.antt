@@ -19,8 +19,8 @@ pub record IsConsistent (m : Candidate) : Type 0 where
   pub returns : list_all can_return m.records ≡ true
   pub consistent : AreConsistent (uses_of m)
 
--- The same as tests: each, unless it is a read, is as all are that are of its variable, and as a path with colons where
--- this is MODULEPATH.
+-- Whether uses are consistent, as a test: each, unless it is a read, is as all are that are of its variable, and as a
+-- path with colons where this is MODULEPATH.
 abbrev pub are_consistent : List UsedVariable → Bool
 are_consistent ps = list_all (λ p. is_same_use p (modulepath, Pathed colon) && list_all (is_same_use p) ps) ps
 

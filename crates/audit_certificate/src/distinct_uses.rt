@@ -31,7 +31,7 @@ fn copy_of(alloc: Global, used: &UsedVariable) -> Result<UsedVariable, AllocErro
 struct DistinctUses<'a> {
     /// The uses.
     uses: Vec<UsedVariable>,
-    /// The same as keys.
+    /// The uses as keys, to find one by what it is.
     keys: IndexSet<UsedKey<'a>>,
 }
 

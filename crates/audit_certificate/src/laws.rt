@@ -34,9 +34,9 @@ pub fn runs()
     reversal::laws::steps();
 }
 
-/// The same from any environment in order that is such a start with certified modules layered on it, whatever was
-/// before: this is what one command needs, which knows no history (`kept`). So it begins with no module live (`none`),
-/// and with live ones a start that agrees with what they use is one by their uses (`begins`).
+/// The moves of one command, which knows no history, keep the certified modules layered on the start (`kept`). They begin
+/// in any environment in order that is such a start with certified modules layered on it. So it begins with no module
+/// live (`none`), and with live ones a start that agrees with what they use is one by their uses (`begins`).
 pub fn steps()
     ensures kept { CertifiedMovesPreserve }
     ensures none { NoneIsLayered }

@@ -1,7 +1,7 @@
 mod Seen
-mod Noted
+pub mod Noted
 pub mod Rests
 pub mod ReadVariables
-mod Settling
+pub mod Settling
 mod Asked
 pub mod UndoTested

@@ -1,2 +1,3 @@
 pub mod determinism
 pub mod site
+pub mod returns

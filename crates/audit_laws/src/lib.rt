@@ -1,6 +1,7 @@
-//! When modules are deterministic, and what a certificate of a site promises of its sessions.
+//! When modules are deterministic, what a certificate promises of sessions, and why the way back is always open.
 //! Touches nothing; takes memory.
 #![tactic(auto)]
 
 pub mod determinism;
+pub mod returns;
 pub mod site;

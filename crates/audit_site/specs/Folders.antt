@@ -84,12 +84,12 @@ AddsBadAnswer limits files listings folder old new =
     (answer : Option Text) × IsBadAnswer limits files listings folder answer
     × (new ≡ with_directories old (option_to_list answer))
 
--- The same, unless the folder is one of these.
+-- These paths have that answer after them, unless the folder is one of these.
 abbrev pub AddsNewAnswer : Limits → Files → Listings → List FolderText → FolderText → List Text → List Text → Type 0
 AddsNewAnswer limits files listings folders folder old new =
     (IsAmong folder folders × (new ≡ old)) ⊎ AddsBadAnswer limits files listings folder old new
 
--- The same of the folder in which the module is, if it is in one.
+-- These paths have the answer of the folder in which the module is, if it is in one that isn't among these.
 abbrev pub AddsBadDefault : Limits → Files → Listings → List FolderText → SiteModule → List Text → List Text → Type 0
 AddsBadDefault limits files listings folders m old new =
     ((folder : FolderText) × IsAmong folder folders × HoldsModule folder m.name m.path × (new ≡ old))

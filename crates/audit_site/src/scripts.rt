@@ -186,7 +186,7 @@ fn file_of(
     }
 }
 
-/// The same texts, each once, in the order of their first places.
+/// The texts, each once, in the order of their first places.
 fn once_each(alloc: Global, texts: &[String]) -> Result<Vec<String>, AllocError>
     ensures { IfOk result (λ once. texts_in once ≡ without_repeats (map string_bytes texts.now)) }
 {

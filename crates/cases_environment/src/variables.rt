@@ -67,7 +67,7 @@ fn refusal(alloc: Global, fault: EnvFault) -> Result<Option<String>, EnvFault> {
     Ok(Some(format!(in alloc; "!{number}")?))
 }
 
-/// The same, with `!NUMBER` for a refusal. Memory alone is a fault.
+/// The answer for words, with `!NUMBER` for a refusal. Memory alone is a fault.
 fn made<V: Vars>(
     alloc: Global,
     vars: &mut V,

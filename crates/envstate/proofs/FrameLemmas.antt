@@ -10,7 +10,7 @@ use Rattle.envvars.specs.Environment.{Environment, lookup, with_value}
 use Rattle.envvars.specs.Reasons.{EnvReason, unless}
 use Rattle.envvars.proofs.TextLemmas.{same_text, bytes_eq-same, or_left, or_right}
 use Rattle.envvars.proofs.EnvLemmas.{same_environment, lookup-with_value}
-use Rattle.envstate.specs.paths.PathTexts.{state_of, elements_text, pairs_text}
+use Rattle.envstate.specs.paths.PathTexts.{state_of, elements_text, counters_as_text}
 use Rattle.envstate.specs.paths.PathVariables.{path_in, value_reason, added_path, dropped_path, with_path, written_path}
 use Rattle.envstate.specs.paths.PathOrder.{IsPathInOrder}
 use Rattle.envstate.specs.paths.Paths.{add_all, drop_all}
@@ -167,7 +167,7 @@ order_kept : (old new : Environment) (name : Text) (delim : ℕ) → lookup new 
     → path_in new name delim ≡ path_in old name delim → IsPathInOrder old name delim → IsPathInOrder new name delim
 order_kept old new name delim a b s o = record {
   elements = a ∙ o.elements ∙ ap (λ t. elements_text delim t.elements) (sym s);
-  counters = b ∙ o.counters ∙ ap pairs_text (sym s);
+  counters = b ∙ o.counters ∙ ap counters_as_text (sym s);
 }
 
 stack_kept : (loaded : List Text) (old new : Environment) (name : Text) → lookup new name ≡ lookup old name

@@ -12,7 +12,7 @@ use Rattle.envvars.specs.Names.{stack_name}
 use Rattle.envvars.specs.Environment.{Environment, lookup}
 use Rattle.envvars.proofs.TextLemmas.{bytes_eq-symmetric, or_left, or_right}
 use Rattle.envvars.proofs.EditLemmas.{both_true, passes_each}
-use Rattle.envstate.specs.paths.PathTexts.{elements_text, pairs_text}
+use Rattle.envstate.specs.paths.PathTexts.{elements_text, counters_as_text}
 use Rattle.envstate.specs.paths.PathVariables.{path_in}
 use Rattle.envstate.specs.paths.PathOrder.{IsPathInOrder}
 use Rattle.envstate.specs.stacks.Stacks.{OwnedValue, StackState, is_owner, holds, items_or_bottom}
@@ -84,7 +84,7 @@ standing_absent start (p ∷ ps) m h k =
 pub one_path : (d e : Environment) (name : Text) (delim : ℕ) → IsPathInOrder d name delim → IsPathInOrder e name delim → path_in d name delim ≡ path_in e name delim → SamePath d e name
 one_path d e name delim a b s = record {
   elements = a.elements ∙ ap (λ t. elements_text delim t.elements) s ∙ sym b.elements;
-  counters = a.counters ∙ ap pairs_text s ∙ sym b.counters;
+  counters = a.counters ∙ ap counters_as_text s ∙ sym b.counters;
 }
 
 -- the text of a stack in order is that of its state

@@ -1,5 +1,5 @@
-//! The laws of the four crates below, handed on, and laws of whole environments: which variables an edit may touch, and
-//! what it leaves unchanged. Each is a function that does nothing: its contract is the law, about the definitions
+//! The laws of paths, stacks and the loaded list under one name, and laws of whole environments: which variables an
+//! edit may touch, and what it leaves unchanged. Each is a function that does nothing: its contract is the law, about the definitions
 //! alone.
 ghost use Rattle.envstate.specs.EnvLaws.{NamesHaveRoles, VariablesHaveRoles, LoadedHaveRoles, RolesSeparateNames};
 ghost use Rattle.envstate.specs.EnvLaws.{EditableHasNoReason, AddEditsPath, DropEditsPath, PushEditsStack};

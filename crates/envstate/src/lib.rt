@@ -1,5 +1,5 @@
 //! The state of modules in the environment: variables, path variables, stacks, the loaded modules, and their laws.
-//! Touches nothing by itself: it hands on calls of envvars, envpaths, envstacks and envloaded under one name.
+//! Changes the environment that it is given, and takes memory for new values. It re-exports parts of envvars.
 #![tactic(auto)]
 
 pub mod laws;

@@ -2,11 +2,11 @@
 -- its parts: in sequence, by a test, and by a fact.
 use Rattle.std.specs.Prelude.{◌≡◌, ◌⊎◌, Bool, true, false, Result, Ok, Err}
 
--- this outcome alone
+-- the outcome is this one
 abbrev pub Is : {A R : Type 0} → Result A R → Result A R → Type 0
 Is r o = o ≡ r
 
--- with the value of the first part, or with its reason
+-- the rest goes on from the value of the first part; where that gave a reason, the reason is the outcome
 abbrev pub After : {A B R : Type 0} → (A → Result B R → Type 0) → Result A R → Result B R → Type 0
 After Rest (Ok x) o = Rest x o
 After Rest (Err r) o = o ≡ Err r

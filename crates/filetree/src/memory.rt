@@ -17,7 +17,7 @@ pub struct MemoryTree {
     listings: BTreeMap<String, Vec<String>>,
 }
 
-/// The same names as owned strings.
+/// Copies of the names.
 pub(crate) fn own_names(alloc: Global, names: &[&str]) -> Result<Vec<String>, AllocError>
     ensures { IfOk result (λ copy. map string_bytes (vec_items copy) ≡ map (λ name. name.now) names.now) }
 {

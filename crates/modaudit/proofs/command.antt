@@ -6,3 +6,6 @@ mod FewerLemmas
 mod PathLemmas
 mod ReadableLemmas
 pub mod SiteCommandLemmas
+mod WayBackLemmas
+mod ReportedLemmas
+mod EndLemmas

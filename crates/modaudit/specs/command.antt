@@ -8,3 +8,6 @@ pub mod NotUtf8
 pub mod Tried
 pub mod Steps
 pub mod SiteCommands
+pub mod WayBack
+pub mod Reported
+pub mod Ends

@@ -17,6 +17,9 @@ mod unreadable;
 
 pub use audit_exit::AuditExit;
 pub use audit_fault::{AuditFault, write_fault};
-pub use laws::{site_commands_and_hands_return, site_commands_return};
+pub use laws::{
+    accepted_commands, reported_modules_return, site_commands_and_hands_return,
+    site_commands_return, site_way_back_is_open,
+};
 pub use layout::Layout;
 pub use running::run_audit;

@@ -1,8 +1,8 @@
 pub mod LocationLemmas
 pub mod SemicolonLemmas
 pub mod LineLemmas
-pub mod FolderLemmas
 pub mod AdviceLemmas
+mod AlikeLemmas
 pub mod AutomaticLemmas
 pub mod UnknownLemmas
 pub mod EvaluatedLemmas

@@ -10,13 +10,14 @@ use Rattle.filetree.specs.Agreement.{Files, Listings, InEachPair}
 use Rattle.modules.specs.transient_failures.Causes.{is_transient}
 use Rattle.filetree.specs.Modulefiles.{directories}
 use Rattle.modulefile.specs.Files.{FileReason, halted}
+use Rattle.modulename.specs.ModuleName.{is_module_name}
 use Rattle.modules.specs.Answers.{cause_of}
 use Rattle.modules.specs.Spaced.{spaced}
 use Rattle.requests.specs.Reasons.{RequestReason, conflict_with, prereq_missing, still_needed_by, missed, file_refused}
 use Rattle.requests.specs.RequestViews.{action_view}
 use Rattle.requests.specs.Requests.{RequestedAction, load, unload, switch}
 use Rattle.requests.specs.Steps.{Done, RequestStep, modulepath, request_context_in}
-use Rattle.search.specs.Reasons.{FindReason, not_found}
+use Rattle.search.specs.Reasons.{FindReason, bad_name, not_found}
 use Rattle.shelltext.specs.Printing.{LacksText}
 use Rattle.shelltext.specs.declared.print.PrintFault.TheVariants as prints
 use Rattle.shelltext.specs.declared.shell.Shell.{Shell}
@@ -27,7 +28,7 @@ use Rattle.module_auto.specs.Loads.{AutomaticLoad, AutomaticNames, FoundAmong}
 use Rattle.module_auto.specs.Unloads.{AutomaticUnload, StillNeed, in_front}
 use Rattle.module_auto.specs.declared.fault.AutomaticFault.{AutomaticFault}
 use Rattle.module_auto.specs.declared.fault.AutomaticFault.TheVariants as automatic
-use Rattle.module_explain.specs.Alike.{AreLike}
+use Rattle.module_explain.specs.Alike.{AreLike, respelled}
 use Rattle.module_explain.specs.Replacements.{instead_of}
 use Rattle.module_explain.specs.declared.advice.Advice.{Advice}
 use Rattle.module_explain.specs.declared.advice.Advice.TheVariants as advices
@@ -220,13 +221,23 @@ module _ (agrees : Files → Listings → Type 0) (limits : Limits) (shell : She
   ForUnknown (b ∷ path) typed o =
       (NoneIsThere agrees (directories (b ∷ path)) × IsKnown (Some (none_is_there (b ∷ path))) o)
       ⊎ (IsOneThere agrees (directories (b ∷ path)) × ((names : List Text)
-      × InEachPair agrees (λ files listings. AreLike limits files listings (b ∷ path) typed names)
+      × InEachPair agrees (λ files listings. AreLike listings (directories (b ∷ path)) typed names)
+      × IsKnown (question names) o))
+
+  -- For an ill-spelled name: the question whether names are meant that are like what it may stand for, if this is well
+  -- spelled.
+  abbrev pub ForMisspelled : (path name : Text) → Option Advice → Type 0
+  ForMisspelled path name o =
+      ((is_module_name name ≡ false) × (o ≡ None))
+      ⊎ ((is_module_name name ≡ true) × ((names : List Text)
+      × InEachPair agrees (λ files listings. AreLike listings (directories path) name names)
       × IsKnown (question names) o))
 
   -- ---- each reason
 
   abbrev pub ForMissed : FindReason → Option Advice → Type 0
   ForMissed (not_found name) o = ForUnknown (modulepath e) name o
+  ForMissed (bad_name name) o = ForMisspelled (modulepath e) (respelled name) o
   ForMissed reason o = o ≡ None
 
   -- What is advised of a request that is refused for this reason.

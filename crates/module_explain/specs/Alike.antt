@@ -1,61 +1,79 @@
--- Names of modules that are like one that isn't found (own).
-use Rattle.std.specs.Prelude.{◌≡◌, ℕ, ◌==◌, ◌||◌, nat_eq, Bool, if◌then◌else◌, List, [], ◌∷◌, map, take}
-use Rattle.std.specs.Prelude.{Option, Some, None, unwrap_or}
+-- Names that may be meant by one that isn't found (own). Only names are read: whether a module has them isn't asked.
+use Rattle.std.specs.Prelude.{◌≡◌, ℕ, ◌||◌, ◌==◌, nat_eq, not, Bool, length, if◌then◌else◌, List, [], ◌∷◌, ◌++◌}
+use Rattle.std.specs.Prelude.{filter, map, take, bytes_eq, Option, Some, None}
 use Rattle.std.specs.Char.{to_ascii_lowercase}
-use Rattle.std.specs.List.{flat_map, starts_with}
-use Rattle.std.specs.Option.{option_to_list}
+use Rattle.std.specs.List.{starts_with, slice_split, join_with_byte}
+use Rattle.std.specs.declared.alloc.Global.{Global}
+use Rattle.std.specs.declared.string.String.{String}
+use Rattle.std.specs.declared.vec.Vec.{Vec}
 use Rattle.envvars.specs.Fields.{without_repeats}
-use Rattle.envvars.specs.Texts.{Text}
-use Rattle.filetree.specs.Agreement.{Files, Listings}
-use Rattle.lookup.specs.DefaultFileResults.{HasResult}
-use Rattle.lookup.specs.Lines.{Available, Line}
+use Rattle.envvars.specs.Texts.{Text, texts_in}
+use Rattle.filetree.specs.Agreement.{Listings}
 use Rattle.module_words.specs.subcommands.Nearness.{differ_by_one}
-use Rattle.tclrules.specs.declared.limits.Limits.{Limits}
+use Rattle.modulename.specs.ModuleName.{parts}
+use Rattle.requests.specs.Steps.{first_part}
+use Rattle.search.specs.NamesBelow.{AreNamesBelow}
 
 -- with small letters for the capitals of ASCII
 abbrev pub in_small_letters : Text → Text
 in_small_letters text = map to_ascii_lowercase text
 
--- what stands before the last slash, if there is one
-abbrev pub behind_first : ℕ → Option Text → Option Text
-behind_first b (Some front) = Some (b ∷ front)
-behind_first b None = if b == 47 then Some [] else None
-
-abbrev pub before_last_slash : Text → Option Text
-before_last_slash [] = None
-before_last_slash (b ∷ bs) = behind_first b (before_last_slash bs)
-
--- the folder of a name with versions, or the whole name
-abbrev pub folder_of : Text → Text
-folder_of name = unwrap_or (before_last_slash name) name
-
--- it begins with what was typed, or differs from that by one byte, both in small letters
+-- the name, in small letters, begins with what was typed in small letters, or differs from it by one slip of the hand
 abbrev pub is_like : Text → Text → Bool
-is_like name typed = starts_with nat_eq name typed || differ_by_one typed name
+is_like small name =
+    starts_with nat_eq (in_small_letters name) small || differ_by_one small (in_small_letters name)
 
--- the name of a module, or else of its folder, where that is like what was typed, which is in small letters
-abbrev pub like : Text → Text → Option Text
-like typed name =
-    if is_like (in_small_letters name) typed then Some name
-    else if differ_by_one typed (in_small_letters (folder_of name)) then Some (folder_of name) else None
-
+-- the names that are like what was typed, in small letters
 abbrev pub likes : Text → List Text → List Text
-likes typed names = flat_map (λ name. option_to_list (like typed name)) names
+likes small names = filter (is_like small) names
+
+-- the parts that aren't empty
+abbrev pub filled : List Text → List Text
+filled names = filter (λ part. not (length part == 0)) names
+
+-- what an ill-spelled name may stand for: a slash in place of each `@`, and no empty part
+abbrev pub respelled : Text → Text
+respelled name =
+    join_with_byte 47
+    (filled (slice_split (λ b. b == 47) (join_with_byte 47 (slice_split (λ b. b == 64) name))))
 
 -- so many names are said at most
 abbrev pub most_names : ℕ
 most_names = 3
 
--- the first names that are like what was typed, each once
-abbrev pub alike_ones : Text → List Text → List Text
-alike_ones typed names = take most_names (without_repeats (likes (in_small_letters typed) names))
+-- the first of these names, each once
+abbrev pub first_names : List Text → List Text
+first_names names = take most_names (without_repeats names)
 
--- the names of modules
-abbrev pub names_of : List Line → List Text
-names_of lines = map (λ line. line.1.0) lines
+-- the names in a folder, or none where there is no folder
+abbrev pub names_or_none : Option (Vec (String Global) Global) → List Text
+names_or_none None = []
+names_or_none (Some names) = texts_in names
 
--- These are the first names of all modules along a MODULEPATH that are like what was typed.
-abbrev pub AreLike : Limits → Files → Listings → (path typed : Text) → List Text → Type 0
-AreLike limits files listings path typed names =
-    (lines : List Line) × Available (HasResult limits) files listings path lines
-    × (names ≡ alike_ones typed (names_of lines))
+-- What stands in the folder of this name below each of the directories, one directory after another; without a name, in
+-- the directories themselves.
+abbrev pub AreNamesAlong : Listings → Option Text → List Text → List Text → Type 0
+AreNamesAlong listings folder [] names = names ≡ []
+AreNamesAlong listings folder (dir ∷ dirs) names =
+    (first : Option (Vec (String Global) Global)) × (rest : List Text) × AreNamesBelow listings dir folder first
+    × AreNamesAlong listings folder dirs rest × (names ≡ names_or_none first ++ rest)
+
+-- the versions that are like what was typed; where none is, the folder, if a version was typed
+abbrev pub versions_or_folder : Text → Text → List Text → List Text
+versions_or_folder typed folder [] = if bytes_eq typed folder then [] else folder ∷ []
+versions_or_folder typed folder (name ∷ names) = name ∷ names
+
+-- Which names may be meant, where the folder of the name's first part has these entries: versions in it. Where it has
+-- none, what stands in the directories themselves and is like the first part.
+abbrev pub MayBeMeant : Listings → List Text → (typed folder : Text) → List Text → List Text → Type 0
+MayBeMeant listings dirs typed folder [] meant =
+    (names : List Text) × AreNamesAlong listings None dirs names
+    × (meant ≡ first_names (likes (in_small_letters folder) names))
+MayBeMeant listings dirs typed folder (name ∷ names) meant =
+    meant ≡ first_names (versions_or_folder typed folder (likes (in_small_letters typed) (name ∷ names)))
+
+-- These names may be meant by a name that isn't found along these directories.
+abbrev pub AreLike : Listings → List Text → (typed : Text) → List Text → Type 0
+AreLike listings dirs typed meant =
+    (inside : List Text) × AreNamesAlong listings (Some (first_part (parts typed))) dirs inside
+    × MayBeMeant listings dirs typed (first_part (parts typed)) inside meant

@@ -18,7 +18,7 @@ use crate::automatic::{for_need, for_needed};
 use crate::known::known;
 use crate::refused::RefusedRequest;
 use crate::replacements::instead_of;
-use crate::unknown::for_unknown;
+use crate::unknown::{for_misspelled, for_unknown};
 use envstate::loaded_list::{is_loaded, loaded};
 use envvars::Change;
 use filetree::Tree;
@@ -214,7 +214,8 @@ fn for_fault(alloc: Global, fault: &RunFault) -> Result<Option<Advice>, AllocErr
     }
 }
 
-/// For a search that fails: where no module is found, that nothing is searched, or names that are like it.
+/// For a search that fails: where no module is found, that nothing is searched, or names that are like it; for an
+/// ill-spelled name, names that are like what it may stand for.
 fn for_missed<T: Tree>(
     refused: RefusedRequest<'_>,
     tree: &mut T,
@@ -230,9 +231,9 @@ fn for_missed<T: Tree>(
 {
     match fault {
         FindFault::NotFound(name) => for_unknown(refused, tree, name.as_str()),
+        FindFault::BadName(name) => for_misspelled(refused, tree, name.as_str()),
         FindFault::OutOfMemory
         | FindFault::Device
-        | FindFault::BadName(_)
         | FindFault::BadDefaultFile(_)
         | FindFault::NotUtf8(_) => Ok(None),
     }

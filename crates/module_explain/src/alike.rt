@@ -1,20 +1,16 @@
-//! Names of modules that are like one that isn't found.
-ghost use Rattle.std.specs.Prelude.{◌≡◌, map, take, IfOk, string_bytes};
-ghost use Rattle.std.specs.Prelude.{◌<◌, IfErr};
+//! Names that may be meant by one that isn't found. Only names are read, and no file is opened.
+ghost use Rattle.std.specs.Prelude.{◌≡◌, List, None, map, take, IfOk, string_bytes};
 ghost use Rattle.std.specs.Option.{option_map};
-ghost use Rattle.envvars.specs.Texts.{slice_texts, texts_in};
-ghost use Rattle.search.specs.Answers.{cause_of as find_cause};
-ghost use Rattle.filetree.specs.Agreement.{InEachPair, ReadsOn};
-ghost use Rattle.lookup.specs.LineViews.{line_view};
+ghost use Rattle.envvars.specs.Texts.{Text, slice_texts, texts_in};
+ghost use Rattle.filetree.specs.Agreement.{FailsOnlyByDevice, InEachPair, Narrows};
 ghost use Rattle.module_explain.specs.Alike as spec;
-ghost use Rattle.module_explain.specs.FailedPaths.{IsDeviceOnlyIf};
 
-use envvars::fields::{deduplicated, owned};
-use filetree::Tree;
-use lookup::{FindFault, Listing, available};
+use envvars::fields::{deduplicated, join, owned, parts, slices};
+use filetree::{Tree, TreeFault};
 use module_words::subcommands::differ_by_one;
+use requests::first_part;
+use search::names_below;
 use std::alloc::{AllocError, Global};
-use tclrules::Limits;
 
 /// So many names are said at most.
 const MOST_NAMES: usize = 3;
@@ -28,48 +24,50 @@ fn in_small_letters(alloc: Global, text: &str) -> Result<String, AllocError>
     Ok(small)
 }
 
-/// What stands before the last slash of a name, or the whole.
-fn folder_of(name: &str) -> &str
-    ensures { result.now ≡ spec.folder_of name.now }
+/// The parts that aren't empty.
+fn filled<'a>(alloc: Global, parts: &[&'a str]) -> Result<Vec<&'a str>, AllocError>
+    ensures { IfOk result (λ v. slice_texts v.items ≡ spec.filled (slice_texts parts.now)) }
 {
-    match name.rsplit_once('/') {
-        Some((folder, _)) => folder,
-        None => name,
+    let mut found = Vec::new(alloc);
+    for part in parts {
+        if !part.is_empty() {
+            found.push(*part)?;
+        }
     }
+    Ok(found)
 }
 
-/// Whether the first text begins with the second, or differs from it by one character, both in small letters.
-fn is_like(name: &str, typed: &str) -> bool
-    ensures { result ≡ spec.is_like name.now typed.now }
+/// What an ill-spelled name may stand for: a slash in place of each `@`, and no empty part.
+pub(crate) fn respelled(alloc: Global, name: &str) -> Result<String, AllocError>
+    ensures { IfOk result (λ text. string_bytes text ≡ spec.respelled name.now) }
 {
-    name.as_bytes().starts_with(typed.as_bytes())
-        || differ_by_one(typed.as_bytes(), name.as_bytes())
+    let pieces = parts(alloc, name, '@')?;
+    let slashed = join(alloc, pieces.as_slice(), '/')?;
+    let pieces = parts(alloc, slashed.as_str(), '/')?;
+    let pieces = filled(alloc, pieces.as_slice())?;
+    join(alloc, pieces.as_slice(), '/')
 }
 
-/// The name of a module, or of its folder, where that is like what was typed, which is in small letters.
-fn like<'a>(alloc: Global, name: &'a str, typed: &str) -> Result<Option<&'a str>, AllocError>
-    ensures { IfOk result (λ o. option_map (λ t. t.now) o ≡ spec.like typed.now name.entry.now) }
+/// Whether a name begins with what was typed, or differs from it by one slip of the hand. What was typed is in small
+/// letters, and the capitals of the name count as small letters.
+fn is_like(alloc: Global, small: &str, name: &str) -> Result<bool, AllocError>
+    ensures { IfOk result (λ is. is ≡ spec.is_like small.now name.now) }
 {
-    let small = in_small_letters(alloc, name)?;
-    if is_like(small.as_str(), typed) {
-        return Ok(Some(name));
-    }
-    let folder = folder_of(name);
-    let small = in_small_letters(alloc, folder)?;
-    if differ_by_one(typed.as_bytes(), small.as_bytes()) {
-        return Ok(Some(folder));
-    }
-    Ok(None)
+    let name = in_small_letters(alloc, name)?;
+    Ok(
+        name.as_bytes().starts_with(small.as_bytes())
+            || differ_by_one(small.as_bytes(), name.as_bytes()),
+    )
 }
 
-/// Those of the names, or of their folders, that are like what was typed, which is in small letters.
-fn likes<'a>(alloc: Global, names: &[&'a str], typed: &str) -> Result<Vec<&'a str>, AllocError>
-    ensures { IfOk result (λ v. slice_texts v.items ≡ spec.likes typed.now (slice_texts names.now)) }
+/// Those of the names that are like what was typed, in small letters.
+fn likes<'a>(alloc: Global, small: &str, names: &[&'a str]) -> Result<Vec<&'a str>, AllocError>
+    ensures { IfOk result (λ v. slice_texts v.items ≡ spec.likes small.now (slice_texts names.now)) }
 {
     let mut found = Vec::new(alloc);
     for name in names {
-        if let Some(like) = like(alloc, name, typed)? {
-            found.push(like)?;
+        if is_like(alloc, small, name)? {
+            found.push(*name)?;
         }
     }
     Ok(found)
@@ -85,44 +83,98 @@ fn first_ones<'a, 'b>(names: &'b [&'a str], most: usize) -> &'b [&'a str]
     &names[..most]
 }
 
-/// The first of the names, or of their folders, that are like what was typed, each once, three at most.
-fn alike_ones(alloc: Global, typed: &str, names: &[&str]) -> Result<Vec<String>, AllocError>
-    ensures { IfOk result (λ v. texts_in v ≡ spec.alike_ones typed.now (slice_texts names.now)) }
+/// The first of the names, each once, three at most.
+fn first_names(alloc: Global, names: &[&str]) -> Result<Vec<String>, AllocError>
+    ensures { IfOk result (λ v. texts_in v ≡ spec.first_names (slice_texts names.now)) }
 {
-    let typed = in_small_letters(alloc, typed)?;
-    let found = likes(alloc, names, typed.as_str())?;
-    let once = deduplicated(alloc, found.as_slice())?;
+    let once = deduplicated(alloc, names)?;
     owned(alloc, first_ones(once.as_slice(), MOST_NAMES))
 }
 
-/// The names of modules.
-fn names_of(alloc: Global, listings: &[Listing]) -> Result<Vec<&str>, AllocError>
-    ensures { IfOk result (λ v. slice_texts v.items ≡ spec.names_of (map line_view listings.entry.now)) }
+/// What stands in this folder below each of the directories, one directory after another; without a folder, in the
+/// directories themselves.
+///
+/// Errors: as of the tree, which is asked only for these folders.
+fn names_along<T: Tree>(
+    alloc: Global,
+    tree: &mut T,
+    directories: &[&str],
+    folder: Option<&str>,
+) -> Result<Vec<String>, TreeFault>
+    ensures narrows { Narrows (T.agrees tree.old) (T.agrees tree.new) }
+    ensures cause { FailsOnlyByDevice (T.failures tree.old) (T.failures tree.new) result }
+    ensures names { IfOk result (λ names. InEachPair (T.agrees tree.new) (λ files listings.
+        spec.AreNamesAlong listings (option_map (λ f. f.now) folder.entry) (slice_texts directories.now)
+        (texts_in names))) }
 {
-    let mut names = Vec::with_capacity(alloc, listings.len())?;
-    for listing in listings {
-        names.push(listing.name.as_str())?;
+    let mut names = Vec::new(alloc);
+    for directory in directories {
+        let below = names_below(alloc, tree, directory, folder)?;
+        let mut below = below.unwrap_or(Vec::new(alloc));
+        names.append(&mut below)?;
     }
     Ok(names)
 }
 
-/// The first names of modules or folders along MODULEPATH that are like what was typed, each once, three at most.
-///
-/// It fails where memory ran out, or the device failed.
-pub(crate) fn names_like<T: Tree>(
+/// The names that may be meant, where a folder has these entries: versions that are like what was typed. Where none is,
+/// the folder, if a version was typed.
+fn meant_in_folder(
     alloc: Global,
     typed: &str,
-    modulepath: &str,
-    tree: &mut T,
-    limits: Limits,
-) -> Result<Vec<String>, FindFault>
-    ensures reads { ReadsOn T.agrees T.failures tree.old tree.new }
-    ensures gave_up { IfErr result (λ refusal.
-        IsDeviceOnlyIf (find_cause refusal) (T.failures tree.old < T.failures tree.new)) }
-    ensures like { IfOk result (λ names. InEachPair (T.agrees tree.new) (λ files listings.
-        spec.AreLike limits files listings modulepath.now typed.now (texts_in names))) }
+    folder: &str,
+    entries: &[&str],
+) -> Result<Vec<String>, AllocError>
+    ensures { IfOk result (λ v. texts_in v ≡ spec.first_names (spec.versions_or_folder typed.now folder.now
+        (spec.likes (spec.in_small_letters typed.now) (slice_texts entries.now)))) }
 {
-    let listings = available(alloc, tree, modulepath, limits)?;
-    let names = names_of(alloc, listings.as_slice())?;
-    Ok(alike_ones(alloc, typed, names.as_slice())?)
+    let small = in_small_letters(alloc, typed)?;
+    let versions = likes(alloc, small.as_str(), entries)?;
+    if versions.is_empty() && typed != folder {
+        return first_names(alloc, &[folder]);
+    }
+    first_names(alloc, versions.as_slice())
+}
+
+/// The first names in the directories that are like this one.
+fn meant_in_directories<T: Tree>(
+    alloc: Global,
+    tree: &mut T,
+    directories: &[&str],
+    name: &str,
+) -> Result<Vec<String>, TreeFault>
+    ensures narrows { Narrows (T.agrees tree.old) (T.agrees tree.new) }
+    ensures cause { FailsOnlyByDevice (T.failures tree.old) (T.failures tree.new) result }
+    ensures meant { IfOk result (λ meant. InEachPair (T.agrees tree.new) (λ files listings. (names : List Text)
+        × spec.AreNamesAlong listings None (slice_texts directories.now) names
+        × (texts_in meant ≡ spec.first_names (spec.likes (spec.in_small_letters name.now) names)))) }
+{
+    let names = names_along(alloc, tree, directories, None)?;
+    let names = slices(alloc, names.as_slice())?;
+    let small = in_small_letters(alloc, name)?;
+    let like = likes(alloc, small.as_str(), names.as_slice())?;
+    Ok(first_names(alloc, like.as_slice())?)
+}
+
+/// The names that may be meant by one that isn't found along these directories: three at most. Only the directories are
+/// listed, and in each the folder of the name's first part. No file is opened.
+///
+/// Errors: as of the tree, which is asked only for these.
+pub(crate) fn names_like<T: Tree>(
+    alloc: Global,
+    tree: &mut T,
+    directories: &[&str],
+    typed: &str,
+) -> Result<Vec<String>, TreeFault>
+    ensures narrows { Narrows (T.agrees tree.old) (T.agrees tree.new) }
+    ensures cause { FailsOnlyByDevice (T.failures tree.old) (T.failures tree.new) result }
+    ensures like { IfOk result (λ meant. InEachPair (T.agrees tree.new) (λ files listings.
+        spec.AreLike listings (slice_texts directories.now) typed.now (texts_in meant))) }
+{
+    let folder = first_part(typed);
+    let entries = names_along(alloc, tree, directories, Some(folder))?;
+    if entries.is_empty() {
+        return meant_in_directories(alloc, tree, directories, folder);
+    }
+    let entries = slices(alloc, entries.as_slice())?;
+    Ok(meant_in_folder(alloc, typed, folder, entries.as_slice())?)
 }

@@ -9,7 +9,6 @@ ghost use Rattle.modules.specs.Answers.{cause_of};
 ghost use Rattle.filetree.specs.Causes.{memory};
 ghost use Rattle.filetree.specs.Agreement.{InEachPair, ReadsOn};
 ghost use Rattle.modulefile.specs.RecordViews.{mode_view};
-ghost use Rattle.modulename.specs.ModuleName.{parts};
 ghost use Rattle.requests.specs.RequestViews.{action_view};
 ghost use Rattle.requests.specs.Requests as actions;
 ghost use Rattle.requests.specs.Steps as steps;
@@ -29,7 +28,7 @@ use lookup::EvaluatedDefaultFiles;
 use modulefile::Mode;
 use modules::transient_failures::{is_search_transient, unless_transient};
 use modules::{Action, Refusal, Request, make_changes};
-use requests::{last_meant, modulepath};
+use requests::{first_part, last_meant, modulepath};
 use search::locate;
 use std::alloc::{AllocError, Global};
 
@@ -294,16 +293,6 @@ fn parts_for<'a>(
         })?;
     }
     Ok(parts)
-}
-
-/// The first part of a name.
-fn first_part(name: &str) -> &str
-    ensures { result.now ≡ steps.first_part (parts name.now) }
-{
-    match name.split_once('/') {
-        Some((first, _)) => first,
-        None => name,
-    }
 }
 
 /// The parts of a switch. Without an old name it is the first part of the new one.

@@ -6,14 +6,16 @@ ghost use Rattle.modules.specs.Answers.{cause_of};
 ghost use Rattle.filetree.specs.Agreement.{FailsOnlyByDevice, Narrows, ReadsOn};
 ghost use Rattle.requests.specs.Steps.{modulepath};
 ghost use Rattle.module_explain.specs.Advised as spec;
+ghost use Rattle.module_explain.specs.Alike.{respelled};
 ghost use Rattle.module_explain.specs.Views.{is_known};
 ghost use Rattle.module_explain.specs.FailedPaths.{IsDeviceOnlyIf};
 
 use crate::advice::Advice;
-use crate::alike::names_like;
+use crate::alike::{names_like, respelled};
 use crate::known::{asked, known};
 use crate::refused::RefusedRequest;
 use filetree::{Tree, TreeFault};
+use modulename::is_module_name;
 use modules::Refusal;
 use requests::modulepath;
 use search::directories;
@@ -61,6 +63,32 @@ pub(crate) fn for_unknown<T: Tree>(
         line.push_str(searched)?;
         return Ok(known(alloc, Some(line.as_str()))?);
     }
-    let names = names_like(alloc, name, searched, tree, refused.limits)?;
+    let names = names_like(alloc, tree, directories.as_slice(), name)?;
+    Ok(asked(alloc, names.as_slice())?)
+}
+
+/// For an ill-spelled name: names that are like what it may stand for, if this is well spelled.
+///
+/// It fails where memory ran out, or the device failed.
+pub(crate) fn for_misspelled<T: Tree>(
+    refused: RefusedRequest<'_>,
+    tree: &mut T,
+    name: &str,
+) -> Result<Option<Advice>, Refusal>
+    ensures reads { ReadsOn T.agrees T.failures tree.old tree.new }
+    ensures gave_up { IfErr result (λ refusal.
+        IsDeviceOnlyIf (cause_of refusal) (T.failures tree.old < T.failures tree.new)) }
+    ensures known { IfOk result (λ o. IfSome o (λ advice. is_known advice ≡ true)) }
+    ensures fits { IfOk result (spec.ForMisspelled (T.agrees tree.new) refused.entry.limits
+        refused.entry.request.now.shell refused.entry.env.now (modulepath refused.entry.env.now)
+        (respelled name.now)) }
+{
+    let alloc = refused.alloc;
+    let name = respelled(alloc, name)?;
+    if !is_module_name(name.as_str()) {
+        return Ok(None);
+    }
+    let directories = directories(alloc, modulepath(refused.env))?;
+    let names = names_like(alloc, tree, directories.as_slice(), name.as_str())?;
     Ok(asked(alloc, names.as_slice())?)
 }

@@ -35,9 +35,11 @@ HasResultInEachPair agrees Does o = InEachPair agrees (λ files listings. Does f
 abbrev pub standard_error_text : Done → Text
 standard_error_text done = flat_map (λ message. message) done.messages ++ done.report
 
--- Where the environment is in order and is a start in order with live modules that fit layered on it, and the command
--- unloads no module of that start and moves what fits: what a shell makes of the environment by running the text is in
--- order and is the start with the modules that are live then layered on it, which fit. With none it is the start.
+-- The premises: the start is in order; the environment is in order and is that start with live modules over it, which
+-- are reversible and apart; and the command unloads no module of the start, loads modules that are reversible and apart
+-- from the live ones, and unloads each by records that undo those of its load. The promise: what a shell makes of the
+-- environment by running the text is in order and is the start with the modules that are live then over it. With none
+-- it is the start.
 abbrev pub ReturnsToStart : Environment → CommandResult → Text → Type 0
 ReturnsToStart e f text =
     (uses : Text → VariableUse) (start new : Environment) (live : List Module)

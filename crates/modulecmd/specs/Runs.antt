@@ -23,8 +23,9 @@ pub record PrintedCommand : Type 0 where
   pub effect : CommandResult
   pub text : Text
 
--- Over these files and directories each command has its effect in the environment that the shell holds, and its text
--- says what that changes; the shell that ran it holds the next environment, and after all of them the last.
+-- Commands in one shell, over these files and directories. Each command has its effect in the environment that the
+-- shell holds. Its text says exactly what that changes. The shell runs the text and holds the next environment, and
+-- after all commands it holds the last.
 abbrev pub ShellsHold : Files → Listings → Environment → List PrintedCommand → Environment → Type 0
 ShellsHold files listings e [] last = last ≡ e
 ShellsHold files listings e (c ∷ cs) last =
@@ -46,10 +47,11 @@ ShellsReturn =
     → AreNew start (moves_in cs) → AreReversibleBeside uses [] (moves_in cs)
     → Holds uses start (live_after [] (moves_in cs)) last
 
--- a command as an act: its moves, and what the shell that ran its text holds then
+-- the moves of a command
 abbrev pub command_moves : PrintedCommand → List Move
 command_moves c = c.effect.1.moves
 
+-- what the shell holds after it ran the command's text
 abbrev pub CommandMakes : Files → Listings → PrintedCommand → Environment → Environment → Type 0
 CommandMakes files listings c e next =
     CommandHasResult c.arguments e files listings (Ok c.effect) × SaysDifference c.effect.0 c.text e c.effect.1.env

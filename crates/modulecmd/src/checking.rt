@@ -29,7 +29,7 @@ pub enum CheckExit {
     SomeRefused,
     /// Nothing was checked, or a write failed, and the line that says why is written.
     Reported,
-    /// The same, but the first part of that line is written, not all: writing it failed.
+    /// Nothing was checked, or a write failed, and only the first part of the line that says why is written.
     CutShort,
 }
 

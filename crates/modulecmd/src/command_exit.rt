@@ -9,7 +9,7 @@ pub enum Exit {
     Success,
     /// It was refused, or a write failed, and the line that says why is written.
     Reported,
-    /// The same, but the first part of that line is written, not all: writing it failed.
+    /// It was refused, or a write failed, and only the first part of the line that says why is written.
     CutShort,
 }
 

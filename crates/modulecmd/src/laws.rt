@@ -24,8 +24,8 @@ pub fn commands_return()
     requests::hand_changes::laws::one_change();
 }
 
-/// The same with changes by hand between the commands. What hands have changed stays, except for an element of a path
-/// that a live module has added too: that goes with the module. A change is of one variable, and by the use that modules
+/// Commands with changes by hand between them return to the start with these changes. What hands have changed stays,
+/// except for an element of a path that a live module has added too: that goes with the module. A change is of one variable, and by the use that modules
 /// make of it: of one that they don't use, anything; of a path, as long as it is in order with its counters and has the
 /// elements that live modules have added; of one that they push on, while it has no stack; none of one that they set or
 /// unset, nor of the tool's own. With no module live the shell holds what the same changes have made of the start

@@ -30,7 +30,10 @@ pub struct JudgingInput {
     pub given: GivenEnvironment,
 }
 
-/// The same as `process_input`, with the names of the variables that aren't UTF-8, which no environment has.
+/// The arguments after the program's name, the environment of the process, and the names of its variables that aren't
+/// UTF-8.
+///
+/// Errors: want of memory (31); an argument that isn't UTF-8 (56).
 pub fn judging_input<R: Env + Files + AllocGlobal>(rt: &R) -> Result<JudgingInput, CommandFault> {
     let arguments = arguments(rt)?;
     let block = environment_block(rt)?;

@@ -46,7 +46,7 @@ unloaded_by owner (Conflict names) e = Ok e
 unloaded_by owner (Prereq names) e = Ok e
 unloaded_by owner (Whatis text) e = Ok e
 
--- In the other modes nothing changes.
+-- what the record makes of the environment in a mode: in display and whatis it changes nothing
 abbrev pub edited : Mode → Text → Record → Environment → Result Environment EnvReason
 edited load owner r e = loaded_by owner r e
 edited unload owner r e = unloaded_by owner r e

@@ -15,7 +15,7 @@ pub record Module : Type 0 where
   pub path : Text
   pub records : List Record
 
--- its entry in the loaded list, where a repeated conflict stands once
+-- the module's entry in the loaded list, where a repeated conflict stands once
 abbrev pub entry_of : Module → Entry
 entry_of m =
     record {
@@ -30,11 +30,12 @@ pub data Move : Type 0 where
   Loads : Module → Move
   Unloads : Module → Move
 
--- its module, and the mode in which its file is evaluated
+-- the module that a move loads or unloads
 abbrev pub module_of_move : Move → Module
 module_of_move (Loads m) = m
 module_of_move (Unloads m) = m
 
+-- the mode in which the module's file is evaluated
 abbrev pub mode_of : Move → Mode
 mode_of (Loads m) = load
 mode_of (Unloads m) = unload

@@ -5,7 +5,7 @@ use Rattle.envvars.specs.Texts.{Text}
 use Rattle.modulefile.specs.declared.records.PathEdit.{PathEdit}
 use Rattle.modulefile.specs.declared.records.PathEdit.TheVariants.{Front, Back, Remove}
 
--- the delimiter of a path is a character
+-- What an accepted command leaves on record. The delimiter of a path is a character.
 pub data Record : Type 0 where
   -- `setenv VAR value`
   Set : (var : Text) (value : Text) → Record

@@ -77,7 +77,7 @@ RunsTo limits c text (Ok ran) new = RunsFile limits c text (Ok (ran_view ran new
 RunsTo limits c text (Err fault) new = (new ≡ c.before) × IfSome (file_reason_of fault)
     (λ stop. RunsFile limits c text (Err stop))
 
--- The same of a file whose changes aren't applied yet.
+-- The result of a call that drafts changes: the environment that they would make is that of the outcome.
 abbrev pub Drafts : Limits → answers.FileContext → Text → Result FileDraft RunFault → Type 0
 Drafts limits c text (Ok draft) =
     RunsFile limits c text (Ok (ran_view draft.ran (applied (new_values_in draft.changes) c.before)))

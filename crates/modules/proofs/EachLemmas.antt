@@ -1,13 +1,9 @@
 -- Names in turn, and whole commands, by what their parts answered.
-use Rattle.std.proofs.Common.{◌≡◌, ◌<◌, ◌+◌, ℕ, suc, Bor, Bool, true, false, nat_eq, List, [], ◌∷◌, ◌++◌, length}
-use Rattle.std.proofs.Common.{get_or, map, drop, string_bytes, String, Option, Some, None, MatchOption, Result, Ok, Err}
-use Rattle.std.proofs.Common.{inl, inr, refl, sym, ap, ◌∙◌, subst, arith, lit<}
-use Rattle.std.specs.Prelude.{◌==◌}
-use Rattle.std.specs.List.{slice_split, onto_first}
+use Rattle.std.proofs.Common.{◌≡◌, ◌<◌, ◌+◌, ℕ, suc, Bool, true, false, nat_eq, List, [], ◌∷◌, length}
+use Rattle.std.proofs.Common.{get_or, map, drop, string_bytes, String, Result, Ok, Err}
+use Rattle.std.proofs.Common.{inl, inr, refl, sym, ap, ◌∙◌, subst, arith}
 use Rattle.std.specs.declared.alloc.Global.{Global}
 use Rattle.std.proofs.lemmas.Bool.Decides.{nat_tests}
-use Rattle.std.proofs.lemmas.List.Splits.{slice_split-cons_no}
-use Rattle.std.proofs.lemmas.Str.Pattern.{IsSplitOnceResult, split_parts}
 use Rattle.std.proofs.lemmas.List.{drop_more}
 use Rattle.envvars.specs.Texts.{Text}
 use Rattle.envvars.specs.Environment.{Environment}
@@ -18,7 +14,6 @@ use Rattle.search.specs.Found.{FoundModule}
 use Rattle.requests.specs.Reasons.{RequestReason, bad_arguments}
 use Rattle.requests.specs.Looked.{EachLooksAt}
 use Rattle.requests.specs.Steps.{RequestContext, Done, nothing_done, Each, NeedsNames, ShowsName, ShowsNames}
-use Rattle.requests.specs.Steps.{first_part}
 
 -- the item of a turn, before those after it
 pub split_at : {X Y : Type 0} (view : X → Y) (xs : List X) (i : ℕ) (x : X) → i < length xs → x ≡ get_or xs i x
@@ -65,25 +60,3 @@ shows_some s mode text_of e [] b is isnt o h = let z : true ≡ false = sym is �
 shows_some s mode text_of e (n ∷ ns) b is isnt o (first, (Err r, read, stops), rest) =
     (Err r, read, subst (λ (x : Result Done RequestReason). After (Each (ShowsName s mode text_of) (map (λ (t : String Global). string_bytes t) ns)) x o) stops rest)
 shows_some s mode text_of e (n ∷ ns) b is isnt o (first, (Ok xs, read, goes), rest) = (Ok xs, read, (first, (Ok xs, read, goes), rest))
-
--- ---- the first part of a name
-
-not_slash : (b : ℕ) → (b ≡ 47 → ⊥) → (b == 47) ≡ false
-not_slash b h = grind (arith, nat_tests)
-
-uncut : (bs : List ℕ) → ((i : ℕ) → i < length bs → get_or bs i 0 ≡ 47 → ⊥) → slice_split (λ b. b == 47) bs ≡ bs ∷ []
-uncut [] h = refl
-uncut (b ∷ bs) h =
-    slice_split-cons_no (λ x. x == 47) b bs (not_slash b (h 0 (omega arith))) ∙ ap (onto_first b) (uncut bs (λ i l. h (suc i) (omega arith)))
-
-cut : (xs ys : List ℕ) → ((i : ℕ) → i < length xs → get_or xs i 0 ≡ 47 → ⊥) → slice_split (λ b. b == 47) (xs ++ 47 ∷ ys) ≡ xs ∷ slice_split (λ b. b == 47) ys
-cut [] ys h = refl
-cut (x ∷ xs) ys h =
-    slice_split-cons_no (λ b. b == 47) x (xs ++ 47 ∷ ys) (not_slash x (h 0 (omega arith))) ∙ ap (onto_first x) (cut xs ys (λ i l. h (suc i) (omega arith)))
-
-pub first_cut : (bs : List ℕ) (r : Option (Bor (List ℕ) × Bor (List ℕ))) → IsSplitOnceResult 47 bs r
-    → MatchOption r (bs ≡ first_part (slice_split (λ b. b == 47) bs)) (λ x. x.0.now ≡ first_part (slice_split (λ b. b == 47) bs))
-first_cut bs None h = ap first_part (sym (uncut bs (split_parts 47 bs None h (lit< tt))))
-first_cut bs (Some x) h =
-    let k = split_parts 47 bs (Some x) h (lit< tt) in
-    ap first_part (sym (ap (slice_split (λ b. b == 47)) k.0 ∙ cut x.0.now x.1.now k.1))

@@ -9,7 +9,6 @@ ghost use Rattle.filetree.specs.Relations.{Then};
 ghost use Rattle.filetree.specs.Agreement.{FailsAt, InEachPair, ReadsOn};
 ghost use Rattle.lookup.specs.DefaultFileResults.{HasResult};
 ghost use Rattle.search.specs.Looked.{ListingLooksAt};
-ghost use Rattle.modulename.specs.ModuleName.{parts};
 ghost use Rattle.requests.specs.Requests as actions;
 ghost use Rattle.requests.specs.Reports.{loaded_text};
 ghost use Rattle.requests.specs.RequestViews.{action_view};
@@ -35,7 +34,7 @@ use envstate::loaded_list::Loaded;
 use envvars::Vars;
 use filetree::Tree;
 use lookup::EvaluatedDefaultFiles;
-use requests::{Action, Request, avail_report, list_report, modulepath};
+use requests::{Action, Request, avail_report, first_part, list_report, modulepath};
 use search::selected;
 use std::alloc::{AllocError, Global};
 use tclrules::Limits;
@@ -301,16 +300,6 @@ fn purge<T: Tree, V: Vars>(
         env,
         tree,
     )
-}
-
-/// The first part of a name, as `gcc` of `gcc/9`.
-fn first_part(name: &str) -> &str
-    ensures { result.now ≡ steps.first_part (parts name.entry.now) }
-{
-    match name.split_once('/') {
-        Some((first, _)) => first,
-        None => name,
-    }
 }
 
 /// The name of the module that a switch unloads: without an old name it is the first part of the new one.

@@ -7,13 +7,13 @@ use Rattle.filetree.specs.Modulefiles.{path_of}
 use Rattle.filetree.specs.Relations.{Is, If}
 use Rattle.search.specs.Reasons.{bad_name, not_found}
 use Rattle.search.specs.DefaultFiles.{DefaultFileResult}
-use Rattle.search.specs.Found.{Default, FoundModule, read, ModuleAt, FoundAlong, Found}
+use Rattle.search.specs.Found.{DefaultVersion, FoundModule, found_module, ModuleAt, FoundAlong, Found}
 use Rattle.requests.proofs.Bound.{went_on}
 
 abbrev pub IsScript : Files → FoundModule → Type 0
 IsScript files m = modulefile (files m.path) ≡ script m.text
 
-at_held : (files : Files) (name path : Text) (held : FileContent) (m : FoundModule) → modulefile (files path) ≡ held → Ok m ≡ read name path held → IsScript files m
+at_held : (files : Files) (name path : Text) (held : FileContent) (m : FoundModule) → modulefile (files path) ≡ held → Ok m ≡ found_module name path held → IsScript files m
 at_held files name path absent m e h = absurd (cc)
 at_held files name path no_cookie m e h = absurd (cc)
 at_held files name path not_utf8 m e h = absurd (cc)
@@ -31,7 +31,7 @@ along_text : (results : Text → Text → Option DefaultFileResult → Type 0) (
 along_text results files listings name [] m h = absurd (let q : Ok m ≡ Err (not_found name) = h in cc)
 along_text results files listings name (dir ∷ dirs) m (inl (fact, h)) = at_text files dir name m h
 along_text results files listings name (dir ∷ dirs) m (inr (none, inl (some, h))) =
-    let g = went_on (Default results files listings dir name) (λ v. ModuleAt files dir (path_of name v)) m h in
+    let g = went_on (DefaultVersion results files listings dir name) (λ v. ModuleAt files dir (path_of name v)) m h in
     at_text files dir (path_of name g.0) m g.2
 along_text results files listings name (dir ∷ dirs) m (inr (none, inr (no_candidate, h))) = along_text results files listings name dirs m h
 

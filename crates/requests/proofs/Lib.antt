@@ -8,6 +8,7 @@ mod SessionMoves
 pub mod Undone
 mod Returned
 pub mod FoundText
+mod FirstPart
 mod Origins
 pub mod PlainMoves
 mod Judging

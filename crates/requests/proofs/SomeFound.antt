@@ -18,7 +18,7 @@ use Rattle.search.specs.Single.{is_single}
 use Rattle.search.specs.DefaultFiles.{DefaultFileResult, VersionIn, version_named, NamesIn, Names, by_command}
 use Rattle.search.specs.DefaultFiles.{by_variable}
 use Rattle.search.specs.Found.{IsCandidate, HasCandidates, IsSomeCandidate, default_file, NamedDefault, Greatest}
-use Rattle.search.specs.Found.{NamedOrGreatest, Default, read, FoundAlong, Found}
+use Rattle.search.specs.Found.{NamedOrGreatest, DefaultVersion, found_module, FoundAlong, Found}
 use Rattle.requests.specs.Refusals.{refused_as, RefusedAs}
 
 -- it has an outcome
@@ -184,7 +184,7 @@ some_or_greatest files listings dir name h None = some_greatest files listings d
 
 some_default : (results : Text → Text → Option DefaultFileResult → Type 0) → Leaving results
     → (files : Files) (listings : Listings) (dir name : Text) → HasCandidates files listings dir name
-    → IsSome (Default results files listings dir name)
+    → IsSome (DefaultVersion results files listings dir name)
 some_default results law files listings dir name h =
     some_then {First = NamedDefault results files listings dir name} {Rest = NamedOrGreatest files listings dir name}
     (some_named results law files listings dir name) (some_or_greatest files listings dir name h)
@@ -194,9 +194,9 @@ some_along : (results : Text → Text → Option DefaultFileResult → Type 0) �
     → IsSome (FoundAlong results files listings name dirs)
 some_along results law files listings name [] = some_is (Err (not_found name))
 some_along results law files listings name (dir ∷ dirs) =
-    some_where (decided (is_module (modulefile (files (path_of dir name))))) (λ h. some_is (read name (path_of dir name) (modulefile (files (path_of dir name))))) (
+    some_where (decided (is_module (modulefile (files (path_of dir name))))) (λ h. some_is (found_module name (path_of dir name) (modulefile (files (path_of dir name))))) (
     some_where (decided_some files listings dir name) (λ h.
-    some_then (some_default results law files listings dir name h) (λ v. some_is (read (path_of name v) (path_of dir (path_of name v)) (modulefile (files (path_of dir (path_of name v))))))) (
+    some_then (some_default results law files listings dir name h) (λ v. some_is (found_module (path_of name v) (path_of dir (path_of name v)) (modulefile (files (path_of dir (path_of name v))))))) (
     some_along results law files listings name dirs))
 
 pub some_found : (results : Text → Text → Option DefaultFileResult → Type 0) → Leaving results

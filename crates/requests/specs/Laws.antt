@@ -109,7 +109,8 @@ SessionsReturn =
     → AreNew start (session_moves (before ++ after)) → AreReversibleBeside uses [] (session_moves (before ++ after))
     → Holds uses start (live_after [] (session_moves before)) (end_environment start before)
 
--- The same where the files of the modules are plain: then there is no premise about the records of unloads.
+-- A session of new modules whose files are plain, from a start in order. There is no premise about the records of
+-- unloads.
 abbrev pub PlainSessionsReturn : Type 0
 PlainSessionsReturn =
     (uses : Text → VariableUse) (s : RequestContext) (start : Environment) (rs : List Request)

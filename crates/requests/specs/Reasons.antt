@@ -10,6 +10,7 @@ use Rattle.modulefile.specs.Files.{FileReason, file_reason_number}
 use Rattle.search.specs.Reasons as search
 use Rattle.search.specs.Reasons.{bad_name, not_found, bad_default, not_utf8_at}
 
+-- why a request is refused
 pub data RequestReason : Type 0 where
   -- the words don't fit the subcommand
   bad_arguments : RequestReason

@@ -8,12 +8,12 @@ use Rattle.reversal.specs.VariableUses.{VariableUse}
 use Rattle.reversal.specs.Undone.{UndoEquivalently}
 use Rattle.reversal.specs.Runs.{live_named, without_live, IsReversibleAndApart}
 
--- no module that is loaded at the start is unloaded
+-- the move unloads no module that is loaded at the start
 abbrev pub IsNew : Environment → Move → Type 0
 IsNew start (Loads m) = Unit {0}
 IsNew start (Unloads m) = (xs : List Entry) → loaded_in start ≡ Some xs → has m.name (names_of xs) ≡ false
 
--- so for each move
+-- no move unloads a module that is loaded at the start
 abbrev pub AreNew : Environment → List Move → Type 0
 AreNew start [] = Unit {0}
 AreNew start (m ∷ ms) = IsNew start m × AreNew start ms

@@ -46,8 +46,8 @@ abbrev pub request_context_in : Limits → Shell → Files → Listings → Requ
 request_context_in limits shell files listings = record
     { files = files; listings = listings; limits = limits; shell = shell }
 
--- What a request has done so far: its moves and what they made of the environment, the messages of its files, and its
--- report.
+-- What a request has done so far: the environment that its moves made, the moves in their order, the messages of the
+-- modulefiles that it evaluated, and its report.
 -- The type `RequestResults` of modules has no environment: the call edits the variables that it is given.
 pub record Done : Type 0 where
   pub env : Environment
@@ -149,7 +149,7 @@ UnloadsEntry s in_switch typed d xs x =
     (λ ran.
     Is (continued d (Unloads (module_of x.name x.path ran)) ran.messages)))
 
--- where there is no such module nothing changes
+-- the module that the name means is unloaded; where there is none nothing changes
 abbrev pub UnloadsMeant : RequestContext → Bool → Text → Done → List Entry → Option Entry → Result Done RequestReason
     → Type 0
 UnloadsMeant s in_switch typed d xs None = Is (Ok d)
@@ -195,7 +195,7 @@ abbrev pub Each : (Text → Done → Result Done RequestReason → Type 0) → L
 Each Does [] d = Is (Ok d)
 Each Does (name ∷ names) d = Does name d >> Each Does names
 
--- at least one name
+-- with at least one name this is done, and without a name the arguments are bad
 abbrev pub NeedsNames : List Text → (Result Done RequestReason → Type 0) → Result Done RequestReason → Type 0
 NeedsNames [] Does = Is (Err bad_arguments)
 NeedsNames (name ∷ names) Does = Does
@@ -204,7 +204,8 @@ NeedsNames (name ∷ names) Does = Does
 abbrev pub EndsRequest : List Entry → Done → Result Done RequestReason → Type 0
 EndsRequest before d = Is (entries_of d.env) >> (λ after. Is (unless (end_objection before after) (Ok d)))
 
--- The loaded modules are read first, and judged last.
+-- A request that changes what is loaded: the loaded list is read, this is done, and at the end the needs of the modules
+-- that are still loaded are judged.
 abbrev pub ChangesLoaded : Environment → (List Entry → Done → Result Done RequestReason → Type 0)
     → Result Done RequestReason → Type 0
 ChangesLoaded e Does = Is (entries_of e) >> (λ before. Does before (nothing_done e) >> EndsRequest before)
@@ -238,7 +239,7 @@ ListsAvailable s e texts o =
     (listings : List Listing) × Listed (HasResult s.limits) s.files s.listings texts (modulepath e) listings
     × (o ≡ Ok (with_report (nothing_done e) [] (avail_text listings)))
 
--- The step of a request.
+-- The step of a request: what it has done in this environment, or the reason that it is refused for.
 abbrev pub RequestStep : RequestContext → Environment → RequestedAction → Result Done RequestReason → Type 0
 RequestStep s e (load names) = NeedsNames names (ChangesLoaded e (λ before. Each (LoadsName s false) names))
 RequestStep s e (unload names) = NeedsNames names (ChangesLoaded e (λ before. Each (UnloadsName s false) names))

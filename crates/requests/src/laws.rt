@@ -56,7 +56,8 @@ pub fn session_returns()
     reversal::laws::steps();
 }
 
-/// The same for modules whose files are plain: that unloads undo what their loads did is then no premise.
+/// Sessions of modules whose files are plain return to the start. That unloads undo what their loads did is then no
+/// premise.
 pub fn plain_session_returns()
     ensures { PlainSessionsReturn }
 {
@@ -67,8 +68,8 @@ pub fn plain_session_returns()
     reversal::laws::steps();
 }
 
-/// The same for one command, which knows no history: it begins in an environment that is in order, with live modules
-/// layered on a start that is in order.
+/// One command, which knows no history, keeps the environment in order and the live modules layered on the start. It
+/// begins in an environment that is in order, with live modules layered on a start that is in order.
 pub fn command_returns()
     ensures { CommandsReturn }
 {
@@ -76,7 +77,8 @@ pub fn command_returns()
     reversal::laws::steps();
 }
 
-/// The same for modules that were judged plain and are apart: that they are reversible is then no premise.
+/// Sessions of modules that were judged plain and are apart return to the start. That the modules are reversible is
+/// then no premise.
 pub fn judged_session_returns()
     ensures { JudgedSessionsReturn }
 {

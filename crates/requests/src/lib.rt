@@ -10,6 +10,7 @@ pub mod hand_changes;
 mod laws;
 mod lines;
 mod list;
+mod names;
 mod rows;
 mod show;
 mod whatis;
@@ -23,6 +24,7 @@ pub use laws::{
     session_returns, sessions, some_outcome, verdicts,
 };
 pub use list::list_report;
+pub use names::first_part;
 pub use rows::{condition_rows, report_rows, request_rows};
 pub use show::show_report;
 pub use whatis::whatis_report;

@@ -15,7 +15,7 @@ use Rattle.envvars.proofs.EnvLemmas.{lookup-with_value}
 use Rattle.envvars.proofs.EditLemmas.{not_is}
 use Rattle.envvars.proofs.TableLemmas.{nothing_set}
 use Rattle.envstate.specs.paths.Paths.{PathState, add_all, drop_all}
-use Rattle.envstate.specs.paths.PathTexts.{state_of, elements_text, pairs_text}
+use Rattle.envstate.specs.paths.PathTexts.{state_of, elements_text, counters_as_text}
 use Rattle.envstate.specs.paths.PathVariables.{path_in, path_reason, counters_fit, with_path, written_path, added_path}
 use Rattle.envstate.specs.paths.PathVariables.{dropped_path}
 use Rattle.envstate.specs.declared.paths.adding.End.{End}
@@ -83,7 +83,7 @@ path_seen h name delim =
     ∙ ap (state_of delim (seen h name)) (lookup_seen h (share_name name))
 
 abbrev pub path_written : History → Text → ℕ → PathState → History
-path_written h name delim s = (share_name name, pairs_text s) ∷ (name, elements_text delim s.elements) ∷ h
+path_written h name delim s = (share_name name, counters_as_text s) ∷ (name, elements_text delim s.elements) ∷ h
 
 abbrev pub added_at : History → Text → ℕ → List Text → End → Option History
 added_at h name delim xs end =

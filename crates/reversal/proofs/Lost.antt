@@ -11,7 +11,7 @@ use Rattle.envvars.specs.Changes.{same_value}
 use Rattle.envvars.proofs.TextLemmas.{bytes_eq-same, same_text}
 use Rattle.envvars.proofs.EnvLemmas.{same_environment, lookup-with_value}
 use Rattle.envstate.specs.paths.Paths.{PathState}
-use Rattle.envstate.specs.paths.PathTexts.{elements_text, pairs_text}
+use Rattle.envstate.specs.paths.PathTexts.{elements_text, counters_as_text}
 use Rattle.envstate.specs.paths.PathOrder.{IsPathInOrder}
 use Rattle.envstate.specs.stacks.StackVariables.{IsStackInOrder}
 use Rattle.envstate.specs.loaded_list.LoadedTexts.{names_variable, files_variable, conflicts_variable, prereqs_variable}
@@ -130,10 +130,10 @@ start_at name variable_use e l a = record {
 
 pub path_ordered : (h : History) (name : Text) (delim : ℕ)
     → seen h name ≡ elements_text delim (path_at h name delim).elements
-    → seen h (share_name name) ≡ pairs_text (path_at h name delim) → IsPathInOrder (env h) name delim
+    → seen h (share_name name) ≡ counters_as_text (path_at h name delim) → IsPathInOrder (env h) name delim
 path_ordered h name delim e c = record {
   elements = lookup_seen h name ∙ e ∙ ap (λ (s : PathState). elements_text delim s.elements) (sym (path_seen h name delim));
-  counters = lookup_seen h (share_name name) ∙ c ∙ ap pairs_text (sym (path_seen h name delim));
+  counters = lookup_seen h (share_name name) ∙ c ∙ ap counters_as_text (sym (path_seen h name delim));
 }
 
 pub empty_path : EmptyPath

@@ -95,8 +95,8 @@ pub record LoseIrreversible (part : Part) (uses : Text → VariableUse) (start :
   pub others : OtherParts part uses ms
   pub lose : Lose start ms
 
--- The same where the start isn't lost in the end: the moves reach an environment that isn't the start with the live
--- modules over it.
+-- It is a start, and the moves have every part but this one. They reach an environment that isn't the start with the
+-- live modules over it.
 pub record LoseBetween (part : Part) (uses : Text → VariableUse) (start : Environment) (ms : List Move) : Type 0 where
   pub begins : IsStart uses start
   pub others : OtherParts part uses ms

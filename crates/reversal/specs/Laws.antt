@@ -44,7 +44,8 @@ RequestsReturn =
     → (mid : Environment) × RequestsReach done start mid × RequestsReach rest mid e
     × Holds uses start (live_after [] (all_moves done)) mid
 
--- The same from any environment in order that is a start with live modules over it, whatever was before.
+-- From any environment in order that is a start with live modules over it, whatever was before, moves reach such an
+-- environment.
 abbrev pub MovesPreserve : Type 0
 MovesPreserve =
     (uses : Text → VariableUse) (start old new : Environment) (live : List Module) (ms : List Move) → IsStart uses start

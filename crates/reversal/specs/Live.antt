@@ -15,12 +15,12 @@ set_by v (Unset var None) = None
 set_by v (Unset var (Some value)) = if bytes_eq v var then Some None else None
 set_by v r = None
 
--- what the last of the records sets it to that does
+-- what the records set the variable to, a value or unset: the last of them that does counts
 abbrev pub last_set : Text → List Record → Option (Option Text)
 last_set v [] = None
 last_set v (r ∷ rs) = option_or (last_set v rs) (set_by v r)
 
--- what the newest of the modules sets it to that does
+-- what the live modules set the variable to: the newest of them that does counts
 abbrev pub live_set : Text → List Module → Option (Option Text)
 live_set v [] = None
 live_set v (m ∷ live) = option_or (last_set v m.records) (live_set v live)
@@ -34,12 +34,12 @@ adds_among v x (Some added) = if bytes_eq v added.0 then count_by (bytes_eq x) a
 abbrev pub adds_by : Text → Text → Record → ℕ
 adds_by v x r = adds_among v x (added_elements r)
 
--- how often the records do
+-- how often records add the element to the variable
 abbrev pub adds : Text → Text → List Record → ℕ
 adds v x [] = 0
 adds v x (r ∷ rs) = adds_by v x r + adds v x rs
 
--- how often the modules do
+-- how often the live modules add the element to the variable
 abbrev pub live_adds : Text → List Module → Text → ℕ
 live_adds v [] x = 0
 live_adds v (m ∷ live) x = adds v x m.records + live_adds v live x
@@ -49,7 +49,7 @@ abbrev pub push_by : Text → Record → Option Text
 push_by v (Push var value) = if bytes_eq v var then Some value else None
 push_by v r = None
 
--- the last value that the records push
+-- the last value that the records push on the variable's stack
 abbrev pub last_push : Text → List Record → Option Text
 last_push v [] = None
 last_push v (r ∷ rs) = option_or (last_push v rs) (push_by v r)
@@ -59,7 +59,8 @@ abbrev pub with_push : Text → Option Text → List (Text × Text) → List (Te
 with_push owner None pushes = pushes
 with_push owner (Some value) pushes = (owner, value) ∷ pushes
 
--- one push for each of the modules that pushes, of its last value
+-- the pushes of the live modules on the variable's stack: of each module that pushes its name and its last value, the
+-- newest module first
 abbrev pub live_pushes : Text → List Module → List (Text × Text)
 live_pushes v [] = []
 live_pushes v (m ∷ live) = with_push m.name (last_push v m.records) (live_pushes v live)

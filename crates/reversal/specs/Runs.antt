@@ -22,13 +22,13 @@ live_after live [] = live
 live_after live (Loads m ∷ ms) = live_after (m ∷ live) ms
 live_after live (Unloads m ∷ ms) = live_after (without_live m.name live) ms
 
--- The module is reversible, and apart from those that are live: it follows the use of each variable, and sets or unsets
--- none that a live module sets or unsets.
+-- The module is reversible, and apart from those that are live: its records suit the uses of variables, and no variable
+-- that it sets, or unsets with a value, is set or unset so by a live module.
 pub record IsReversibleAndApart (uses : Text → VariableUse) (live : List Module) (m : Module) : Type 0 where
   pub suits : AllSuit uses m.records
   pub sets_apart : (v : Text) → is_some (last_set v m.records) ≡ true → live_set v live ≡ None
 
--- each was so while the older ones were live
+-- each of the live modules is reversible and apart from the older ones
 abbrev pub AreReversibleTogether : (Text → VariableUse) → List Module → Type 0
 AreReversibleTogether uses [] = Unit {0}
 AreReversibleTogether uses (m ∷ live) = IsReversibleAndApart uses live m × AreReversibleTogether uses live

@@ -24,8 +24,8 @@ pub record IsInOrder (uses : Text → VariableUse) (e : Environment) : Type 0 wh
   pub stacks : (v : Text) (entries : List Entry) → is_editable v ≡ true → uses v ≡ Stacked → loaded_in e ≡ Some entries
       → IsStackInOrder (names_of entries) e v
 
--- A start: in order, each variable that records fix has the value that their unload gives back, and the absent ones are
--- unset.
+-- A start: it is in order, each fixed variable has the value that unloads give back, or is unset where they unset it,
+-- and each absent variable is unset.
 pub record IsStart (uses : Text → VariableUse) (start : Environment) : Type 0 where
   pub order : IsInOrder uses start
   pub fixed : (v : Text) (value : Option Text) → is_editable v ≡ true → uses v ≡ Fixed value → lookup start v ≡ value
@@ -66,8 +66,8 @@ HasVariable Absent start v live e = HasValue start e v (lookup start v)
 HasVariable (Pathed delim) start v live e = HasPath start e v delim (live_adds v live)
 HasVariable Stacked start v live e = HasStack start e v (live_pushes v live)
 
--- The environment is the start with these live modules over it: the entries are those of the start and then theirs,
--- each variable that may be edited is as its use has it, and every name that is none of the tool's is as in the start.
+-- The environment is the start with these live modules over it. The loaded list has the entries of the start and then
+-- theirs. Each variable that modules may edit is as its use has it. Each other variable is as in the start.
 pub record IsStartWith (uses : Text → VariableUse) (start : Environment) (live : List Module)
     (e : Environment) : Type 0 where
   pub entries : (xs : List Entry) → loaded_in start ≡ Some xs → loaded_in e ≡ Some (entries_over xs live)

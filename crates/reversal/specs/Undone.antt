@@ -12,10 +12,11 @@ undone_as (Push var value) = Some (Push var [])
 undone_as (Path edit delim var xs) = if adds_elements edit then Some (Path Front delim var xs) else None
 undone_as r = None
 
--- those of several, in their order
+-- what an unload sees of the records, in their order
 abbrev pub undo_of : List Record → List Record
 undo_of rs = filter_map undone_as rs
 
--- An unload by the ones does what an unload by the others does.
+-- An unload sees the same in both lists, in the same order: so an unload by the one does what an unload by the other
+-- does.
 abbrev pub UndoEquivalently : List Record → List Record → Type 0
 UndoEquivalently rs ss = undo_of rs ≡ undo_of ss

@@ -8,7 +8,7 @@ use Rattle.modulefile.specs.Records.{Record, Set, Unset, Push, Path, Conflict, P
 pub data VariableUse : Type 0 where
   -- by no record
   Untouched : VariableUse
-  -- set or unset while a module is loaded, and of this value else, or unset
+  -- set, or unset with a value, while a module is loaded; otherwise it has this value, or is unset
   Fixed : (value : Option Text) → VariableUse
   -- unset throughout: no module gives it a value, and the start has none
   Absent : VariableUse
@@ -17,7 +17,7 @@ pub data VariableUse : Type 0 where
   -- a stack of pushed values
   Stacked : VariableUse
 
--- The kinds of records that unloading undoes are all but two.
+-- The kinds of records that unloading undoes: all except an unset without a value and a removal of elements.
 abbrev pub is_reversible : Record → Bool
 is_reversible (Unset var None) = false
 is_reversible (Path edit delim var xs) = adds_elements edit
@@ -51,7 +51,7 @@ abbrev pub absent_by : Record → Option Text
 absent_by (Unset var None) = Some var
 absent_by r = None
 
--- those that records do, in their order
+-- the variables that records keep absent, in their order
 abbrev pub absent_in : List Record → List Text
 absent_in rs = filter_map absent_by rs
 
@@ -69,11 +69,11 @@ abbrev pub AllFollowUses : (Text → VariableUse) → List Record → Type 0
 AllFollowUses uses [] = Unit {0}
 AllFollowUses uses (r ∷ rs) = FollowsUse uses r × AllFollowUses uses rs
 
--- it is of a kind after which the start can be back, and follows the use of its variable
+-- the record is of a kind after which the start can be back, and follows the use of its variable
 abbrev pub Suits : (Text → VariableUse) → Record → Type 0
 Suits uses r = (can_return r ≡ true) × FollowsUse uses r
 
--- all records do
+-- each record is of such a kind and follows the use of its variable
 abbrev pub AllSuit : (Text → VariableUse) → List Record → Type 0
 AllSuit uses [] = Unit {0}
 AllSuit uses (r ∷ rs) = Suits uses r × AllSuit uses rs

@@ -11,15 +11,15 @@ pub fn runs()
     ensures each { EachMoveHolds }
 {}
 
-/// The same of requests: each is a list of moves, as a switch, which unloads and then loads, or several names; a
-/// refused one has none. Every environment between two of them is in order, is the start with the live modules over it,
-/// and is the start where no module is live.
+/// In a session of requests, every environment between two of them is in order and is the start with the live modules
+/// over it. It is the start where no module is live. Each request is a list of moves: a switch unloads and then loads,
+/// and a request may have several names. A refused request has no moves.
 pub fn requests()
     ensures { RequestsReturn }
 {}
 
-/// The same from any environment in order that is a start with live modules over it, whatever was before: this is what
-/// one command needs, which knows no history.
+/// The moves of one command keep the environment in order, and keep it the start with the live modules over it. They
+/// need no history: only that the environment before them was so.
 pub fn steps()
     ensures { MovesPreserve }
 {}

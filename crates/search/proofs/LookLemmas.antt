@@ -7,7 +7,7 @@ use Rattle.filetree.specs.Modulefiles.{FileContent, absent, no_cookie, not_utf8,
 use Rattle.search.specs.DefaultVersions.{DefaultFileResult, VersionIn, by_command, by_variable}
 use Rattle.search.specs.DefaultFiles.{Names}
 use Rattle.search.specs.Candidates.{IsModuleAt, IsCandidate, HasCandidates, IsVersionIn}
-use Rattle.search.specs.Found.{IsSomeCandidate, NamedDefault, Default, default_file}
+use Rattle.search.specs.Found.{IsSomeCandidate, NamedDefault, DefaultVersion, default_file}
 use Rattle.search.specs.Looked.{LooksAtDefaultFile, LooksForNamed, LooksInFolder, LooksBelow, GivesModule, LooksAlong}
 use Rattle.search.specs.Steps.{module_in, module_at, DefaultIn, OfDefault, FoundBelow}
 use Rattle.search.proofs.StepLemmas.{default_is_candidate}
@@ -43,7 +43,7 @@ module _ (results : Text → Text → Option DefaultFileResult → Type 0) (file
   named_looked v (Ok first, names, inr (unnamed, (Err r, also, e))) = absurd (cc)
   named_looked v (Err r, names, e) = absurd (cc)
 
-  chosen_looked : (v : Text) → IsCandidate files listings dir name v → Default results files listings dir name (Ok v) → LooksInFolder results files listings dir name (path_of dir (path_of name v))
+  chosen_looked : (v : Text) → IsCandidate files listings dir name v → DefaultVersion results files listings dir name (Ok v) → LooksInFolder results files listings dir name (path_of dir (path_of name v))
   chosen_looked v c (Ok (Some w), h, e) =
       ((v, is_version_in v c), inl (named_looked v (subst (λ x. NamedDefault results files listings dir name (Ok (Some x))) (sym (same_value v w (Ok v) (Ok w) refl refl e)) h)))
   chosen_looked v c (Ok None, h, (w, greatest, e)) =
@@ -54,7 +54,7 @@ module _ (results : Text → Text → Option DefaultFileResult → Type 0) (file
   -- the file of the default candidate is looked at
   pub default_looked : (v : Text) → DefaultIn results files listings dir name (Ok (Some v)) → LooksInFolder results files listings dir name (path_of dir (path_of name v))
   default_looked v (inl (c, (Ok w, default, e))) =
-      let here : Default results files listings dir name (Ok v) = subst (λ x. Default results files listings dir name (Ok x)) (sym (some_value v w (Ok (Some v)) (Ok (Some w)) refl refl e)) default in
+      let here : DefaultVersion results files listings dir name (Ok v) = subst (λ x. DefaultVersion results files listings dir name (Ok x)) (sym (some_value v w (Ok (Some v)) (Ok (Some w)) refl refl e)) default in
       chosen_looked v (default_is_candidate results files listings dir name v here) here
   default_looked v (inl (c, (Err r, default, e))) = absurd (cc)
   default_looked v (inr (none, e)) = absurd (cc)
@@ -64,7 +64,7 @@ module _ (results : Text → Text → Option DefaultFileResult → Type 0) (file
   given_none None (inl (c, (Err r, default, e))) of some = absurd (cc)
   given_none None (inr (none, e)) of some = none some
   given_none (Some v) (inl (c, (Ok w, default, e))) of some =
-      let here : Default results files listings dir name (Ok v) = subst (λ x. Default results files listings dir name (Ok x)) (sym (some_value v w (Ok (Some v)) (Ok (Some w)) refl refl e)) default in
+      let here : DefaultVersion results files listings dir name (Ok v) = subst (λ x. DefaultVersion results files listings dir name (Ok x)) (sym (some_value v w (Ok (Some v)) (Ok (Some w)) refl refl e)) default in
       not_at files dir (path_of name v) of (default_is_candidate results files listings dir name v here).file
   given_none (Some v) (inl (c, (Err r, default, e))) of some = absurd (cc)
   given_none (Some v) (inr (none, e)) of some = absurd (cc)

@@ -10,7 +10,7 @@ use Rattle.search.specs.Reasons.{bad_name, bad_default, not_found}
 use Rattle.search.specs.DefaultVersions.{DefaultFileResult, VersionIn}
 use Rattle.search.specs.DefaultFiles.{version_named, NamesIn, Names}
 use Rattle.search.specs.Candidates.{IsCandidate}
-use Rattle.search.specs.Found.{NamedDefault, Greatest, NamedOrGreatest, Default, read, FoundAlong, Found}
+use Rattle.search.specs.Found.{NamedDefault, Greatest, NamedOrGreatest, DefaultVersion, found_module, FoundAlong, Found}
 use Rattle.modulename.proofs.OrderLemmas.{one_greatest}
 
 one_names_in : (results : Text → Text → Option DefaultFileResult → Type 0) → ((path text : Text) (o p : Option DefaultFileResult) → results path text o → results path text p → o ≡ p)
@@ -41,15 +41,15 @@ one_or_largest files listings dir name (Some v) = one_is (Ok v)
 one_or_largest files listings dir name None = one_largest files listings dir name
 
 one_default : (results : Text → Text → Option DefaultFileResult → Type 0) → ((path text : Text) (o p : Option DefaultFileResult) → results path text o → results path text p → o ≡ p)
-    → (files : Files) (listings : Listings) (dir name : Text) → IsOne (Default results files listings dir name)
+    → (files : Files) (listings : Listings) (dir name : Text) → IsOne (DefaultVersion results files listings dir name)
 one_default results law files listings dir name = one_then (one_named results law files listings dir name) (one_or_largest files listings dir name)
 
 one_along : (results : Text → Text → Option DefaultFileResult → Type 0) → ((path text : Text) (o p : Option DefaultFileResult) → results path text o → results path text p → o ≡ p)
     → (files : Files) (listings : Listings) (name : Text) (dirs : List Text) → IsOne (FoundAlong results files listings name dirs)
 one_along results law files listings name [] = one_is (Err (not_found name))
 one_along results law files listings name (dir ∷ dirs) =
-    one_where (one_is (read name (path_of dir name) (modulefile (files (path_of dir name))))) (
-    one_where (one_then (one_default results law files listings dir name) (λ v. one_is (read (path_of name v) (path_of dir (path_of name v)) (modulefile (files (path_of dir (path_of name v))))))) (
+    one_where (one_is (found_module name (path_of dir name) (modulefile (files (path_of dir name))))) (
+    one_where (one_then (one_default results law files listings dir name) (λ v. one_is (found_module (path_of name v) (path_of dir (path_of name v)) (modulefile (files (path_of dir (path_of name v))))))) (
     one_along results law files listings name dirs))
 
 pub one_module : (results : Text → Text → Option DefaultFileResult → Type 0) → ((path text : Text) (o p : Option DefaultFileResult) → results path text o → results path text p → o ≡ p)

@@ -12,7 +12,7 @@ use Rattle.search.specs.declared.find_fault.FindFault.TheVariants as faults
 use Rattle.filetree.specs.Relations.{Then, Where}
 use Rattle.search.specs.Reasons.{FindReason}
 use Rattle.search.specs.DefaultVersions.{DefaultFileResult}
-use Rattle.search.specs.Found.{FoundModule, NamedDefault, Default, ModuleAt, FoundAlong, read}
+use Rattle.search.specs.Found.{FoundModule, NamedDefault, DefaultVersion, ModuleAt, FoundAlong, found_module}
 use Rattle.search.specs.Candidates.{IsCandidate, HasCandidates}
 use Rattle.search.specs.Answers.{FindAnswersOverTree}
 use Rattle.search.specs.Steps.{module_in, module_at, DefaultIn, OfDefault, FoundBelow}
@@ -93,14 +93,14 @@ Continues results files listings name dirs (Ok (Some m)) o = o ≡ Ok m
 Continues results files listings name dirs (Err r) o = o ≡ Err r
 
 module _ (results : Text → Text → Option DefaultFileResult → Type 0) (files : Files) (listings : Listings) (dir name : Text) where
-  pub default_is_candidate : (v : Text) → Default results files listings dir name (Ok v) → IsCandidate files listings dir name v
+  pub default_is_candidate : (v : Text) → DefaultVersion results files listings dir name (Ok v) → IsCandidate files listings dir name v
   default_is_candidate v (Ok (Some w), h, e) = subst (IsCandidate files listings dir name) (sym (same_value v w (Ok v) (Ok w) refl refl e)) (named_is_candidate results files listings dir name w h)
   default_is_candidate v (Ok None, h, (w, greatest, e)) = subst (IsCandidate files listings dir name) (sym (same_value v w (Ok v) (Ok w) refl refl e)) greatest.member
   default_is_candidate v (Err r, h, e) = absurd (cc)
 
 module _ (results : Text → Text → Option DefaultFileResult → Type 0) (files : Files) (listings : Listings) (dir name : Text) (dirs : List Text) where
   given_read : (full path : Text) (held : FileContent) → is_module held ≡ true → (given : Result (Option FoundModule) FindReason) (o : Result FoundModule FindReason)
-      → given ≡ module_in full path held → Continues results files listings name dirs given o → o ≡ read full path held
+      → given ≡ module_in full path held → Continues results files listings name dirs given o → o ≡ found_module full path held
   given_read full path absent m given o e k = absurd (cc)
   given_read full path no_cookie m given o e k = absurd (cc)
   given_read full path not_utf8 m given o e k = subst (λ x. Continues results files listings name dirs x o) e k
@@ -109,7 +109,7 @@ module _ (results : Text → Text → Option DefaultFileResult → Type 0) (file
   along_default : (v : Option Text) (given : Result (Option FoundModule) FindReason) (o : Result FoundModule FindReason)
       → DefaultIn results files listings dir name (Ok v) → OfDefault files dir name v given
       → Continues results files listings name dirs given o
-      → Where (HasCandidates files listings dir name) (Then (Default results files listings dir name) (λ w. ModuleAt files dir (path_of name w))) (FoundAlong results files listings name dirs) o
+      → Where (HasCandidates files listings dir name) (Then (DefaultVersion results files listings dir name) (λ w. ModuleAt files dir (path_of name w))) (FoundAlong results files listings name dirs) o
   along_default v given o (inl (c, (Ok w, default, e))) of k =
       let q : v ≡ Some w = same_value v (Some w) (Ok v) (Ok (Some w)) refl refl e in
       let at : given ≡ module_at files dir (path_of name w) = subst (λ x. OfDefault files dir name x given) q of in
@@ -122,7 +122,7 @@ module _ (results : Text → Text → Option DefaultFileResult → Type 0) (file
       inr (none, subst (λ x. Continues results files listings name dirs x o) at k)
 
   along_fault : (r : FindReason) (o : Result FoundModule FindReason) → DefaultIn results files listings dir name (Err r) → o ≡ Err r
-      → Where (HasCandidates files listings dir name) (Then (Default results files listings dir name) (λ w. ModuleAt files dir (path_of name w))) (FoundAlong results files listings name dirs) o
+      → Where (HasCandidates files listings dir name) (Then (DefaultVersion results files listings dir name) (λ w. ModuleAt files dir (path_of name w))) (FoundAlong results files listings name dirs) o
   along_fault r o (inl (c, (Ok w, default, e))) k = absurd (cc)
   along_fault r o (inl (c, (Err s, default, e))) k = inl (c, (Err s, default, (let q : r ≡ s = cc in k ∙ ap Err q)))
   along_fault r o (inr (none, e)) k = absurd (cc)

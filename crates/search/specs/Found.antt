@@ -1,5 +1,5 @@
 -- Which modulefile a name means (module(1), modulefile(5)): the search along MODULEPATH, with the candidates of a
--- folder and its default. `results` has the results of the evaluation of default files.
+-- folder and its default. `results` relates the path and text of a default file to the result of its evaluation.
 use Rattle.std.specs.Prelude.{◌≡◌, List, [], ◌∷◌, codes, Option, Some, None, Result, Ok, Err}
 use Rattle.modulename.specs.ModuleName.{Text, is_module_name}
 use Rattle.filetree.specs.Agreement.{Files, Listings}
@@ -41,9 +41,9 @@ NamedOrGreatest files listings dir name (Some v) = Is (Ok v)
 NamedOrGreatest files listings dir name None = Greatest files listings dir name
 
 -- the default candidate of a folder: the one that its default files name, or else the greatest
-abbrev pub Default : (Text → Text → Option DefaultFileResult → Type 0) → Files → Listings → Text → Text
+abbrev pub DefaultVersion : (Text → Text → Option DefaultFileResult → Type 0) → Files → Listings → Text → Text
     → Result Text FindReason → Type 0
-Default results files listings dir name =
+DefaultVersion results files listings dir name =
     NamedDefault results files listings dir name >> NamedOrGreatest files listings dir name
 
 -- a module that was found: its full name, its path and its text
@@ -53,15 +53,15 @@ pub record FoundModule : Type 0 where
   pub text : Text
 
 -- the module of this full name at a path, by what the path holds
-abbrev pub read : Text → Text → FileContent → Result FoundModule FindReason
-read name path absent = Err (not_found name)
-read name path no_cookie = Err (not_found name)
-read name path not_utf8 = Err (not_utf8_at path)
-read name path (script text) = Ok (record { name = name; path = path; text = text })
+abbrev pub found_module : Text → Text → FileContent → Result FoundModule FindReason
+found_module name path absent = Err (not_found name)
+found_module name path no_cookie = Err (not_found name)
+found_module name path not_utf8 = Err (not_utf8_at path)
+found_module name path (script text) = Ok (record { name = name; path = path; text = text })
 
 -- the module of this full name below a directory
 abbrev pub ModuleAt : Files → Text → Text → Result FoundModule FindReason → Type 0
-ModuleAt files dir name = Is (read name (path_of dir name) (modulefile (files (path_of dir name))))
+ModuleAt files dir name = Is (found_module name (path_of dir name) (modulefile (files (path_of dir name))))
 
 -- The module of the first directory that gives one: the file of this name, or else the default candidate of the folder
 -- of this name.
@@ -71,7 +71,7 @@ FoundAlong results files listings name [] = Is (Err (not_found name))
 FoundAlong results files listings name (dir ∷ dirs) =
     Where (IsModuleAt files (path_of dir name)) (ModuleAt files dir name) (
     Where (HasCandidates files listings dir name)
-    (Default results files listings dir name >> (λ v. ModuleAt files dir (path_of name v))) (
+    (DefaultVersion results files listings dir name >> (λ v. ModuleAt files dir (path_of name v))) (
     FoundAlong results files listings name dirs))
 
 -- What a name means along a MODULEPATH.

@@ -3,6 +3,7 @@ pub mod Single
 pub mod Candidates
 pub mod Selections
 pub mod BelowFolder
+pub mod NamesBelow
 pub mod DefaultVersions
 -- How the type of the code shows the result of an evaluation.
 pub mod Ended

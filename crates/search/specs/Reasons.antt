@@ -1,7 +1,7 @@
 -- Why a search finds no modulefile, apart from want of memory and a device that failed (module(1), modulefile(5)).
 use Rattle.modulename.specs.ModuleName.{Text}
 
--- a reason, with the name or the path that it is about
+-- why a search finds no modulefile, with the name or the path that the reason is about
 pub data FindReason : Type 0 where
   -- the name is ill-spelled
   bad_name : (name : Text) → FindReason

@@ -6,7 +6,7 @@ use Rattle.filetree.specs.Modulefiles.{FileContent, absent, no_cookie, not_utf8,
 use Rattle.filetree.specs.Relations.{Is, Where, ◌>>◌}
 use Rattle.search.specs.Reasons.{FindReason, not_utf8_at}
 use Rattle.search.specs.DefaultVersions.{DefaultFileResult}
-use Rattle.search.specs.Found.{FoundModule, Default}
+use Rattle.search.specs.Found.{FoundModule, DefaultVersion}
 use Rattle.search.specs.Candidates.{IsModuleAt, HasCandidates}
 
 -- the module of this full name that a path holds, if it holds one
@@ -24,7 +24,7 @@ module_at files dir name = module_in name (path_of dir name) (modulefile (files 
 abbrev pub DefaultIn : (Text → Text → Option DefaultFileResult → Type 0) → Files → Listings → Text → Text
     → Result (Option Text) FindReason → Type 0
 DefaultIn results files listings dir name =
-    Where (HasCandidates files listings dir name) (Default results files listings dir name >> (λ v. Is (Ok (Some v))))
+    Where (HasCandidates files listings dir name) (DefaultVersion results files listings dir name >> (λ v. Is (Ok (Some v))))
     (Is (Ok None))
 
 -- the module of the default candidate, if there is one

@@ -5,6 +5,7 @@
 mod default_files;
 mod defaults;
 mod find_fault;
+mod folder_names;
 mod folders;
 mod found;
 mod laws;
@@ -21,6 +22,7 @@ mod versions;
 pub use default_files::{DefaultFileEnding, DefaultFiles};
 pub use defaults::{NamedVersion, named_default};
 pub use find_fault::FindFault;
+pub use folder_names::names_below;
 pub use found::{LocatedModule, directories, locate};
 pub use laws::{one_found, one_listed, rows_of_defaults, selected_of_all};
 pub use listing_entries::ListingEntry;

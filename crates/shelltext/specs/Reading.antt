@@ -35,12 +35,12 @@ pub data ValuePart : Type 0 where
   literal : Text → ValuePart
   special : ℕ → ValuePart
 
--- the part is one of the family's texts
+-- the part can be written for the family: its literal bytes are literal there, or its byte is special there
 abbrev pub IsPart : Family → ValuePart → Type 0
 IsPart family (literal bytes) = list_all (is_literal family) bytes ≡ true
 IsPart family (special b) = is_special family b ≡ true
 
--- so is each of these parts
+-- each of these parts can be written for the family
 abbrev pub AreParts : Family → List ValuePart → Type 0
 AreParts family [] = Unit {0}
 AreParts family (part ∷ parts) = IsPart family part × AreParts family parts

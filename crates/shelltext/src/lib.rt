@@ -12,3 +12,4 @@ mod spelling;
 pub use family::Family;
 pub use print::{PrintFault, print_changes};
 pub use shell::Shell;
+pub use spelling::{is_value_sayable, push_quoted};

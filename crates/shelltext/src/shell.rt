@@ -1,6 +1,6 @@
 //! The shells, their names and their families.
 ghost use Rattle.std.specs.Prelude.{◌≡◌};
-ghost use Rattle.shelltext.specs.Shells.{family_of, shell_name, shell_named};
+ghost use Rattle.shelltext.specs.Shells.{all_shells, family_of, shell_name, shell_named};
 
 use crate::family::Family;
 
@@ -17,6 +17,21 @@ pub enum Shell {
 }
 
 impl Shell {
+    /// All shells, `sh` first.
+    pub fn all() -> &'static [Shell]
+        ensures { result.now ≡ all_shells }
+    {
+        &[
+            Shell::Sh,
+            Shell::Bash,
+            Shell::Ksh,
+            Shell::Zsh,
+            Shell::Csh,
+            Shell::Tcsh,
+            Shell::Fish,
+        ]
+    }
+
     /// The name of the shell, as a command line gives it and `module-info shell` answers it (modulefile(5)).
     pub fn name(self) -> &'static str
         ensures { result.now ≡ shell_name self }

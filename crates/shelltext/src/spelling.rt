@@ -25,7 +25,7 @@ fn has_unsayable(family: Family, value: &str) -> bool
     }
 }
 
-/// Whether a text of these shells says the value.
+/// Whether a text of these shells can say the value: it has no NUL, nor, for csh and tcsh, a newline.
 pub fn is_value_sayable(family: Family, value: &str) -> bool
     ensures { result ≡ list_all (λ b. not (reading.is_unsayable family b)) value.now }
 {
@@ -97,8 +97,8 @@ fn push_inner(out: &mut String, family: Family, value: &str) -> Result<(), Alloc
     Ok(())
 }
 
-/// Appends a value in single quotes.
-fn push_value(out: &mut String, family: Family, value: &str) -> Result<(), AllocError>
+/// Appends a value, or a word of a command, in single quotes, as the shells of the family read it back.
+pub fn push_quoted(out: &mut String, family: Family, value: &str) -> Result<(), AllocError>
     ensures { OnOk result (string_bytes out.new ≡ string_bytes out.old ++ printing.quoted family value.now) }
 {
     out.push('\'')?;
@@ -115,7 +115,7 @@ pub fn push_set(out: &mut String, family: Family, name: &str, value: &str) -> Re
         Family::Sh => {
             out.push_str(name)?;
             out.push('=')?;
-            push_value(out, family, value)?;
+            push_quoted(out, family, value)?;
             out.push_str("; export ")?;
             out.push_str(name)?;
         }
@@ -123,13 +123,13 @@ pub fn push_set(out: &mut String, family: Family, name: &str, value: &str) -> Re
             out.push_str("setenv ")?;
             out.push_str(name)?;
             out.push(' ')?;
-            push_value(out, family, value)?;
+            push_quoted(out, family, value)?;
         }
         Family::Fish => {
             out.push_str("set -xg ")?;
             out.push_str(name)?;
             out.push(' ')?;
-            push_value(out, family, value)?;
+            push_quoted(out, family, value)?;
         }
     }
     out.push_str(";\n")

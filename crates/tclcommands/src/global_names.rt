@@ -21,7 +21,7 @@ fn share(alloc: Global, variables: &mut Variables, names: &[String]) -> Result<(
     Ok(())
 }
 
-/// The same where a procedure runs; nothing outside of procedures.
+/// Makes names mean global variables where a procedure runs. Outside of procedures it has no effect.
 #[tactic(none)]
 fn share_in_procedure(
     alloc: Global,

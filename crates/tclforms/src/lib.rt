@@ -1,5 +1,5 @@
 //! What the words of Tcl's core commands ask for: forms, foreach items, switch bodies, parameters, reserved names.
-//! Takes memory and touches nothing else.
+//! Takes memory, keeps the variables and procedures of a script, and asks the host for elements of `env`.
 #![tactic(auto)]
 
 mod calls;

@@ -82,7 +82,7 @@ RaisesOn line script message = Sees (within standard script) (Fails message line
 abbrev pub Stops : Limits → Text → Halt → Type 0
 Stops l script h = Sees (within l script) (Halts h)
 
--- The same with the example host
+-- Evaluations with the example host
 
 abbrev pub HostStops : Limits → Text → Halt → Type 0
 HostStops l script h = Sees (recorded l script) (Halts h)

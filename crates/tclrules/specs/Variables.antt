@@ -7,24 +7,26 @@ use Rattle.tcltext.specs.chars.Runs.{Text, take_while, drop_while, begins}
 use Rattle.tclvalue.specs.operators.Faults.{Answer, ◌>>=◌, unsupported}
 use Rattle.tclvalue.specs.Indexes.{after_prefix}
 
--- Variables with their values, in the order of their making
-
+-- variables with their values, in the order in which they were first set
 abbrev pub Variables : Type 0
 Variables = List (Text × Text)
 
+-- the value of the first entry with this name
 abbrev pub lookup : {A : Type 0} → List (Text × A) → Text → Option A
 lookup [] name = None
 lookup (v ∷ vs) name = if bytes_eq name v.0 then Some v.1 else lookup vs name
 
+-- gives the name this value: in its place, or at the end where it is new
 abbrev pub store : {A : Type 0} → List (Text × A) → Text → A → List (Text × A)
 store [] name value = (name, value) ∷ []
 store (v ∷ vs) name value = if bytes_eq name v.0 then (v.0, value) ∷ vs else v ∷ store vs name value
 
+-- the variables without the one of this name
 abbrev pub without : Variables → Text → Variables
 without [] name = []
 without (v ∷ vs) name = if bytes_eq name v.0 then vs else v ∷ without vs name
 
--- of a name that comes again the last value counts
+-- stores variables one after another: of a name that comes again the last value counts
 abbrev pub store_all : Variables → Variables → Variables
 store_all vs [] = vs
 store_all vs (w ∷ ws) = store_all (store vs w.0 w.1) ws
@@ -38,6 +40,7 @@ pub record Frame : Type 0 where
 abbrev pub Parameter : Type 0
 Parameter = Text × Option Text
 
+-- a procedure: its parameters, and the text of its body
 pub record Procedure : Type 0 where
   pub parameters : List Parameter
   pub body : Text
@@ -56,6 +59,7 @@ abbrev pub initial_state : List Text → Variables → State
 initial_state reserved globals =
     record { reserved = reserved; globals = store_all [] globals; frame = None; procedures = []; offset = 0 }
 
+-- the state with this frame in place of its own
 abbrev pub in_frame : State → Option Frame → State
 in_frame s f = record s { frame = f }
 

@@ -1,5 +1,5 @@
-//! Hands on the readers of Tcl's texts under one name, with the law that a number in an expression is one as a text.
-//! Touches nothing: its one function does nothing.
+//! Readers of Tcl's texts: scripts, expressions, lists, patterns and numbers (Tcl(n) and the page of each).
+//! Takes memory for the trees and texts that it makes, and touches nothing else.
 #![tactic(auto)]
 
 pub mod chars;

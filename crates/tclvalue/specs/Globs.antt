@@ -1,4 +1,4 @@
--- Which texts match a pattern (string(n), match), as a test that computes beside the relation IsMatch of tclpattern.
+-- Which texts match a pattern (string(n), match), as a test that computes beside the relation IsMatch of tcltext.
 -- Patterns and texts are lists of characters here.
 use Rattle.std.specs.Prelude.{◌≡◌, ◌↔◌, ℕ, [], ◌∷◌, Bool, true, false, ◌||◌, ◌&&◌, ◌==◌, if◌then◌else◌, Option, Some}
 use Rattle.std.specs.Prelude.{None}

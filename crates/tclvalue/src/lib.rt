@@ -1,5 +1,5 @@
 //! Tcl's commands on lists and texts alone: list, llength, lindex, lrange, split, join, concat, string (their pages).
-//! Takes memory and touches nothing else. Hands on the operators and faults of tcloperators.
+//! Takes memory and touches nothing else. The module `operators` has the operators of expressions (expr(n)).
 #![tactic(auto)]
 
 mod bounded;

@@ -30,7 +30,7 @@ use Rattle.audit_laws.proofs.determinism.Rests.{Beginning, beginning, finds_befo
 
 -- ---- what holds of all that was asked
 
-each : (p : Question → Bool) (asked : List Question) (q : Question) → list_all p asked ≡ true → Among q asked → p q ≡ true
+pub each : (p : Question → Bool) (asked : List Question) (q : Question) → list_all p asked ≡ true → Among q asked → p q ≡ true
 each p [] q h a = absurd a
 each p (x ∷ xs) q h (inl e) = ap p e ∙ (and_parts (p x) (list_all p xs) h).0
 each p (x ∷ xs) q h (inr a) = each p xs q (and_parts (p x) (list_all p xs) h).1 a
@@ -39,7 +39,7 @@ any_or : (a b : Bool) → b ≡ true → (a || b) ≡ true
 any_or true b h = refl
 any_or false b h = h
 
-any_of : (p : Question → Bool) (asked : List Question) (q : Question) → Among q asked → p q ≡ true → list_any p asked ≡ true
+pub any_of : (p : Question → Bool) (asked : List Question) (q : Question) → Among q asked → p q ≡ true → list_any p asked ≡ true
 any_of p [] q a h = absurd a
 any_of p (x ∷ xs) q (inl e) h = rw (sym (ap p e) ∙ h) refl
 any_of p (x ∷ xs) q (inr a) h = any_or (p x) (list_any p xs) (any_of p xs q a h)
@@ -51,7 +51,7 @@ has_later v (Some n) names h = any_or (bytes_eq v n) (has v names) h
 has_first : (v : Text) (o : Option Text) (names : List Text) → o ≡ Some v → has v (cons_option o names) ≡ true
 has_first v o names e = subst (λ (x : Option Text). has v (cons_option x names) ≡ true) (sym e) (rw (bytes_eq-same v) refl)
 
-read_among : (asked : List Question) (q : Question) (v : Text) → Among q asked → read_by q ≡ Some v → has v (variables_read asked) ≡ true
+pub read_among : (asked : List Question) (q : Question) (v : Text) → Among q asked → read_by q ≡ Some v → has v (variables_read asked) ≡ true
 read_among [] q v a e = absurd a
 read_among (x ∷ xs) q v (inl s) e = has_first v (read_by x) (variables_read xs) (sym (ap read_by s) ∙ e)
 read_among (x ∷ xs) q v (inr a) e = has_later v (read_by x) (variables_read xs) (read_among xs q v a e)
@@ -65,7 +65,7 @@ answered_later P None more h = h
 answered_later P (Some ns) more h = h.1
 
 -- what holds of the questions of what is loaded
-loaded_among : (P : List Text → Type 0) (asked : List Question) (q : Question) (names : List Text) → AllByRecursion P (loaded_questions asked) → Among q asked → names_of q ≡ Some names → P names
+pub loaded_among : (P : List Text → Type 0) (asked : List Question) (q : Question) (names : List Text) → AllByRecursion P (loaded_questions asked) → Among q asked → names_of q ≡ Some names → P names
 loaded_among P [] q names h a e = absurd a
 loaded_among P (x ∷ xs) q names h (inl s) e = answered_first P (names_of x) (loaded_questions xs) names h (sym (ap names_of s) ∙ e)
 loaded_among P (x ∷ xs) q names h (inr a) e = loaded_among P xs q names (answered_later P (names_of x) (loaded_questions xs) h) a e
@@ -90,10 +90,10 @@ same_test_of c d shell word m w s = rw (s refl) refl
 same_test_of c d shell_type word m w s = rw (s refl) refl
 
 -- the second context finds the values that the first found
-abbrev FindsAlike : List Record → List Text → Environment → Environment → Type 0
+abbrev pub FindsAlike : List Record → List Text → Environment → Environment → Type 0
 FindsAlike records names e f = (v : Text) → is_stable_variable records v ≡ true → has v names ≡ true → lookup f v ≡ lookup e v
 
-by_call : (c d : FileContext) (records : List Record) (names : List Text) (e f : Environment) (words : List Text) (form : CallForm)
+pub by_call : (c d : FileContext) (records : List Record) (names : List Text) (e f : Environment) (words : List Text) (form : CallForm)
     → is_stable_call records form ≡ true → is_changing c.mode ≡ true → is_changing d.mode ≡ true → FindsAlike records names e f
     → ((v : Text) → read_by_call form ≡ Some v → has v names ≡ true)
     → (is_mode (field_of_call form) ≡ true → d.mode ≡ c.mode) → (is_mode (field_of_call form) ≡ true → d.in_switch ≡ c.in_switch)

@@ -1,12 +1,13 @@
 -- The contexts in which a modulefile is evaluated, and files whose evaluations in all of them are equivalent (own;
 -- module-info and is-loaded of modulefile(5)).
-use Rattle.std.specs.Prelude.{Bool, true, false, not, ◌&&◌, ◌||◌, ◌==◌, List, [], ◌∷◌, ◌++◌, flat_map, bytes_eq}
+use Rattle.std.specs.Prelude.{Bool, true, false, not, ◌&&◌, ◌||◌, ◌==◌, List, [], ◌∷◌, ◌++◌, drop, flat_map, bytes_eq}
 use Rattle.std.specs.Prelude.{Result, Ok, Err}
 use Rattle.std.specs.List.{list_all}
 use Rattle.std.specs.Option.{option_eq}
 use Rattle.envvars.specs.Texts.{Text}
 use Rattle.shelltext.specs.declared.shell.Shell.{Shell}
-use Rattle.shelltext.specs.declared.shell.Shell.TheVariants.{Sh, Bash, Ksh, Zsh, Csh, Tcsh, Fish}
+use Rattle.shelltext.specs.declared.shell.Shell.TheVariants.{Sh}
+use Rattle.shelltext.specs.Shells.{all_shells}
 use Rattle.tclrules.specs.Oracle.{Question}
 use Rattle.modulefile.specs.Records.{Record, Set, Unset, Push, Path, conflict_names}
 use Rattle.modulefile.specs.declared.records.PathEdit.{PathEdit}
@@ -47,7 +48,7 @@ contexts_in of_mode loaded shell = loading_in shell loaded ∷ more_in of_mode s
 
 -- the shells but sh
 abbrev pub other_shells : List Shell
-other_shells = Bash ∷ Ksh ∷ Zsh ∷ Csh ∷ Tcsh ∷ Fish ∷ []
+other_shells = drop 1 all_shells
 
 -- the contexts of the other shells, where the shell is asked for
 abbrev pub contexts_elsewhere : Bool → Bool → List Text → List EvaluationContext

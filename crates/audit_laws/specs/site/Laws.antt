@@ -155,7 +155,7 @@ abbrev pub SiteSessionsReturn : Type 0
 SiteSessionsReturn =
     (site : Site) (ms : List Candidate) → AreDeterministic site ms → CertificateHolds site (certified ms)
 
--- The same for any modules that are certified: in whatever order an audit has them.
+-- The certificate holds for any modules that are certified, in whatever order an audit has them.
 abbrev pub AuditsHold : Type 0
 AuditsHold =
     (site : Site) (ms certain : List Candidate) → AreDeterministic site ms

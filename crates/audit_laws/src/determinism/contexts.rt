@@ -27,16 +27,6 @@ pub struct EvaluationContext {
     pub loaded: Vec<String>,
 }
 
-/// The shells but sh.
-const OTHER_SHELLS: [Shell; 6] = [
-    Shell::Bash,
-    Shell::Ksh,
-    Shell::Zsh,
-    Shell::Csh,
-    Shell::Tcsh,
-    Shell::Fish,
-];
-
 /// The first context in which a file is evaluated: for loading, in no switch, in sh, with nothing loaded.
 pub fn first_context(alloc: Global) -> EvaluationContext
     ensures { context_view result ≡ spec.first_context }
@@ -125,6 +115,13 @@ fn push_shells(
     Ok(())
 }
 
+/// The shells but sh.
+fn other_shells() -> &'static [Shell]
+    ensures { result.now ≡ spec.other_shells }
+{
+    &Shell::all()[1..]
+}
+
 /// Adds the contexts with these modules loaded, beside that for loading in sh.
 fn push_more_with(
     alloc: Global,
@@ -137,7 +134,7 @@ fn push_more_with(
 {
     push_more(alloc, ways, asked.mode, Shell::Sh, loaded)?;
     if asked.shell {
-        push_shells(alloc, ways, asked.mode, loaded, &OTHER_SHELLS)?;
+        push_shells(alloc, ways, asked.mode, loaded, other_shells())?;
     }
     Ok(())
 }

@@ -4,6 +4,7 @@ ghost use Rattle.audit_laws.specs.site.Laws.{ModulesFound, DeterministicModulesF
 ghost use Rattle.audit_laws.specs.site.Laws.{CertifiedStand, CertifiedReadFreely, SiteSessionsReturn, AuditsHold};
 ghost use Rattle.audit_laws.specs.site.Laws.{SiteCommandsReturn};
 ghost use Rattle.audit_laws.specs.site.Laws.{ChangesAgree, ChangesLeaveReads};
+ghost use Rattle.audit_laws.specs.site.Extended.{DeterministicModulesStay};
 
 /// Nothing that was loaded at the moment of an accepted load forbade it: neither a conflict that the loaded list records,
 /// nor a conflict of the module itself, nor a prereq. So it is for requests, and for sessions.
@@ -67,7 +68,7 @@ pub fn sessions_return()
     audit_certificate::laws::steps();
 }
 
-/// The same for one command, which knows no history.
+/// One command, which knows no history, keeps the environment in order and the certified modules layered on the start.
 pub fn command_returns()
     ensures { SiteCommandsReturn }
 {
@@ -90,3 +91,9 @@ pub fn changes_agree()
     requests::hand_changes::laws::one_change();
     modulefile::files();
 }
+
+/// What is deterministic in a site stays so where more can be read, or where files were added: if each of its files has
+/// the same bytes there, and its directories have all their entries.
+pub fn extended_sites()
+    ensures { DeterministicModulesStay }
+{}

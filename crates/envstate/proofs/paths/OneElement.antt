@@ -13,7 +13,7 @@ use Rattle.envvars.specs.Fields.{text_of_elements, without, without_repeats}
 use Rattle.envvars.proofs.TextLemmas.{same_text}
 use Rattle.envstate.specs.paths.Paths.{PathState, put_at, one_higher, one_lower, add, add_all, drop, drop_all}
 use Rattle.envstate.specs.paths.PathTexts.{split_elements, state_from, state_of, elements_text, is_lone_empty, counter_fields}
-use Rattle.envstate.specs.paths.PathTexts.{pairs_text}
+use Rattle.envstate.specs.paths.PathTexts.{counters_as_text}
 use Rattle.envstate.specs.paths.PathEdits.{AreTexts, IsWritten}
 use Rattle.envstate.specs.declared.paths.path.PathTexts.{PathTexts}
 use Rattle.envstate.specs.declared.paths.adding.End.{End}
@@ -41,7 +41,7 @@ neither : (a b : Bool) → a ≡ false → b ≡ false → (a || b) ≡ false
 neither false b e f = f
 neither true b e f = absurd (false≢true (sym e))
 
-none_written : (s : PathState) → ((x : Text) → s.counter x ≤ 1) → is_lone_empty s.elements ≡ false → pairs_text s ≡ None
+none_written : (s : PathState) → ((x : Text) → s.counter x ≤ 1) → is_lone_empty s.elements ≡ false → counters_as_text s ≡ None
 none_written s h l =
     ap (λ (ws : List Text). text_of_elements (counter_fields s ws))
     (none_passes (λ x. leb 2 (s.counter x) || is_lone_empty s.elements) (without_repeats s.elements)

@@ -14,7 +14,7 @@ use Rattle.envvars.proofs.EditLemmas.{both_true, and_both, no_reason, no_value_r
 use Rattle.envvars.proofs.EnvLemmas.{same_environment, lookup-with_value}
 use Rattle.envstate.specs.paths.Paths.{PathState, HasRoom, largest_counter, add, drop, add_front, add_back, add_all}
 use Rattle.envstate.specs.paths.Paths.{drop_all}
-use Rattle.envstate.specs.paths.PathTexts.{is_delimiter, elements_text, pairs_text, IsWritable}
+use Rattle.envstate.specs.paths.PathTexts.{is_delimiter, elements_text, counters_as_text, IsWritable}
 use Rattle.envstate.specs.paths.PathVariables.{path_in, with_path, is_element, value_reason, path_reason, counters_fit}
 use Rattle.envstate.specs.paths.PathVariables.{written_path, added_path, dropped_path}
 use Rattle.envstate.specs.paths.PathOrder.{LeavesPath}
@@ -86,17 +86,17 @@ twice_at false true v w t u o = refl
 twice_at false false v w t u o = refl
 
 with_path_at : (e : Environment) (name : Text) (d : ℕ) (s : PathState) (q : Text) → lookup (with_path e name d s) q
-    ≡ cond (bytes_eq q (share_name name)) (pairs_text s) (cond (bytes_eq q name) (elements_text d s.elements) (lookup e q))
+    ≡ cond (bytes_eq q (share_name name)) (counters_as_text s) (cond (bytes_eq q name) (elements_text d s.elements) (lookup e q))
 with_path_at e name d s q =
-    lookup-with_value (with_value e name (elements_text d s.elements)) (share_name name) (pairs_text s) q
-    ∙ ap (cond (bytes_eq q (share_name name)) (pairs_text s)) (lookup-with_value e name (elements_text d s.elements) q)
+    lookup-with_value (with_value e name (elements_text d s.elements)) (share_name name) (counters_as_text s) q
+    ∙ ap (cond (bytes_eq q (share_name name)) (counters_as_text s)) (lookup-with_value e name (elements_text d s.elements) q)
 
 -- what was written first is written over
 pub with_path-twice : (e : Environment) (name : Text) (d : ℕ) (s t : PathState) → with_path (with_path e name d s) name d t ≡ with_path e name d t
 with_path-twice e name d s t = same_environment _ _ (λ q.
     with_path_at (with_path e name d s) name d t q
-    ∙ ap (λ o. cond (bytes_eq q (share_name name)) (pairs_text t) (cond (bytes_eq q name) (elements_text d t.elements) o)) (with_path_at e name d s q)
-    ∙ twice_at (bytes_eq q name) (bytes_eq q (share_name name)) (elements_text d t.elements) (pairs_text t) (elements_text d s.elements) (pairs_text s) (lookup e q)
+    ∙ ap (λ o. cond (bytes_eq q (share_name name)) (counters_as_text t) (cond (bytes_eq q name) (elements_text d t.elements) o)) (with_path_at e name d s q)
+    ∙ twice_at (bytes_eq q name) (bytes_eq q (share_name name)) (elements_text d t.elements) (counters_as_text t) (elements_text d s.elements) (counters_as_text s) (lookup e q)
     ∙ sym (with_path_at e name d t q))
 
 -- what allows an edit
@@ -163,7 +163,7 @@ added_twice old mid name d xs ys end more h k room l =
     ∙ ap (λ (x : Environment). Ok x) p.1
     ∙ sym (added_as old name d (both_added xs ys end) end (both_added_allowed name d xs ys end g.0 k) f)
 
--- The same of drops.
+-- After an accepted drop, another one makes what both together make.
 pub dropped_twice : (old mid : Environment) (name : Text) (d : ℕ) (xs ys : List Text) → dropped_path old name d xs ≡ Ok mid → path_reason name d ys ≡ None
     → dropped_path mid name d ys ≡ dropped_path old name d (xs ++ ys)
 dropped_twice old mid name d xs ys h k =

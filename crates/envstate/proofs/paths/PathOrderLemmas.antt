@@ -13,7 +13,7 @@ use Rattle.envvars.specs.Environment.{Environment, lookup, with_value}
 use Rattle.envvars.specs.Fields.{without}
 use Rattle.envstate.specs.paths.Paths.{PathState, IsPathState, CountersFit, largest_counter, put_at, add, drop, add_front}
 use Rattle.envstate.specs.paths.Paths.{add_back, add_all, drop_all}
-use Rattle.envstate.specs.paths.PathTexts.{is_delimiter, HasNoDelimiter, IsWritable, state_of, elements_text, pairs_text}
+use Rattle.envstate.specs.paths.PathTexts.{is_delimiter, HasNoDelimiter, IsWritable, state_of, elements_text, counters_as_text}
 use Rattle.envstate.specs.paths.PathVariables.{path_in, with_path, is_element, counters_fit, path_reason, added_path}
 use Rattle.envstate.specs.paths.PathVariables.{dropped_path, written_path}
 use Rattle.envstate.specs.paths.PathEdits.{AreTexts}
@@ -116,13 +116,13 @@ share_apart name = apart (bytes_eq name (share_name name)) refl
 
 lookup-elements : (e : Environment) (name : Text) (d : ℕ) (s : PathState) → lookup (with_path e name d s) name ≡ elements_text d s.elements
 lookup-elements e name d s =
-    lookup-with_value (with_value e name (elements_text d s.elements)) (share_name name) (pairs_text s) name ∙ looked (bytes_eq name (share_name name)) _ _ (share_apart name)
+    lookup-with_value (with_value e name (elements_text d s.elements)) (share_name name) (counters_as_text s) name ∙ looked (bytes_eq name (share_name name)) _ _ (share_apart name)
     ∙ lookup-with_value e name (elements_text d s.elements) name ∙ ap (λ (t : Bool). cond t (elements_text d s.elements) (lookup e name)) (bytes_eq-same name)
 
-lookup-counters : (e : Environment) (name : Text) (d : ℕ) (s : PathState) → lookup (with_path e name d s) (share_name name) ≡ pairs_text s
+lookup-counters : (e : Environment) (name : Text) (d : ℕ) (s : PathState) → lookup (with_path e name d s) (share_name name) ≡ counters_as_text s
 lookup-counters e name d s =
-    lookup-with_value (with_value e name (elements_text d s.elements)) (share_name name) (pairs_text s) (share_name name)
-    ∙ ap (λ (t : Bool). cond t (pairs_text s) (lookup (with_value e name (elements_text d s.elements)) (share_name name))) (bytes_eq-same (share_name name))
+    lookup-with_value (with_value e name (elements_text d s.elements)) (share_name name) (counters_as_text s) (share_name name)
+    ∙ ap (λ (t : Bool). cond t (counters_as_text s) (lookup (with_value e name (elements_text d s.elements)) (share_name name))) (bytes_eq-same (share_name name))
 
 pub path_in-written : (e : Environment) (name : Text) (d : ℕ) (s : PathState) → IsWritable d s → path_in (with_path e name d s) name d ≡ s
 path_in-written e name d s w =
@@ -132,12 +132,12 @@ path_in-written e name d s w =
 pub in_order-written : (e : Environment) (name : Text) (d : ℕ) (s : PathState) → IsWritable d s → IsPathInOrder (with_path e name d s) name d
 in_order-written e name d s w = record {
   elements = lookup-elements e name d s ∙ ap (λ (t : PathState). elements_text d t.elements) (sym (path_in-written e name d s w));
-  counters = lookup-counters e name d s ∙ ap pairs_text (sym (path_in-written e name d s w));
+  counters = lookup-counters e name d s ∙ ap counters_as_text (sym (path_in-written e name d s w));
 }
 
 pub lookup-others : (e : Environment) (name : Text) (d : ℕ) (s : PathState) (q : Text) → bytes_eq q name ≡ false → bytes_eq q (share_name name) ≡ false → lookup (with_path e name d s) q ≡ lookup e q
 lookup-others e name d s q a b =
-    lookup-with_value (with_value e name (elements_text d s.elements)) (share_name name) (pairs_text s) q ∙ looked (bytes_eq q (share_name name)) _ _ b
+    lookup-with_value (with_value e name (elements_text d s.elements)) (share_name name) (counters_as_text s) q ∙ looked (bytes_eq q (share_name name)) _ _ b
     ∙ lookup-with_value e name (elements_text d s.elements) q ∙ looked (bytes_eq q name) _ _ a
 
 -- accepted edits
@@ -186,7 +186,7 @@ pub order_decided : (e : Environment) (name share : Text) (d : ℕ) (s : PathSta
     → (IsTrue b → IsPathInOrder e name d) × (IsPathInOrder e name d → IsTrue b)
 order_decided e name share d s texts b named read written held =
     let t : option_map string_bytes texts.elements ≡ elements_text d (path_in e name d).elements = written.elements ∙ ap (λ (k : PathState). elements_text d k.elements) read in
-    let u : option_map string_bytes texts.counters ≡ pairs_text (path_in e name d) = written.counters ∙ ap pairs_text read in
+    let u : option_map string_bytes texts.counters ≡ counters_as_text (path_in e name d) = written.counters ∙ ap counters_as_text read in
     let same : lookup e share ≡ lookup e (share_name name) = ap (lookup e) named in (
       λ k. let h = held.0 k in record { elements = h.0 ∙ t; counters = sym same ∙ (h.1 ∙ u) },
       λ o. held.1 (o.elements ∙ sym t, same ∙ (o.counters ∙ sym u)),

@@ -14,7 +14,7 @@ use Rattle.envvars.proofs.EscapeLemmas.{fields-escaped}
 use Rattle.envstate.specs.paths.Paths.{PathState, largest_counter}
 use Rattle.envstate.specs.paths.Counters.{counter_of}
 use Rattle.envstate.specs.paths.PathTexts.{split_elements, paired, counter_in_pairs, pairs_of, elements_of, state_of}
-use Rattle.envstate.specs.paths.PathTexts.{elements_text, is_lone_empty, written, counter_fields, pairs_text, HasNoDelimiter}
+use Rattle.envstate.specs.paths.PathTexts.{elements_text, is_lone_empty, counted_elements, counter_fields, counters_as_text, HasNoDelimiter}
 use Rattle.envstate.specs.paths.PathTexts.{IsWritable}
 use Rattle.envvars.proofs.TextLemmas.{same_text, has-without, or_left, or_right}
 use Rattle.envstate.proofs.paths.PathLemmas.{same_state}
@@ -94,7 +94,7 @@ has-without_repeats x [] = refl
 has-without_repeats x (y ∷ ys) =
     ap (λ (b : Bool). bytes_eq x y || b) (has-without (without_repeats ys) y x) ∙ absorbed (bytes_eq x y) (has x (without_repeats ys)) ∙ ap (λ (b : Bool). bytes_eq x y || b) (has-without_repeats x ys)
 
-has-written : (s : PathState) (x : Text) → has x (written s) ≡ ((leb 2 (s.counter x) || is_lone_empty s.elements) && has x s.elements)
+has-written : (s : PathState) (x : Text) → has x (counted_elements s) ≡ ((leb 2 (s.counter x) || is_lone_empty s.elements) && has x s.elements)
 has-written s x =
     any-filter_same (bytes_eq x) (λ y. leb 2 (s.counter y) || is_lone_empty s.elements) (leb 2 (s.counter x) || is_lone_empty s.elements)
     (λ y e. ap (λ (t : Text). leb 2 (s.counter t) || is_lone_empty s.elements) (sym (same_text x y e))) (without_repeats s.elements)
@@ -136,16 +136,16 @@ lone_has (x ∷ y ∷ ys) e = cc
 counted_there : (h : Bool) (n : ℕ) → h ≡ ltb 0 n → h ≡ true → 0 < n
 counted_there h n e t = grind (arith, nat_tests)
 
-pub state_of-written : (delim : ℕ) (s : PathState) → IsWritable delim s → state_of delim (elements_text delim s.elements) (pairs_text s) ≡ s
+pub state_of-written : (delim : ℕ) (s : PathState) → IsWritable delim s → state_of delim (elements_text delim s.elements) (counters_as_text s) ≡ s
 state_of-written delim s w =
-    let pairs : pairs_of (pairs_text s) ≡ map (pair_of s) (written s) = pairs-text s (written s) w.fit in
-    let found : (x : Text) → 0 < s.counter x → counter_in_pairs x (map (pair_of s) (written s)) ≡ cond ((leb 2 (s.counter x) || is_lone_empty s.elements) && has x s.elements) (Some (s.counter x)) None
-    = λ x l. counter_in_pairs-written s x (written s) l (w.fit x) ∙ ap (λ (b : Bool). cond b (Some (s.counter x)) None) (has-written s x) in
-    let elements : elements_of delim (elements_text delim s.elements) (map (pair_of s) (written s)) ≡ s.elements
-    = elements-text delim s.elements (map (pair_of s) (written s)) w.no_delimiter
+    let pairs : pairs_of (counters_as_text s) ≡ map (pair_of s) (counted_elements s) = pairs-text s (counted_elements s) w.fit in
+    let found : (x : Text) → 0 < s.counter x → counter_in_pairs x (map (pair_of s) (counted_elements s)) ≡ cond ((leb 2 (s.counter x) || is_lone_empty s.elements) && has x s.elements) (Some (s.counter x)) None
+    = λ x l. counter_in_pairs-written s x (counted_elements s) l (w.fit x) ∙ ap (λ (b : Bool). cond b (Some (s.counter x)) None) (has-written s x) in
+    let elements : elements_of delim (elements_text delim s.elements) (map (pair_of s) (counted_elements s)) ≡ s.elements
+    = elements-text delim s.elements (map (pair_of s) (counted_elements s)) w.no_delimiter
     (λ lone. let there : has [] s.elements ≡ true = lone_has s.elements lone in
     let l : 0 < s.counter [] = counted_there (has [] s.elements) (s.counter []) (w.valid []) there in
     found_empty _ (s.counter []) (has [] s.elements) (leb 2 (s.counter [])) (is_lone_empty s.elements) (found [] l) lone there) in
     same_state _ _ (rw pairs elements) (λ x. rw (pairs, elements)
     (again (has x s.elements) (leb 2 (s.counter x)) (is_lone_empty s.elements) (s.counter x)
-    (counter_in_pairs x (map (pair_of s) (written s))) (w.valid x) refl (found x)))
+    (counter_in_pairs x (map (pair_of s) (counted_elements s))) (w.valid x) refl (found x)))

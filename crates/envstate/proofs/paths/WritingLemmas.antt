@@ -16,7 +16,7 @@ use Rattle.indexmap.specs.IndexMap.{IndexMap, values}
 use Rattle.envvars.specs.Texts.{Text, slice_texts}
 use Rattle.envvars.specs.Fields.{joined, text_of_elements, without, without_repeats}
 use Rattle.envvars.specs.Escapes.{escaped}
-use Rattle.envstate.specs.paths.PathTexts.{is_lone_empty, counter_fields, pairs_text}
+use Rattle.envstate.specs.paths.PathTexts.{is_lone_empty, counter_fields, counters_as_text}
 use Rattle.envstate.specs.paths.Tables.{CounterTable, counter_in, count_in, state_from_table, pair_fields, with_separator}
 use Rattle.envstate.specs.paths.Tables.{unless_empty}
 use Rattle.envvars.proofs.TextLemmas.{or_left, or_right}
@@ -142,7 +142,7 @@ counts_written xs table lone (f ∷ fs) e =
 pub pairs_written : {A E : Type 0} (r : Result (Option (String A)) E) (xs : List Text) (table : CounterTable) (lone : Bool) → lone ≡ is_lone_empty xs → lone ≡ false
     → IfOk r (λ t. option_map string_bytes t ≡ text_of_elements
     (flat_map (pair_fields (count_in table)) (without_repeats xs)))
-    → IfOk r (λ t. option_map string_bytes t ≡ pairs_text (state_from_table xs table))
+    → IfOk r (λ t. option_map string_bytes t ≡ counters_as_text (state_from_table xs table))
 pairs_written (Ok t) xs table lone l e h = h ∙ ap text_of_elements (counts_written xs table (is_lone_empty xs) (without_repeats xs) (sym l ∙ e))
 pairs_written (Err x) xs table lone l e h = h
 
@@ -166,7 +166,7 @@ looked test (e ∷ es) h = looked_at (test e.0) e.1 (maps.lookup test es) (or_le
 
 pub none_repeated : {S : Type 0} (m : IndexMap (Bor Text) ℕ S) (xs : List Text) (lone b : Bool)
     → b ≡ list_any (λ n. leb 2 n) (values m) → b ≡ false → lone ≡ is_lone_empty xs → lone ≡ false
-    → None ≡ pairs_text (state_from_table xs (counter_in m))
+    → None ≡ counters_as_text (state_from_table xs (counter_in m))
 none_repeated m xs lone true e h l f = absurd (false≢true (sym h))
 none_repeated m xs lone false e h l f =
     ap text_of_elements (sym (no_pairs (counter_in m) (without_repeats xs)

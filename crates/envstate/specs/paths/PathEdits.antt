@@ -5,14 +5,14 @@ use Rattle.envvars.specs.Texts.{Text}
 use Rattle.envvars.specs.Reasons.{reason_of, counter_full}
 use Rattle.envvars.specs.declared.fault.EnvFault.{EnvFault}
 use Rattle.envstate.specs.paths.Paths.{PathState}
-use Rattle.envstate.specs.paths.PathTexts.{elements_text, pairs_text}
+use Rattle.envstate.specs.paths.PathTexts.{elements_text, counters_as_text}
 use Rattle.envstate.specs.paths.PathVariables.{counters_fit}
 use Rattle.envstate.specs.declared.paths.path.PathTexts.{PathTexts}
 
 -- the texts of the variable, with this delimiter, and of its counters are those that the state is written as
 pub record AreTexts (texts : PathTexts) (delim : ℕ) (s : PathState) : Type 0 where
   pub elements : option_map string_bytes texts.elements ≡ elements_text delim s.elements
-  pub counters : option_map string_bytes texts.counters ≡ pairs_text s
+  pub counters : option_map string_bytes texts.counters ≡ counters_as_text s
 
 -- the error is want of memory, or that a counter of the state is past the largest
 abbrev pub IsFull : EnvFault → Text → PathState → Type 0

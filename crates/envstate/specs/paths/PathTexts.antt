@@ -68,16 +68,16 @@ is_lone_empty (x ∷ []) = length x == 0
 is_lone_empty (x ∷ y ∷ ys) = false
 
 -- the elements whose counters are written: those with a counter of two or more, and an empty one that is the only one
-abbrev pub written : PathState → List Text
-written s = filter (λ x. nat_le 2 (s.counter x) || is_lone_empty s.elements) (without_repeats s.elements)
+abbrev pub counted_elements : PathState → List Text
+counted_elements s = filter (λ x. nat_le 2 (s.counter x) || is_lone_empty s.elements) (without_repeats s.elements)
 
 -- each element, with escapes, and its counter, as fields
 abbrev pub counter_fields : PathState → List Text → List Text
 counter_fields s xs = flat_map (λ x. escaped x ∷ decimal (s.counter x) ∷ []) xs
 
 -- the text of the counters; none, which unsets its variable, where no counter is written
-abbrev pub pairs_text : PathState → Option Text
-pairs_text s = text_of_elements (counter_fields s (written s))
+abbrev pub counters_as_text : PathState → Option Text
+counters_as_text s = text_of_elements (counter_fields s (counted_elements s))
 
 -- a text without the delimiter
 abbrev pub HasNoDelimiter : ℕ → Text → Type 0

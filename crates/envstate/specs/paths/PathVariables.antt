@@ -8,7 +8,7 @@ use Rattle.envvars.specs.Names.{share_name, name_reason}
 use Rattle.envvars.specs.Environment.{Environment, lookup, with_value}
 use Rattle.envvars.specs.Reasons.{EnvReason, bad_value, counter_full, unless}
 use Rattle.envstate.specs.paths.Paths.{PathState, largest_counter, add_all, drop_all}
-use Rattle.envstate.specs.paths.PathTexts.{is_delimiter, state_of, elements_text, pairs_text}
+use Rattle.envstate.specs.paths.PathTexts.{is_delimiter, state_of, elements_text, counters_as_text}
 use Rattle.envstate.specs.declared.paths.adding.End.{End}
 
 -- the state of a path variable with this delimiter, read from the variable and that of its counters
@@ -18,7 +18,7 @@ path_in e name delim = state_of delim (lookup e name) (lookup e (share_name name
 -- the environment with this state written to both variables
 abbrev pub with_path : Environment → Text → ℕ → PathState → Environment
 with_path e name delim s =
-    with_value (with_value e name (elements_text delim s.elements)) (share_name name) (pairs_text s)
+    with_value (with_value e name (elements_text delim s.elements)) (share_name name) (counters_as_text s)
 
 -- an element that a path variable can hold: one without the delimiter and without NUL
 abbrev pub is_element : ℕ → Text → Bool

@@ -8,7 +8,7 @@ ghost use Rattle.envstate.specs.paths.Counters.{counter_of, SpellsCounter};
 ghost use Rattle.envstate.specs.paths.Paths.{PathState, IsPathState, add_all, drop_all};
 ghost use Rattle.envstate.specs.paths.PathRuns.{PathChange, after, live, none_live, more_live, fewer_live, AreLive};
 ghost use Rattle.envstate.specs.paths.PathRuns.{EachDropUndoes, IsPathStartWith};
-ghost use Rattle.envstate.specs.paths.PathTexts.{IsWritable, state_of, elements_text, pairs_text};
+ghost use Rattle.envstate.specs.paths.PathTexts.{IsWritable, state_of, elements_text, counters_as_text};
 ghost use Rattle.envstate.specs.paths.PathVariables.{path_in, added_path, dropped_path, is_element, counters_fit};
 ghost use Rattle.envstate.specs.paths.PathOrder.{LeavesPath};
 ghost use Rattle.envstate.specs.declared.paths.adding.End.{End};
@@ -46,7 +46,7 @@ pub fn counters()
 /// after any drop.
 pub fn path_texts()
     ensures read_again { (delim : ℕ) (s : PathState) → IsWritable delim s
-        → state_of delim (elements_text delim s.elements) (pairs_text s) ≡ s }
+        → state_of delim (elements_text delim s.elements) (counters_as_text s) ≡ s }
     ensures writable { (delim : ℕ) (t u : Option Text) → IsWritable delim (state_of delim t u) }
     ensures add { (delim : ℕ) (s : PathState) (xs : List Text) (end : End)
         → IsWritable delim s → list_all (is_element delim) xs ≡ true → counters_fit (add_all s xs end) ≡ true

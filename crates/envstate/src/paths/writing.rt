@@ -9,7 +9,7 @@ ghost use Rattle.envvars.specs.Escapes.{escaped};
 ghost use Rattle.envstate.specs.paths.Tables.{counter_in, count_in, state_from_table, pair_fields, with_separator};
 ghost use Rattle.envstate.specs.paths.Tables.{unless_empty};
 ghost use Rattle.envstate.specs.paths.PathEdits.{AreTexts};
-ghost use Rattle.envstate.specs.paths.PathTexts.{elements_text, pairs_text, is_lone_empty};
+ghost use Rattle.envstate.specs.paths.PathTexts.{elements_text, counters_as_text, is_lone_empty};
 
 use crate::paths::path::{Counters, Path, PathTexts};
 use envvars::escapes::push_escaped;
@@ -115,7 +115,7 @@ fn write_counters<'a>(
     counters: &mut Counters<'a>,
 ) -> Result<Option<String>, AllocError>
     ensures { IfOk result (λ t. option_map string_bytes t
-        ≡ pairs_text (state_from_table (slice_texts elements.now) (counter_in counters.old))) }
+        ≡ counters_as_text (state_from_table (slice_texts elements.now) (counter_in counters.old))) }
 {
     if is_lone_empty(elements) {
         return lone_empty_text(alloc, counters);

@@ -1,10 +1,11 @@
 -- Commands of certified modules one after another, with changes by hand between them, by the law of one command.
 use Rattle.std.proofs.Common.{◌≡◌, inl, inr, Bool, true, false, cond, List, [], ◌∷◌, ◌++◌, map, Result, Ok, Err, refl}
-use Rattle.std.proofs.Common.{sym, subst}
+use Rattle.std.proofs.Common.{sym, ap, ◌∙◌, subst}
 use Rattle.std.specs.Prelude.{bytes_eq}
 use Rattle.envvars.specs.Texts.{Text}
 use Rattle.envvars.specs.Environment.{Environment}
 use Rattle.filetree.specs.Agreement.{Files, Listings}
+use Rattle.envstate.specs.loaded_list.Loaded.{loaded_in, AreLoadedInOrder}
 use Rattle.modulefile.specs.Moves.{Module, Move, Loads, Unloads}
 use Rattle.shelltext.specs.Reading.{OneEffect, DifferenceMakes}
 use Rattle.reversal.specs.Runs.{without_live, live_after}
@@ -32,21 +33,21 @@ use Rattle.modulecmd.proofs.RunLemmas.{AllAllowed, alone, same_moves}
 -- ---- one command
 
 -- the request of a command, with the step that has its effect
-step_at : (e : Environment) (files : Files) (listings : Listings) (r : Request) (f : CommandResult) (step : Result Done RequestReason)
+pub step_at : (e : Environment) (files : Files) (listings : Listings) (r : Request) (f : CommandResult) (step : Result Done RequestReason)
     → RequestStep (request_context_in standard r.0 files listings) e r.1 step → Ok f ≡ with_shell r.0 step → RequestStep (request_context_in standard r.0 files listings) e r.1 (Ok f.1)
 step_at e files listings r f (Err reason) h is = absurd (cc)
 step_at e files listings r f (Ok done) h is =
     let same : (r.0, done) ≡ f = (let q : Ok f ≡ Ok (r.0, done) = is in cc) in
     subst (λ (x : CommandResult). RequestStep (request_context_in standard r.0 files listings) e r.1 (Ok x.1)) same h
 
-step_of : (arguments : List Text) (e : Environment) (files : Files) (listings : Listings) (f : CommandResult) → CommandHasResult arguments e files listings (Ok f)
+pub step_of : (arguments : List Text) (e : Environment) (files : Files) (listings : Listings) (f : CommandResult) → CommandHasResult arguments e files listings (Ok f)
     → (r : Request) × RequestStep (request_context_in standard r.0 files listings) e r.1 (Ok f.1)
 step_of arguments e files listings f (Err reason, is, h) = absurd (let q : Ok f ≡ Err reason = h in cc)
 step_of arguments e files listings f (Ok r, is, (step, h, same)) = (r, step_at e files listings r f step h same)
 
 -- ---- all of them, with changes by hand between them
 
-abbrev Stands : Site → List Candidate → List Module → Environment → Environment → Type 0
+abbrev pub Stands : Site → List Candidate → List Module → Environment → Environment → Type 0
 Stands site ms live start e = AreLayered ms start live e × AreReadEquivalently site start live × (live ≡ [] → e ≡ start)
 
 command_stands : SiteCommandsReturn → OneEffect → DifferenceMakes → (judged_in : Environment) (files : Files) (listings : Listings) (ms : List Candidate)
@@ -83,12 +84,14 @@ change_stands : OneChangeHolds → ChangesLeaveReads → (site : Site) (ms : Lis
     → (live : List Module) (start e : Environment) (c : HandChange) (more : List Move) → Stands site ms live start e → AreNew start more
     → IsHandChange (uses_by live) live e c → IsUnread site live c.variable
     → Stands site ms live (start_after (uses_by live) live start e c) (changed c e) × AreNew (start_after (uses_by live) live start e c) more
+    × (loaded_in (start_after (uses_by live) live start e c) ≡ loaded_in start)
 change_stands change leave site ms all live start e c more stands news may unread =
     let s = stands.0 in
     let p = change (uses_by live) start e live c s.begins s.order s.start_with_live may in
     let alike = reads_left leave site ms live start e c all s may unread stands.1 in (
       (record { together = s.together; begins = p.begins; order = p.holds.order; start_with_live = p.holds.start_with_live }, alike, p.holds.returned),
       new_kept start (start_after (uses_by live) live start e c) more p.loaded news,
+      p.loaded,
     )
 
 events_stand : SiteCommandsReturn → OneEffect → DifferenceMakes → OneChangeHolds → ChangesLeaveReads
@@ -97,26 +100,41 @@ events_stand : SiteCommandsReturn → OneEffect → DifferenceMakes → OneChang
     → Stands (judged_site judged_in files listings) ms live start e → AreNew start (moves_of command_moves events)
     → HandsLeaveReads (judged_site judged_in files listings) live events
     → EventsReachWhile command_moves (CommandMakes files listings) uses_by (CommandLoads (judged_site judged_in files listings) (certified ms)) live start e events last_start last
-    → Stands (judged_site judged_in files listings) ms (live_after live (moves_of command_moves events)) last_start last
-events_stand returns one makes change leave judged_in files listings ms all [] live start e last_start last stands news unread h =
-    subst (λ (b : Environment). Stands (judged_site judged_in files listings) ms live b last) (sym h.0)
-    (subst (Stands (judged_site judged_in files listings) ms live start) (sym h.1) stands)
+    → Stands (judged_site judged_in files listings) ms (live_after live (moves_of command_moves events)) last_start last × (loaded_in last_start ≡ loaded_in start)
+events_stand returns one makes change leave judged_in files listings ms all [] live start e last_start last stands news unread h = (
+  subst (λ (b : Environment). Stands (judged_site judged_in files listings) ms live b last) (sym h.0)
+      (subst (Stands (judged_site judged_in files listings) ms live start) (sym h.1) stands),
+  ap loaded_in h.0,
+)
 events_stand returns one makes change leave judged_in files listings ms all (act c ∷ events) live start e last_start last stands news unread (loads, (next, made, after)) =
     let n = new_parts start (command_moves c) (moves_of command_moves events) news in
     let p = command_stands returns one makes judged_in files listings ms all live start e next c stands n.0 loads made in
-    subst (λ (l : List Module). Stands (judged_site judged_in files listings) ms l last_start last)
-    (sym (live_together live (command_moves c) (moves_of command_moves events)))
-    (events_stand returns one makes change leave judged_in files listings ms all events (live_after live (command_moves c)) start next last_start last p n.1 unread after)
+    let rest = events_stand returns one makes change leave judged_in files listings ms all events (live_after live (command_moves c)) start next last_start last p n.1 unread after in (
+      subst (λ (l : List Module). Stands (judged_site judged_in files listings) ms l last_start last)
+          (sym (live_together live (command_moves c) (moves_of command_moves events))) rest.0,
+      rest.1,
+    )
 events_stand returns one makes change leave judged_in files listings ms all (by_hand c ∷ events) live start e last_start last stands news unread (may, after) =
     let p = change_stands change leave (judged_site judged_in files listings) ms all live start e c (moves_of command_moves events) stands news may unread.0 in
-    events_stand returns one makes change leave judged_in files listings ms all events live (start_after (uses_by live) live start e c) (changed c e)
-    last_start last p.0 p.1 unread.1 after
+    let rest = events_stand returns one makes change leave judged_in files listings ms all events live (start_after (uses_by live) live start e c) (changed c e)
+    last_start last p.0 p.1 unread.1 after in
+    (rest.0, rest.1 ∙ p.2)
+
+-- what is left live at the end of a session
+pub site_events_stand : NoneIsLayered → SiteCommandsReturn → OneEffect → DifferenceMakes → OneChangeHolds → ChangesLeaveReads
+    → (judged_in : Environment) (files : Files) (listings : Listings) (ms : List Candidate) (start last_start last : Environment) (events : List (Event PrintedCommand))
+    → AreDeterministic (judged_site judged_in files listings) ms → AreLoadedInOrder start
+    → EventsReachWhile command_moves (CommandMakes files listings) uses_by (CommandLoads (judged_site judged_in files listings) (certified ms)) [] start start events last_start last
+    → AreNew start (moves_of command_moves events) → HandsLeaveReads (judged_site judged_in files listings) [] events
+    → Stands (judged_site judged_in files listings) ms (live_after [] (moves_of command_moves events)) last_start last × (loaded_in last_start ≡ loaded_in start)
+site_events_stand begins returns one makes change leave judged_in files listings ms start last_start last events all order reach news unread =
+    events_stand returns one makes change leave judged_in files listings ms all events [] start start last_start last
+    (begins ms start order, (λ m a. absurd a), (λ n. refl)) news unread reach
 
 pub site_shells_and_hands_return : NoneIsLayered → SiteCommandsReturn → OneEffect → DifferenceMakes → OneChangeHolds → ChangesLeaveReads → SiteShellsAndHandsReturn
 site_shells_and_hands_return begins returns one makes change leave judged_in files listings ms start last_start last events all order reach news unread =
-    let p = events_stand returns one makes change leave judged_in files listings ms all events [] start start last_start last
-    (begins ms start order, (λ m a. absurd a), (λ n. refl)) news unread reach in
-    (p.0, p.2)
+    let p = site_events_stand begins returns one makes change leave judged_in files listings ms start last_start last events all order reach news unread in
+    (p.0.0, p.0.2)
 
 -- ---- commands alone
 
@@ -130,7 +148,7 @@ all_load : (site : Site) (ms : List Candidate) (start : Environment) (cs : List 
 all_load site ms start [] h = tt
 all_load site ms start (c ∷ cs) h = let p = loads_parts site ms start (command_moves c) (moves_in cs) h in (p.0, all_load site ms start cs p.1)
 
-commands_leave : (site : Site) (live : List Module) (cs : List PrintedCommand) → HandsLeaveReads site live (map act cs)
+pub commands_leave : (site : Site) (live : List Module) (cs : List PrintedCommand) → HandsLeaveReads site live (map act cs)
 commands_leave site live [] = tt
 commands_leave site live (c ∷ cs) = commands_leave site (live_after live (command_moves c)) cs
 

@@ -246,7 +246,7 @@ EndsJudged exit layout agrees has_failed before now e not_utf8 arguments out out
     × IsAuditFault agrees has_failed ((before < now) × HasFailedOften has_failed now) e arguments fault
     × Keeps out out' × WritesFault exit err err' fault)
 
--- The same, or where the arguments ask for help, that alone: then nothing is read.
+-- How an audit ends: with the help that the arguments ask for, and then nothing is read, or with a judgement.
 abbrev pub EndsAudit : AuditExit → Layout → Type 0 → (Files → Listings → Type 0) → (Text → Bool) → ℕ → ℕ → Environment
     → List Text → List Text → Option Text → Option Text → Option Text → Option Text → Type 0
 EndsAudit exit layout unread agrees has_failed before now e not_utf8 arguments out out' err err' =

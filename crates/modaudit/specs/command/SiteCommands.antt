@@ -50,8 +50,8 @@ HandsLeaveReads site live [] = Unit {0}
 HandsLeaveReads site live (act c ∷ events) = HandsLeaveReads site (live_after live (command_moves c)) events
 HandsLeaveReads site live (by_hand c ∷ events) = IsUnread site live c.variable × HandsLeaveReads site live events
 
--- The same with changes by hand between the commands, each by the uses of the modules that are live then, and of a
--- variable that none of them reads: a variable that none of them uses or reads may be changed freely. At each load it
+-- Commands with changes by hand between them. Each change follows the uses of the modules that are live then, and is of
+-- a variable that none of them reads. A variable that none of them uses or reads may be changed freely. At each load it
 -- is the start as changes have made it until then that agrees with what the module uses, and has of what it reads the
 -- values of the environment that was judged. With no module live the shell holds what the same changes have made of the
 -- start.

@@ -85,7 +85,7 @@ pub record IsFound (agrees : Files → Listings → Type 0) (judged : Environmen
   pub exact : InEachPair agrees (λ files listings. IsAudit (site_of standard judged files listings) without found)
   pub holds : InEachPair agrees (λ files listings. CertificateStands (site_of standard judged files listings) found)
 
--- The same of the site without what stands at these paths.
+-- What is found of the site without the files and directories at these paths.
 pub record IsFoundWithout (agrees : Files → Listings → Type 0) (paths : List Text) (judged : Environment)
     (dirs without : List Text) (found : SiteAudit) : Type 0 where
   pub directories : AreDirectories agrees dirs
@@ -103,9 +103,9 @@ pub record IsReadable (agrees : Files → Listings → Type 0) (has_failed : Tex
   pub counted : length (texts_in audit.unreadable) ≤ now
   pub found : IsFoundWithout agrees (texts_in audit.unreadable) judged dirs without audit.found
 
--- The same, with the dry runs of the modules in the environment that is judged: the device has failed in the call as
--- often as it ended one of them, and in all as often as that and for each of the paths; and with those of these
--- variables that concern the certificate.
+-- What is found of the site without what can't be read, with the dry runs of the modules in the environment that is
+-- judged. The device has failed in the call as often as it ended a dry run, and in all as often as that and for each of
+-- the paths. Of these variables it names those that concern the certificate.
 pub record IsTriedAudit (agrees : Files → Listings → Type 0) (has_failed : Text → Bool) (before now : ℕ)
     (judged : Environment) (not_utf8 dirs without : List Text) (audit : ReadableAudit) : Type 0 where
   pub unreadable : AreUnreadable has_failed (before + failed_in audit.dry_runs.items < now) (texts_in audit.unreadable)

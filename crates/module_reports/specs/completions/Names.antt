@@ -4,6 +4,7 @@ use Rattle.std.specs.List.{flat_map}
 use Rattle.message.specs.Messages.{Text}
 use Rattle.envvars.specs.Environment.{Environment, lookup}
 use Rattle.envvars.specs.Fields.{elements_in, without_repeats}
+use Rattle.shelltext.specs.Shells.{all_shells, shell_name}
 use Rattle.module_words.specs.subcommands.Meanings.{is_option}
 use Rattle.module_words.specs.subcommands.Options.{options_of}
 use Rattle.module_words.specs.subcommands.Subcommands.{rows}
@@ -12,10 +13,9 @@ use Rattle.module_reports.specs.completions.Texts.{filled}
 use Rattle.module_reports.specs.declared.completions.kind.NameKind.{NameKind}
 use Rattle.module_reports.specs.declared.completions.kind.NameKind.TheVariants as kinds
 
--- the shells
-unfoldable pub shells : List Text
-shells =
-    codes "bash" ∷ codes "csh" ∷ codes "fish" ∷ codes "ksh" ∷ codes "sh" ∷ codes "tcsh" ∷ codes "zsh" ∷ []
+-- the names of the shells
+abbrev pub shells : List Text
+shells = map shell_name all_shells
 
 -- the options of modaudit(1), and of modport(1)
 unfoldable pub audit_options : List Text

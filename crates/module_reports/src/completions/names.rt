@@ -3,6 +3,7 @@ ghost use Rattle.std.specs.Prelude.{◌≡◌, map, string_bytes, IfOk};
 ghost use Rattle.std.specs.Option.{option_map};
 ghost use Rattle.envvars.specs.Texts.{slice_texts, texts_in};
 ghost use Rattle.module_words.specs.subcommands.Views.{option_view, row_view};
+ghost use Rattle.shelltext.specs.Shells.{shell_name};
 ghost use Rattle.module_reports.specs.completions.Names as spec;
 
 use crate::completions::kind::NameKind;
@@ -11,6 +12,7 @@ use envvars::fields::{elements, owned};
 use envvars::{Env, Vars};
 use message::texts::copies;
 use module_words::subcommands::{OptionName, SubcommandName, options_of, subcommand_names};
+use shelltext::Shell;
 use std::alloc::{AllocError, Global};
 
 /// The variable with the names of the loaded modules.
@@ -18,14 +20,6 @@ const LOADEDMODULES: &str = "LOADEDMODULES";
 
 /// The variable with the directories that are searched.
 const MODULEPATH: &str = "MODULEPATH";
-
-/// The shells.
-#[tactic(auto, unfolding(crate::specs::completions::Names::shells))]
-fn shells() -> &'static [&'static str]
-    ensures { slice_texts result.now ≡ spec.shells }
-{
-    &["bash", "csh", "fish", "ksh", "sh", "tcsh", "zsh"]
-}
 
 /// The options of `modaudit`.
 #[tactic(auto, unfolding(crate::specs::completions::Names::audit_options))]
@@ -77,6 +71,17 @@ fn option_names(alloc: Global, rows: &[OptionName]) -> Result<Vec<String>, Alloc
     Ok(names)
 }
 
+/// The names of these shells.
+fn shell_names(alloc: Global, shells: &[Shell]) -> Result<Vec<String>, AllocError>
+    ensures { IfOk result (λ v. texts_in v ≡ map shell_name shells.now) }
+{
+    let mut names = Vec::new(alloc);
+    for shell in shells {
+        names.push(String::from_str(alloc, shell.name())?)?;
+    }
+    Ok(names)
+}
+
 /// The texts, each behind another.
 fn all_behind(alloc: Global, front: &str, texts: &[&str]) -> Result<Vec<String>, AllocError>
     ensures { IfOk result (λ v. texts_in v ≡ map (spec.behind front.now) (slice_texts texts.now)) }
@@ -112,7 +117,7 @@ pub(crate) fn names_of(
     match kind {
         NameKind::Subcommands => plain_names(alloc, subcommand_names()),
         NameKind::Options(subcommand) => option_names(alloc, options_of(subcommand)),
-        NameKind::Shells => owned(alloc, shells()),
+        NameKind::Shells => shell_names(alloc, Shell::all()),
         NameKind::AuditOptions => owned(alloc, audit_options()),
         NameKind::PortOptions => owned(alloc, port_options()),
         NameKind::Loaded => listed(alloc, env, LOADEDMODULES, ""),

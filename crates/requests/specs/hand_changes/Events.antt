@@ -34,7 +34,7 @@ EventsReachWhile moves Makes uses_while Allows live start e (by_hand c ∷ event
     × EventsReachWhile moves Makes uses_while Allows live (start_after (uses_while live) live start e c) (changed c e)
     events last_start last
 
--- The same where each variable has one use in the whole session, from a start with no live module. Each start allows
+-- Events from a start with no live module, where each variable has one use in the whole session. Each start allows
 -- every act. A beginning of such events is such events: so what holds after them holds at each moment.
 abbrev pub EventsReach : {A : Type 0} → (A → List Move) → (A → Environment → Environment → Type 0)
     → (Text → VariableUse) → Environment → List (Event A) → Environment → Environment → Type 0

@@ -22,7 +22,8 @@ pub fn moves_return()
     one_change();
 }
 
-/// The same of requests, some of which may have been refused.
+/// Requests with changes by hand between them, some of them refused, from a start in order: with no module live the
+/// environment is what the same changes by hand have made of the start.
 pub fn sessions_return()
     ensures { SessionsAndHandsReturn }
 {

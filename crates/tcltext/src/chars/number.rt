@@ -183,7 +183,7 @@ fn magnitude(bytes: &[u8]) -> Option<u64>
     }
 }
 
-/// The same for the bytes after a leading 0.
+/// The value of the bytes after a leading 0: after a letter of a base its digits, else octal digits.
 fn after_zero(bytes: &[u8]) -> Option<u64>
     ensures { result ≡ option_map (λ n. min n (2 ^ 64 - 1)) (after_zero bytes.now) }
 {

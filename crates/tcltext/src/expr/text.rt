@@ -27,7 +27,7 @@ use std::alloc::Global;
 /// - `TooDeep`: operators, parentheses and brackets nest more than 200 deep.
 /// - `BadExpression`: no expression has what is at this offset there; the end of the text, where it ends too early.
 /// - `OpenBrace`, `OpenQuote`, `OpenBracket`, `JoinedToClose`, `BadCharacter`: an operand is wrong, as `parse_script`
-///   of tclscript has it.
+///   has it.
 /// - `OutOfMemory`: a growth was refused; this says nothing about the text.
 ///
 /// A text with several faults is refused with the first that a reader from left to right meets.

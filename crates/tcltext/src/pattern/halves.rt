@@ -45,7 +45,7 @@ fn runs(from: &str, text: &str, count: usize, to: &str) -> bool
     }
 }
 
-/// The same as `runs`, where `middle` remains of the pattern after half of the characters.
+/// Whether the pattern reads the characters as `runs` decides it, and `middle` remains of it after half of them.
 #[cycle(halves)]
 fn runs_by(from: &str, text: &str, middle: &str, count: usize, to: &str) -> bool
     requires { 2 ≤ count }
@@ -69,7 +69,7 @@ fn skip(text: &str, count: usize) -> &str
     rest
 }
 
-/// The same as `runs`, for one character at most.
+/// Decides `runs` for one character at most.
 fn runs_short(from: &str, text: &str, count: usize, to: &str) -> bool
     requires { count ≤ 1 }
     ensures { IsTrue result ↔ Run (chars from.now) (take count (chars text.now)) (chars to.now) }
@@ -100,7 +100,7 @@ fn runs_one(from: &str, c: char, to: &str) -> bool
     false
 }
 
-/// The same for a pattern whose first character is no star.
+/// Whether a pattern whose first character is no star can read the character so that `to` remains.
 fn steps_to(first: char, rest: &str, c: char, to: &str) -> bool
     requires { first ≢ star }
     ensures { IsTrue result ↔ Run (first ∷ chars rest.now) (c ∷ []) (chars to.now) }

@@ -81,8 +81,8 @@ fn is_uniform(pattern: &str) -> bool
     !matches!(reading, ReadingState::RangeToClose)
 }
 
-/// The same as `matches_from` for a pattern without a range up to a closing bracket: there the first match up to the
-/// next star is as good as any, since a later one only leaves less of the text.
+/// Whether the pattern matches the text, as `matches_from` decides it, for a pattern without a range up to a closing
+/// bracket. Such a pattern needs only the first match up to the next star, since a later one leaves less of the text.
 fn matches_uniform(first: Position<'_>) -> bool
     requires text { IsUtf8Position first }
     requires uniform { uniform.is_uniform (chars first.pattern.now) ≡ true }

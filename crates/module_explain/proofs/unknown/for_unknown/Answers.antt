@@ -2,7 +2,9 @@ use Rattle.std.proofs.Common.{◌≡◌, map, List, String, string_bytes, Bor, s
 use Rattle.std.specs.declared.alloc.Global.{Global}
 use Rattle.envvars.specs.Texts.{Text, slice_texts, texts_in}
 use Rattle.requests.specs.Steps.{modulepath}
+use Rattle.filetree.specs.Agreement.{InEachPair}
 use Rattle.module_explain.specs.Advised.{ForUnknown, IsKnown, question}
+use Rattle.module_explain.specs.Alike.{AreLike}
 use Rattle.module_explain.proofs.UnknownLemmas.{likes_are_said}
 use Rattle.module_explain.proofs.unknown.for_unknown.Goals as goal
 
@@ -18,6 +20,7 @@ returns-clause-fits g c =
     subst (λ (p : Text). ForUnknown now limits shell e p c.args.name.now c.in_ok-asked.field-0) same
     (likes_are_said before now limits shell e path c.args.name.now (slice_texts c.as_slice.result.now)
     (ap (λ (l : List (Bor Text)). slice_texts l) c.as_slice.ensures.value ∙ c.in_ok-directories.ensures)
-    c.names_like.ensures.reads.narrows c.in_ok-asked.field-0 (texts_in c.in_ok-names.names) (sym c.is_empty.ensures ∙ c.if-is_empty.false) (c.in_ok-is_one_there.ensures.one c.if-not-branch.false)
-    c.in_ok-names.ensures.like
-    (subst (λ (l : List (String Global)). IsKnown (question (map (λ (s : String Global). string_bytes s) l)) c.in_ok-asked.field-0) c.as_slice-2.ensures.value c.in_ok-asked.ensures.line))
+    c.names_like.ensures.narrows c.in_ok-asked.field-0 (texts_in c.in_ok-names.names) (sym c.is_empty.ensures ∙ c.if-is_empty.false) (c.in_ok-is_one_there.ensures.one c.if-not-branch.false)
+    (subst (λ (ds : List Text). InEachPair now (λ files listings. AreLike listings ds c.args.name.now (texts_in c.in_ok-names.names)))
+    (ap (λ (l : List (Bor Text)). slice_texts l) c.as_slice-2.ensures.value ∙ c.in_ok-directories.ensures) c.in_ok-names.ensures.like)
+    (subst (λ (l : List (String Global)). IsKnown (question (map (λ (s : String Global). string_bytes s) l)) c.in_ok-asked.field-0) c.as_slice-3.ensures.value c.in_ok-asked.ensures.line))

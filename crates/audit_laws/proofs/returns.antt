@@ -1,0 +1,20 @@
+mod SameAnswers
+mod AskedAgain
+mod RunAgain
+mod UnloadEffects
+mod LiveStacks
+mod LiveEntries
+mod MeantNames
+mod NamesOfLive
+mod Unloads
+pub mod Purges
+mod OneUnload
+mod SiteLaws
+mod PlainUnload
+mod LoadEntry
+mod PrereqWords
+mod LoadEffects
+mod LoadRuns
+mod Loads
+mod Switches
+mod Sessions

@@ -1,0 +1,18 @@
+use Rattle.modaudit.proofs.command.ReportedLemmas.{reported_modules_return, moments_are_sessions, audited_start_returns, trees_have_all}
+use Rattle.modaudit.proofs.command.laws.reported_modules_return.Goals as goal
+
+pub returns-clause-returned : goal.returns-clause-returned
+returns-clause-returned g c =
+    reported_modules_return c.files.ensures.one c.certified.ensures.exact c.extended_sites.ensures c.site_commands_and_hands_return.ensures.returned
+    c.site_way_back_is_open.ensures.open (g.T.Tree.agrees c.args.audited.now) (g.T.Tree.failed c.args.audited.now)
+
+pub returns-clause-moments : goal.returns-clause-moments
+returns-clause-moments g c = moments_are_sessions
+
+pub returns-clause-at_hand : goal.returns-clause-at_hand
+returns-clause-at_hand g c =
+    audited_start_returns c.files.ensures.one c.certified.ensures.exact c.extended_sites.ensures (g.T.Tree.agrees c.args.audited.now)
+    (g.T.Tree.failed c.args.audited.now) (returns-clause-returned g c)
+
+pub returns-clause-trees : goal.returns-clause-trees
+returns-clause-trees g c = trees_have_all (g.T.Tree.agrees c.args.audited.now)
