@@ -205,7 +205,8 @@ fn standing_with(
 ) -> Result<FullStanding, AllocError>
     ensures standing { IfOk result (λ found.
         found.standing ≡ findings.standing_with own (into_iter_items answers.old)) }
-    ensures other_reasons { IfOk result (λ found. found.other_reasons.items ≡ other_reasons_with own (into_iter_items beside.old)) }
+    ensures other_reasons { IfOk result (λ found.
+        found.other_reasons.items ≡ other_reasons_with own (into_iter_items beside.old)) }
     ensures left { OnOk result (into_iter_items answers.new ≡ answers_left own (into_iter_items answers.old)) }
     ensures left_beside { OnOk result (into_iter_items beside.new ≡ beside_left own (into_iter_items beside.old)) }
 {

@@ -23,8 +23,8 @@ pub fn file_rows()
 /// Path commands and their delimiters.
 pub fn path_rows()
     ensures delimiters { LeavesRecords showing (codes "prepend-path -d {;} Q {a:b;c}\nappend-path --delim=: Q a:b")
-        (Path Front 59 (codes "Q") (codes "a:b" ∷ codes "c" ∷ []) ∷ Path Back 58 (codes "Q") (codes "a" ∷ codes "b" ∷ [])
-        ∷ []) unchanged }
+        (Path Front 59 (codes "Q") (codes "a:b" ∷ codes "c" ∷ [])
+        ∷ Path Back 58 (codes "Q") (codes "a" ∷ codes "b" ∷ []) ∷ []) unchanged }
     ensures value_after { LeavesRecords showing (codes "prepend-path P -d a")
         (Path Front 58 (codes "P") (codes "-d" ∷ codes "a" ∷ []) ∷ []) unchanged }
 {}

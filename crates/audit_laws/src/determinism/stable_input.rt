@@ -103,7 +103,8 @@ pub(crate) fn is_stable_input(
     records: &[Record],
     question: &Question,
 ) -> Result<bool, AllocError>
-    ensures { IfOk result (λ rested. rested ≡ spec.is_stable_input (map record_view records.now) (question_view question.now)) }
+    ensures { IfOk result (λ rested.
+        rested ≡ spec.is_stable_input (map record_view records.now) (question_view question.now)) }
 {
     match question {
         Question::Variable(name, _) => Ok(is_stable_variable(records, name.as_str())),

@@ -136,7 +136,8 @@ pub(crate) fn do_undo_equivalently(
     ones: &[Record],
     others: &[Record],
 ) -> Result<bool, AllocError>
-    ensures { IfOk result (λ alike. alike ≡ spec.do_undo_equivalently (map record_view ones.now) (map record_view others.now)) }
+    ensures { IfOk result (λ alike.
+        alike ≡ spec.do_undo_equivalently (map record_view ones.now) (map record_view others.now)) }
 {
     let one = undo_of(alloc, ones)?;
     let other = undo_of(alloc, others)?;

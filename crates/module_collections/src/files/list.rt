@@ -84,7 +84,8 @@ fn is_in<S: Storage>(
 
 /// Adds a name.
 fn put_name(alloc: Global, found: &mut BTreeSet<String>, name: &str) -> Result<(), FileFault>
-    ensures added { OnOk result ((q : Text) → contains_text found.new q ≡ (contains_text found.old q || bytes_eq q name.now)) }
+    ensures added { OnOk result ((q : Text) →
+        contains_text found.new q ≡ (contains_text found.old q || bytes_eq q name.now)) }
     ensures fault { IfErr result (λ fault. reason_of fault ≡ None) }
     ensures failure { IfErr result (λ fault. failure_of fault ≡ None) }
 {
