@@ -29,6 +29,7 @@ last_over name first m live = ap (find (λ x. means name x.name)) (reverse-appen
 pub record IsMeant (name : Text) (first : List Entry) (live : List Module) : Type 0 where
   pub found_module : Module
   pub meant : means name found_module.name ≡ true
+  pub newest : find (λ m. means name m.name) live ≡ Some found_module
   pub found : live_named found_module.name live ≡ Some found_module
   pub last : last_meant name (entries_over first live) ≡ Some (entry_of found_module)
   pub less : without_meant name live ≡ without_live found_module.name live
@@ -41,6 +42,7 @@ more_meant name first m live f k =
     record {
       found_module = k.found_module;
       meant = k.meant;
+      newest = rw f k.newest;
       found = rw other k.found;
       last = last_over name first m live ∙ rw f k.last;
       less = rw (f, other) (ap (λ (l : List Module). m ∷ l) k.less);
@@ -52,6 +54,7 @@ is_meant name first (m ∷ live) h = by_test (means name m.name) _
     (λ t. record {
       found_module = m;
       meant = t;
+      newest = rw t refl;
       found = rw (bytes_eq-same m.name) refl;
       last = last_over name first m live ∙ rw t refl;
       less = rw (t, bytes_eq-same m.name) refl;

@@ -34,7 +34,7 @@ use Rattle.audit_laws.proofs.returns.LiveStacks.{live_stacks}
 use Rattle.audit_laws.proofs.returns.LiveEntries.{live_spelled, RunsAgain, unload_context, unloads_entry}
 use Rattle.audit_laws.proofs.returns.UnloadEffects.{CanReadStacks, unloads_had}
 use Rattle.audit_laws.proofs.returns.RunAgain.{files_run_again}
-use Rattle.audit_laws.proofs.returns.Unloads.{CanUnload, UnloadsLive}
+use Rattle.audit_laws.proofs.returns.Unloads.{CanUnload, UnloadsLive, IsAny}
 
 first_of : (ms : List Candidate) (start e : Environment) (live : List Module) → AreLayered ms start live e → (first : List Entry) × (loaded_in e ≡ Some (entries_over first live))
 first_of ms start e live layered = let b = list_in_order start layered.begins.order.loaded in (b.0, layered.start_with_live.entries b.0 b.1)
@@ -114,8 +114,8 @@ unloads_live one allows tested preserve site ms shell start all in_switch live f
     }
 
 pub site_unloads : files.OneOutcome → RecordsAreAllowed → UndoIsTested → CertifiedMovesPreserve → (site : Site) (ms : List Candidate) (shell : Shell) (start : Environment) → AreDeterministic site ms
-    → CanUnload (in_shell (over_site site) shell) start (IsSiteLayered site ms start)
+    → CanUnload (in_shell (over_site site) shell) start (IsSiteLayered site ms start) IsAny
 site_unloads one allows tested preserve site ms shell start all = record {
   entries = λ live e first begins over. over.0.start_with_live.entries first begins;
-  unloads = unloads_live one allows tested preserve site ms shell start all;
+  unloads = λ in_switch live first l typed d over any. unloads_live one allows tested preserve site ms shell start all in_switch live first l typed d over;
 }

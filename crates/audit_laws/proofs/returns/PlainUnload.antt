@@ -6,21 +6,30 @@ use Rattle.envstate.specs.loaded_list.Loaded.{Entry, loaded_in}
 use Rattle.filetree.specs.Modulefiles.{script, modulefile}
 use Rattle.modulefile.specs.Files.{Ran, RunsFile, refused_by, IsSameOrRefused}
 use Rattle.modulefile.specs.Laws.{RecordsAreAllowed, PlainFilesAgree}
-use Rattle.modulefile.specs.Moves.{Module, Unloads}
+use Rattle.modulefile.specs.Moves.{Module, Move, Loads, Unloads}
 use Rattle.modulefile.specs.Records.{Record}
 use Rattle.reversal.specs.VariableUses.{VariableUse, Stacked, IsUsedSo, AllSuit, use_by}
 use Rattle.reversal.specs.Live.{entries_over}
 use Rattle.reversal.specs.Undone.{undo_of}
-use Rattle.reversal.specs.Starts.{IsInOrder, IsStart, IsStartWith}
-use Rattle.reversal.specs.Runs.{live_named, without_live, AreReversibleTogether}
+use Rattle.reversal.specs.Runs.{live_named, without_live, live_after, AreReversibleTogether}
 use Rattle.reversal.specs.Laws.{Holds, MovesPreserve}
+use Rattle.shelltext.specs.declared.shell.Shell.{Shell}
 use Rattle.requests.specs.Laws as requests
+use Rattle.requests.specs.Requests.{Request}
 use Rattle.requests.specs.Steps.{RequestContext, Done}
+use Rattle.requests.specs.Sessions.{Response, accepted, refused, given_up, IsResponse, in_shell}
+use Rattle.requests.specs.PlainRuns.{IsPlain, JudgedIsPlain}
+use Rattle.requests.specs.JudgedRuns.{IsJudgedPlain}
+use Rattle.requests.specs.hand_changes.HandChanges.{changed, start_after}
+use Rattle.requests.specs.hand_changes.Events.{Event, act, by_hand, moves_of, EventsReachWhile}
+use Rattle.requests.specs.hand_changes.Laws.{response_moves, answered_moves, ResponseMakes, SessionsAndHandsReturn}
+use Rattle.requests.proofs.Origins.{IsFrom, AllFrom, all_both, traced}
 use Rattle.audit_certificate.specs.RecordUses.{used_by, IsAmong, Uses}
 use Rattle.audit_certificate.proofs.UsedLemmas.{by_cases, cons_either}
 use Rattle.audit_laws.specs.returns.Files.{leaving}
-use Rattle.audit_laws.specs.returns.Unloads.{without_all, ArePlainlyLoaded}
-use Rattle.audit_laws.specs.returns.Laws.{PlainUnloadsEnd, PlainUnloadsAreAccepted, PlainPurgesReturn, PlainModulesLoadPlainly}
+use Rattle.audit_laws.specs.returns.Unloads.{without_all, taken_by, IsPlainlyLoaded}
+use Rattle.audit_laws.specs.returns.Laws.{AreReversibleOver, PlainUnloadsEnd, PlainUnloadsAreAccepted, PlainPurgesReturn}
+use Rattle.audit_laws.specs.returns.Laws.{PlainModulesLoadPlainly, JudgedUnloadsAreAccepted}
 use Rattle.audit_laws.proofs.site.LiveReads.{named_among, left_among}
 use Rattle.audit_laws.proofs.returns.LiveStacks.{stack_read}
 use Rattle.audit_laws.proofs.returns.LiveEntries.{live_spelled, RunsAgain, unload_context, unloads_entry}
@@ -28,7 +37,7 @@ use Rattle.audit_laws.proofs.returns.RunAgain.{plain_files_run_again}
 use Rattle.audit_laws.proofs.returns.UnloadEffects.{CanReadStacks, unloads_had, used_of_seen}
 use Rattle.audit_laws.proofs.returns.Unloads as Ends
 use Rattle.audit_laws.proofs.returns.Purges as Purges
-use Rattle.audit_laws.proofs.returns.Unloads.{CanUnload, UnloadsLive}
+use Rattle.audit_laws.proofs.returns.Unloads.{CanUnload, UnloadsLive, taken_live}
 
 -- what a live module uses is used so
 suits_among : (uses : Text → VariableUse) (live : List Module) (l : Module) → IsAmong l live → AreReversibleTogether uses live → AllSuit uses l.records
@@ -42,24 +51,16 @@ used_so uses (r ∷ rs) v x s u = by_cases (cons_either (v, x) (use_by r) (used_
     (λ e. subst (IsUsedSo uses) e s.0.1)
     (λ k. used_so uses rs v x s.1 k)
 
--- plain modules are live over the start
-pub record IsPlainOver (uses : Text → VariableUse) (s : RequestContext) (start : Environment) (live : List Module) (e : Environment) : Type 0 where
-  pub order : IsInOrder uses e
-  pub start_with_live : IsStartWith uses start live e
-  pub fit : AreReversibleTogether uses live
-  pub plain : ArePlainlyLoaded s live
-
-plain_stacks : (uses : Text → VariableUse) (s : RequestContext) (start e : Environment) (live : List Module) (l : Module) → IsPlainOver uses s start live e → IsAmong l live
-    → CanReadStacks e (undo_of l.records)
-plain_stacks uses s start e live l over a w f u =
+plain_stacks : (uses : Text → VariableUse) (start e : Environment) (live : List Module) (l : Module) → AreReversibleOver uses start live e → IsAmong l live → CanReadStacks e (undo_of l.records)
+plain_stacks uses start e live l over a w f u =
     stack_read start e w live (uses w) (used_so uses l.records w Stacked (suits_among uses live l a over.fit) (used_of_seen (w, Stacked) l.records u)) (over.start_with_live.variables w f)
 
 plain_runs : RecordsAreAllowed → (uses : Text → VariableUse) (s : RequestContext) (start e : Environment) (in_switch : Bool) (live : List Module) (first : List Entry) (l : Module) (typed : Text)
-    → IsPlainOver uses s start live e → IsAmong l live → loaded_in e ≡ Some (entries_over first live) → RunsAgain s (unload_context s in_switch l typed (entries_over first live) e) l
-plain_runs allows uses s start e in_switch live first l typed over a list =
-    let (ran, left, none, same) = over.plain l a in
+    → AreReversibleOver uses start live e → IsPlainlyLoaded s l → IsAmong l live → loaded_in e ≡ Some (entries_over first live)
+    → RunsAgain s (unload_context s in_switch l typed (entries_over first live) e) l
+plain_runs allows uses s start e in_switch live first l typed over (ran, left, none, same) a list =
     let c = unload_context s in_switch l typed (entries_over first live) e in
-    let stacks : CanReadStacks e (undo_of ran.records) = subst (λ (rs : List Record). CanReadStacks e (undo_of rs)) same (plain_stacks uses s start e live l over a) in
+    let stacks : CanReadStacks e (undo_of ran.records) = subst (λ (rs : List Record). CanReadStacks e (undo_of rs)) same (plain_stacks uses start e live l over a) in
     let had = unloads_had l.name ran.records e (live_spelled e first live l over.order.loaded list a) (allows s.limits left.context left.text ran left.runs) stacks in
     record {
       text = left.text;
@@ -70,26 +71,19 @@ plain_runs allows uses s start e in_switch live first l typed over a list =
       undoes = ap undo_of (sym same);
     }
 
-fewer_plain : (s : RequestContext) (name : Text) (live : List Module) → ArePlainlyLoaded s live → ArePlainlyLoaded s (without_live name live)
-fewer_plain s name live plain m a = plain m (left_among name m live a)
-
-unloads_live : RecordsAreAllowed → MovesPreserve → (uses : Text → VariableUse) (s : RequestContext) (start : Environment) → IsStart uses start
-    → (in_switch : Bool) (live : List Module) (first : List Entry) (l : Module) (typed : Text) (d : Done) → IsPlainOver uses s start live d.env → live_named l.name live ≡ Some l
-    → loaded_in d.env ≡ Some (entries_over first live) → UnloadsLive s in_switch (IsPlainOver uses s start) live l typed d (entries_over first live)
-unloads_live allows preserve uses s start begin in_switch live first l typed d over named list =
+unloads_live : RecordsAreAllowed → MovesPreserve → (uses : Text → VariableUse) (s : RequestContext) (start : Environment) (in_switch : Bool) (live : List Module) (first : List Entry) (l : Module)
+    (typed : Text) (d : Done) → AreReversibleOver uses start live d.env → IsPlainlyLoaded s l → live_named l.name live ≡ Some l → loaded_in d.env ≡ Some (entries_over first live)
+    → UnloadsLive s in_switch (AreReversibleOver uses start) live l typed d (entries_over first live)
+unloads_live allows preserve uses s start in_switch live first l typed d over plain named list =
     let among = named_among l.name l live named in
-    let u = unloads_entry s in_switch live first l typed d named among list (plain_runs allows uses s start d.env in_switch live first l typed over among list) in
-    let h = preserve uses start d.env u.done.env live (Unloads u.unloaded ∷ []) begin over.order over.start_with_live over.fit (u.undoes, tt) u.reach in
-    let now : IsPlainOver uses s start (without_live u.unloaded.name live) u.done.env = record {
-      order = h.0.order;
-      start_with_live = h.0.start_with_live;
-      fit = h.1;
-      plain = fewer_plain s u.unloaded.name live over.plain;
-    } in
+    let u = unloads_entry s in_switch live first l typed d named among list (plain_runs allows uses s start d.env in_switch live first l typed over plain among list) in
+    let h = preserve uses start d.env u.done.env live (Unloads u.unloaded ∷ []) over.begins over.order over.start_with_live over.fit (u.undoes, tt) u.reach in
+    let now : AreReversibleOver uses start (without_live u.unloaded.name live) u.done.env =
+    record { begins = over.begins; order = h.0.order; start_with_live = h.0.start_with_live; fit = h.1 } in
     record {
       done = u.done;
       step = u.step;
-      over = subst (λ (n : Text). IsPlainOver uses s start (without_live n live) u.done.env) u.name now;
+      over = subst (λ (n : Text). AreReversibleOver uses start (without_live n live) u.done.env) u.name now;
       unloaded = u.unloaded;
       name = u.name;
       moves = u.moves;
@@ -101,33 +95,30 @@ pub record Laws : Type 0 where
   pub outcome : requests.OneOutcome
   pub preserve : MovesPreserve
 
-plain_unloads : Laws → (uses : Text → VariableUse) (s : RequestContext) (start : Environment) → IsStart uses start → CanUnload s start (IsPlainOver uses s start)
-plain_unloads laws uses s start begin = record {
+plain_unloads : Laws → (uses : Text → VariableUse) (s : RequestContext) (start : Environment) → CanUnload s start (AreReversibleOver uses start) (IsPlainlyLoaded s)
+plain_unloads laws uses s start = record {
   entries = λ live e first begins over. over.start_with_live.entries first begins;
-  unloads = unloads_live laws.allows laws.preserve uses s start begin;
+  unloads = unloads_live laws.allows laws.preserve uses s start;
 }
 
-holds : MovesPreserve → (uses : Text → VariableUse) (s : RequestContext) (start : Environment) → IsStart uses start → (live : List Module) (e : Environment) → IsPlainOver uses s start live e
-    → Holds uses start live e
-holds preserve uses s start begin live e over = (preserve uses start e e live [] begin over.order over.start_with_live over.fit tt refl).0
+holds : MovesPreserve → (uses : Text → VariableUse) (start : Environment) (live : List Module) (e : Environment) → AreReversibleOver uses start live e → Holds uses start live e
+holds preserve uses start live e over = (preserve uses start e e live [] over.begins over.order over.start_with_live over.fit tt refl).0
 
 pub unloads_end : Laws → PlainUnloadsEnd
-unloads_end laws uses s start e live first name names o begin order with_live fit plain begins of step =
-    Ends.ends_over (IsPlainOver uses s start) (Holds uses start) first live (without_all (name ∷ names) live) o (holds laws.preserve uses s start begin)
-    (Ends.unloads_end laws.outcome s start (IsPlainOver uses s start) (plain_unloads laws uses s start begin) e first live name names o
-    (record { order = order; start_with_live = with_live; fit = fit; plain = plain }) begins of step)
+unloads_end laws uses s start e live first name names o over begins of plain step =
+    Ends.ends_over (AreReversibleOver uses start) (Holds uses start) first live (without_all (name ∷ names) live) o (holds laws.preserve uses start)
+    (Ends.unloads_end laws.outcome s start (AreReversibleOver uses start) (IsPlainlyLoaded s) (plain_unloads laws uses s start) e first live name names o over begins of plain step)
 
 pub unloads_are_accepted : Laws → PlainUnloadsAreAccepted
-unloads_are_accepted laws uses s start e live first name names o begin order with_live fit plain begins of step =
+unloads_are_accepted laws uses s start e live first name names o over begins of plain step =
     Ends.accepted_or_needed (Holds uses start) first live (without_all (name ∷ names) live) o
-    (unloads_end laws uses s start e live first name names o begin order with_live fit plain begins of step)
+    (unloads_end laws uses s start e live first name names o over begins of plain step)
 
 pub purges_return : Laws → PlainPurgesReturn
-purges_return laws uses s start e live o begin order with_live fit plain begins step =
-    Purges.purges_return laws.outcome s start (IsPlainOver uses s start) (plain_unloads laws uses s start begin)
-    (λ d over. (holds laws.preserve uses s start begin [] d over).returned refl) begin.order.loaded e live o
-    (λ l a. live_spelled e [] live l order.loaded (with_live.entries [] begins) a)
-    (record { order = order; start_with_live = with_live; fit = fit; plain = plain }) begins step
+purges_return laws uses s start e live o over plain begins step =
+    Purges.purges_return laws.outcome s start (AreReversibleOver uses start) (IsPlainlyLoaded s) (plain_unloads laws uses s start)
+    (λ d now. (holds laws.preserve uses start [] d now).returned refl) over.begins.order.loaded e live o
+    (λ l a. live_spelled e [] live l over.order.loaded (over.start_with_live.entries [] begins) a) plain over begins step
 
 -- ---- what a plain module has loaded
 
@@ -144,3 +135,56 @@ plain_modules_load_plainly law s m ran (first, plain, none) left records =
     let again = law s.limits plain.context left.context plain.text first (Ok ran) plain.runs none (left.named ∙ sym plain.named) (left.at_path ∙ sym plain.at_path)
     (subst (λ (t : Text). RunsFile s.limits left.context t (Ok ran)) same left.runs) in
     (first, plain, none, records ∙ agreed first ran again)
+
+-- ---- modules that were judged plain
+
+-- in whatever shell
+in_any_shell : (s : RequestContext) (shell : Shell) (m : Module) → IsPlainlyLoaded s m → IsPlainlyLoaded (in_shell s shell) m
+in_any_shell s shell m (ran, left, none, same) =
+    (ran, record { text = left.text; file = left.file; context = left.context; named = left.named; at_path = left.at_path; runs = left.runs }, none, same)
+
+all_from : (s : RequestContext) (ms : List Move) (live : List Module) → ((m : Module) → IsAmong m live → IsFrom s m) → AllFrom s ms → (m : Module) → IsAmong m (live_after live ms) → IsFrom s m
+all_from s [] live h k = h
+all_from s (Loads l ∷ ms) live h k = all_from s ms (l ∷ live) (λ m a. by_cases a (λ e. subst (IsFrom s) (sym e) k.0) (h m)) k.1
+all_from s (Unloads l ∷ ms) live h k = all_from s ms (without_live l.name live) (λ m a. h m (left_among l.name m live a)) k.1
+
+from_any_shell : (s : RequestContext) (shell : Shell) (ms : List Move) → AllFrom (in_shell s shell) ms → AllFrom s ms
+from_any_shell s shell [] h = tt
+from_any_shell s shell (m ∷ ms) ((ran, left, same), rest) = (
+  (ran, record { text = left.text; file = left.file; context = left.context; named = left.named; at_path = left.at_path; runs = left.runs }, same),
+  from_any_shell s shell ms rest,
+)
+
+one_from : (s : RequestContext) (r : Request) (o : Response) (old : Environment) → IsResponse (in_shell s r.0) old r.1 o → AllFrom s (response_moves o)
+one_from s r (accepted d) old h = from_any_shell s r.0 d.moves (traced (in_shell s r.0) old r.1 d h)
+one_from s r (refused reason) old h = tt
+one_from s r (given_up number) old h = tt
+
+events_from : (s : RequestContext) (uses : Text → VariableUse) (Allows : Environment → (Request × Response) → Type 0) (events : List (Event (Request × Response))) (live : List Module)
+    (start e last_start last : Environment) → EventsReachWhile answered_moves (ResponseMakes s) (λ l. uses) Allows live start e events last_start last → AllFrom s (moves_of answered_moves events)
+events_from s uses Allows [] live start e last_start last h = tt
+events_from s uses Allows (act (r, o) ∷ events) live start e last_start last (allowed, (next, made, rest)) =
+    all_both s (response_moves o) (moves_of answered_moves events) (one_from s r o e made.0)
+    (events_from s uses Allows events (live_after live (response_moves o)) start next last_start last rest)
+events_from s uses Allows (by_hand c ∷ events) live start e last_start last (may, rest) =
+    events_from s uses Allows events live (start_after uses live start e c) (changed c e) last_start last rest
+
+judged_plain : JudgedIsPlain → (s : RequestContext) (name path : Text) → IsJudgedPlain s name path → IsPlain s name path
+judged_plain law s name path j =
+    let (m, found, plain) = law s j.env j.typed j.judged in
+    let at = j.means m found in
+    subst (λ (n : Text). IsPlain s n path) at.0 (subst (λ (p : Text). IsPlain s m.name p) at.1 plain)
+
+loaded_plainly : PlainFilesAgree → JudgedIsPlain → (s : RequestContext) (m : Module) → IsFrom s m → IsJudgedPlain s m.name m.path → IsPlainlyLoaded s m
+loaded_plainly law judged s m (ran, left, same) j = plain_modules_load_plainly law s m ran (judged_plain judged s m.name m.path j) left same
+
+pub judged_unloads_are_accepted : Laws → PlainFilesAgree → JudgedIsPlain → SessionsAndHandsReturn → JudgedUnloadsAreAccepted
+judged_unloads_are_accepted laws agree judged returns uses s start last_start last events live first shell name names o begin reach new reversible is begins of plain step =
+    let after = returns uses s start last_start last events begin reach new reversible in
+    let over : AreReversibleOver uses last_start live last = subst (λ (l : List Module). AreReversibleOver uses last_start l last) (sym is)
+    (record { begins = after.0; order = after.1.order; start_with_live = after.1.start_with_live; fit = after.2 }) in
+    let from = all_from s (moves_of answered_moves events) [] (λ m a. absurd a) (events_from s uses (λ b a. Unit {0}) events [] start start last_start last reach) in
+    let among : (m : Module) → IsAmong m (taken_by (name ∷ names) live) → IsAmong m (live_after [] (moves_of answered_moves events)) =
+    λ m a. subst (IsAmong m) is (taken_live m (name ∷ names) live a) in
+    unloads_are_accepted laws uses (in_shell s shell) last_start last live first name names o over begins of
+    (λ m a. in_any_shell s shell m (loaded_plainly agree judged s m (from m (among m a)) (plain m a))) step

@@ -33,7 +33,7 @@ use Rattle.audit_certificate.specs.RecordUses.{IsAmong}
 use Rattle.audit_laws.specs.returns.Unloads.{means_one, without_meant, without_all, AreOfLive, IsBack, EndAlike}
 use Rattle.audit_laws.proofs.returns.MeantNames.{means_itself}
 use Rattle.audit_laws.proofs.returns.LiveEntries.{distinct_last}
-use Rattle.audit_laws.proofs.returns.Unloads.{CanUnload, NoneIsStart, each_name}
+use Rattle.audit_laws.proofs.returns.Unloads.{CanUnload, NoneIsStart, each_name, taken_live}
 
 -- ---- outcomes that are alike
 
@@ -254,17 +254,18 @@ of_all first (m ∷ live) h =
       ap (without_all (newest_first live)) (own_name m live) ∙ rest.1,
     )
 
-pub purges_end_as_at_start : requests.OneOutcome → (s : RequestContext) (start : Environment) (IsOver : List Module → Environment → Type 0) → CanUnload s start IsOver → NoneIsStart IsOver start
+pub purges_end_as_at_start : requests.OneOutcome → (s : RequestContext) (start : Environment) (IsOver : List Module → Environment → Type 0) (IsOf : Module → Type 0) → CanUnload s start IsOver IsOf → NoneIsStart IsOver start
     → AreLoadedInOrder start → (e : Environment) (live : List Module) (o p : Result Done RequestReason) → ((l : Module) → IsAmong l live → is_module_name l.name ≡ true)
-    → IsOver live e → RequestStep s e purge o → RequestStep s start purge p → EndAlike o p
-purges_end_as_at_start outcome s start IsOver can back order e live o p spelled over step (Err reason, is, h) =
+    → ((l : Module) → IsAmong l live → IsOf l) → IsOver live e → RequestStep s e purge o → RequestStep s start purge p → EndAlike o p
+purges_end_as_at_start outcome s start IsOver IsOf can back order e live o p spelled kinds over step (Err reason, is, h) =
     let xs = list_in_order start order in absurd (let q : Err reason ≡ Ok xs.0 = is ∙ ap consistent xs.1 in cc)
-purges_end_as_at_start outcome s start IsOver can back order e live o p spelled over step (Ok first, is, (q, steps, end)) =
+purges_end_as_at_start outcome s start IsOver IsOf can back order e live o p spelled kinds over step (Ok first, is, (q, steps, end)) =
     let xs = list_in_order start order in
     let begins : loaded_in start ≡ Some first = (let same : xs.0 ≡ first = (let t : Ok first ≡ Ok xs.0 = is ∙ ap consistent xs.1 in cc) in xs.1 ∙ ap (λ (l : List Entry). Some l) same) in
     let once : are_distinct (names_of first) ≡ true = subst (λ (l : List Entry). are_distinct (names_of l) ≡ true) (same_Some xs.0 first (sym xs.1 ∙ begins)) xs.2.once in
     let n = of_all first live spelled in
-    let k = each_name s start IsOver can live live first (newest_first live) (nothing_done e) begins n.0 (record { over = over; moved = refl }) in
+    let k = each_name s start IsOver IsOf can live live first (newest_first live) (nothing_done e) begins n.0 (λ m a. kinds m (taken_live m (newest_first live) live a))
+    (record { over = over; moved = refl }) in
     let at_start : k.done.env ≡ start = back k.done.env (subst (λ (l : List Module). IsOver l k.done.env) n.1 k.way.over) in
     let r = each_alike s (reverse (names_of first)) (nothing_done start) k.done q at_start steps in
     let all = each_join s (newest_first live) (reverse (names_of first)) (nothing_done e) k.done r.result k.steps r.step in
@@ -283,10 +284,10 @@ alike_back (Ok done) d alike = (done, refl, alike)
 alike_back (Err reason) d alike = absurd alike
 
 -- where nothing is loaded at the start, it leads there
-pub purges_return : requests.OneOutcome → (s : RequestContext) (start : Environment) (IsOver : List Module → Environment → Type 0) → CanUnload s start IsOver → NoneIsStart IsOver start
+pub purges_return : requests.OneOutcome → (s : RequestContext) (start : Environment) (IsOver : List Module → Environment → Type 0) (IsOf : Module → Type 0) → CanUnload s start IsOver IsOf → NoneIsStart IsOver start
     → AreLoadedInOrder start → (e : Environment) (live : List Module) (o : Result Done RequestReason) → ((l : Module) → IsAmong l live → is_module_name l.name ≡ true)
-    → IsOver live e → loaded_in start ≡ Some [] → RequestStep s e purge o → IsBack start o
-purges_return outcome s start IsOver can back order e live o spelled over begins step =
+    → ((l : Module) → IsAmong l live → IsOf l) → IsOver live e → loaded_in start ≡ Some [] → RequestStep s e purge o → IsBack start o
+purges_return outcome s start IsOver IsOf can back order e live o spelled kinds over begins step =
     let none : Ok [] ≡ consistent (loaded_in start) = sym (ap consistent begins) in
-    alike_back o (nothing_done start) (purges_end_as_at_start outcome s start IsOver can back order e live o (Ok (nothing_done start)) spelled over step
+    alike_back o (nothing_done start) (purges_end_as_at_start outcome s start IsOver IsOf can back order e live o (Ok (nothing_done start)) spelled kinds over step
     (Ok [], none, (Ok (nothing_done start), refl, (Ok [], none, refl))))

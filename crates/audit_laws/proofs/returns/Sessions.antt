@@ -73,7 +73,8 @@ session_over law site ms start e live (r ∷ rs) (o ∷ os) all over session new
 
 pub sessions_are_layered : NoneIsLayered → SiteCommandsReturn → SessionsAreLayered
 sessions_are_layered begins law site ms start rs os all order session new loads =
-    session_over law site ms start start [] rs os all (begins ms start order, λ m a. absurd a) session new loads
+    let over = session_over law site ms start start [] rs os all (begins ms start order, λ m a. absurd a) session new loads in
+    record { deterministic = all; layered = over.0; reads = over.1 }
 
 -- ---- back
 
@@ -87,7 +88,7 @@ all_new start (Unloads m ∷ ms) h =
 pub the_way_back_is_open : SessionsAreLayered → PurgesReturn → TheWayBackIsOpen
 the_way_back_is_open layers back site ms shell start rs os o all order none session loads step =
     let over = layers site ms start rs os all order session (all_new start (session_moves os) none) loads in
-    back site ms shell start (end_environment start os) (live_after [] (session_moves os)) o all over.0 over.1 none step
+    back site ms shell start (end_environment start os) (live_after [] (session_moves os)) o over none step
 
 pub the_way_back_is_there : requests.SomeOutcome → TheWayBackIsOpen → TheWayBackIsThere
 the_way_back_is_there some open_back site ms shell start rs os all order none session loads =

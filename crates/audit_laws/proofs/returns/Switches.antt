@@ -24,7 +24,7 @@ use Rattle.audit_laws.specs.returns.Unloads.{without_meant}
 use Rattle.audit_laws.specs.returns.Loads.{IsSwitchedOrForbidden}
 use Rattle.audit_laws.specs.returns.Laws.{SwitchesAreAccepted}
 use Rattle.audit_laws.proofs.returns.LoadEntry.{site_path}
-use Rattle.audit_laws.proofs.returns.Unloads.{one_name}
+use Rattle.audit_laws.proofs.returns.Unloads.{one_name, IsAny}
 use Rattle.audit_laws.proofs.returns.OneUnload.{IsSiteLayered, site_unloads}
 use Rattle.audit_laws.proofs.returns.Loads as Loads
 use Rattle.audit_laws.proofs.returns.Loads.{LoadEnd, same, loads, forbidden, load_context, found_script, file_loads, found_loads, name_loads}
@@ -59,10 +59,13 @@ switches_so s e before xs old new d r unloads list step (forbidden reason may) =
 }
 
 pub switches_are_accepted : Loads.Laws → files.OneOutcome → CertifiedMovesPreserve → SwitchesAreAccepted
-switches_are_accepted laws one preserve site ms shell start e live first c old new m o all layered alike begins of certain agrees same_name same_path finds step =
+switches_are_accepted laws one preserve site ms shell start e live first c old new m o live_over begins of certain agrees same_name same_path finds step =
     let s = in_shell (over_site site) shell in
+    let all = live_over.deterministic in
+    let layered = live_over.layered in
+    let alike = live_over.reads in
     let can = site_unloads one laws.allows laws.tested preserve site ms shell start all in
-    let u = one_name s true start (IsSiteLayered site ms start) can live live first (old_name old new) (nothing_done e) begins of.0 of.1
+    let u = one_name s true start (IsSiteLayered site ms start) IsAny can live live first (old_name old new) (nothing_done e) begins of.0 of.1 (λ l h. tt)
     (record { over = (layered, alike); moved = refl }) in
     let left = without_meant (old_name old new) live in
     let now = u.way.over in

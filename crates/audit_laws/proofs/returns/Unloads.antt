@@ -1,10 +1,11 @@
 -- Unloads of names that are of live modules come to their end, where each live module can be unloaded.
 use Rattle.std.proofs.Common.{◌≡◌, inl, inr, ◌⊎◌, Bool, true, false, List, [], ◌∷◌, ◌++◌, map, Option, Some, None, Result, Ok, Err, refl, ap, sym, ◌∙◌, subst}
 use Rattle.std.proofs.Common.{find, reverse}
+use Rattle.std.specs.List.{cons_option}
 use Rattle.std.specs.Option.{option_map}
 use Rattle.std.proofs.lemmas.Bool.{false≢true}
 use Rattle.std.proofs.lemmas.List.{map-append, reverse-append}
-use Rattle.modulename.specs.ModuleName.{is_module_name}
+use Rattle.modulename.specs.ModuleName.{is_module_name, means}
 use Rattle.envvars.specs.Texts.{Text}
 use Rattle.envvars.specs.Environment.{Environment}
 use Rattle.envstate.specs.loaded_list.Loaded.{Entry, names_of, loaded_in}
@@ -22,7 +23,7 @@ use Rattle.requests.specs.Steps.{RequestStep}
 use Rattle.search.specs.Reasons.{bad_name}
 use Rattle.audit_certificate.specs.RecordUses.{IsAmong}
 use Rattle.audit_certificate.proofs.UsedLemmas.{by_test, by_cases}
-use Rattle.audit_laws.specs.returns.Unloads.{means_one, without_meant, without_all, AreOfLive, EndsUnlessNeeded, IsAcceptedOrNeeded, IsBack}
+use Rattle.audit_laws.specs.returns.Unloads.{means_one, without_meant, without_all, taken_by, AreOfLive, EndsUnlessNeeded, IsAcceptedOrNeeded, IsBack}
 use Rattle.audit_laws.proofs.returns.MeantNames.{means_itself, is_meant, none_meant}
 
 -- ---- one live module
@@ -36,11 +37,34 @@ pub record UnloadsLive (s : RequestContext) (in_switch : Bool) (IsOver : List Mo
   pub name : unloaded.name ≡ l.name
   pub moves : done.moves ≡ d.moves ++ Unloads unloaded ∷ []
 
--- each live module can be unloaded
-pub record CanUnload (s : RequestContext) (start : Environment) (IsOver : List Module → Environment → Type 0) : Type 0 where
+-- each live module of this kind can be unloaded
+pub record CanUnload (s : RequestContext) (start : Environment) (IsOver : List Module → Environment → Type 0) (IsOf : Module → Type 0) : Type 0 where
   pub entries : (live : List Module) (e : Environment) (first : List Entry) → loaded_in start ≡ Some first → IsOver live e → loaded_in e ≡ Some (entries_over first live)
-  pub unloads : (in_switch : Bool) (live : List Module) (first : List Entry) (l : Module) (typed : Text) (d : Done) → IsOver live d.env → live_named l.name live ≡ Some l
+  pub unloads : (in_switch : Bool) (live : List Module) (first : List Entry) (l : Module) (typed : Text) (d : Done) → IsOver live d.env → IsOf l → live_named l.name live ≡ Some l
       → loaded_in d.env ≡ Some (entries_over first live) → UnloadsLive s in_switch IsOver live l typed d (entries_over first live)
+
+-- a module of any kind
+abbrev pub IsAny : Module → Type 0
+IsAny l = Unit {0}
+
+-- what the names take is of this kind
+abbrev pub AreTakenOf : (Module → Type 0) → List Text → List Module → Type 0
+AreTakenOf IsOf names live = (m : Module) → IsAmong m (taken_by names live) → IsOf m
+
+-- so is what a name means
+abbrev pub IsMeantOf : (Module → Type 0) → Text → List Module → Type 0
+IsMeantOf IsOf name live = (m : Module) → find (λ x. means name x.name) live ≡ Some m → IsOf m
+
+cons_among : (m : Module) (o : Option Module) (rest : List Module) → IsAmong m rest → IsAmong m (cons_option o rest)
+cons_among m None rest a = a
+cons_among m (Some x) rest a = inr a
+
+meant_of : (IsOf : Module → Type 0) (name : Text) (names : List Text) (live : List Module) → AreTakenOf IsOf (name ∷ names) live → IsMeantOf IsOf name live
+meant_of IsOf name names live of m h =
+    of m (subst (λ (o : Option Module). IsAmong m (cons_option o (taken_by names (without_meant name live)))) (sym h) (inl refl))
+
+later_of : (IsOf : Module → Type 0) (name : Text) (names : List Text) (live : List Module) → AreTakenOf IsOf (name ∷ names) live → AreTakenOf IsOf names (without_meant name live)
+later_of IsOf name names live of m a = of m (cons_among m (find (λ x. means name x.name) live) (taken_by names (without_meant name live)) a)
 
 -- the live modules after one more unload
 live_after_more : (live : List Module) (ms : List Move) (m : Module) → live_after live (ms ++ Unloads m ∷ []) ≡ without_live m.name (live_after live ms)
@@ -75,13 +99,13 @@ named_step s in_switch name d done xs x list spelled meant step = (
       (subst (λ (o : Option Entry). UnloadsMeant s in_switch name d xs o (Ok done)) (sym meant) step),
 )
 
-live_name : (s : RequestContext) (in_switch : Bool) (start : Environment) (IsOver : List Module → Environment → Type 0) → CanUnload s start IsOver → (before now : List Module) (first : List Entry) (name : Text) (d : Done)
-    → loaded_in start ≡ Some first → is_module_name name ≡ true → IsPartWay IsOver before now d → means_one name now ≡ true
+live_name : (s : RequestContext) (in_switch : Bool) (start : Environment) (IsOver : List Module → Environment → Type 0) (IsOf : Module → Type 0) → CanUnload s start IsOver IsOf → (before now : List Module) (first : List Entry) (name : Text) (d : Done)
+    → loaded_in start ≡ Some first → is_module_name name ≡ true → IsPartWay IsOver before now d → IsMeantOf IsOf name now → means_one name now ≡ true
     → UnloadsOneName s in_switch IsOver before (without_meant name now) name d
-live_name s in_switch start IsOver can before now first name d begins spelled way t =
+live_name s in_switch start IsOver IsOf can before now first name d begins spelled way kind t =
     let list = can.entries now d.env first begins way.over in
     let k = is_meant name first now t in
-    let u = can.unloads in_switch now first k.found_module name d way.over k.found list in
+    let u = can.unloads in_switch now first k.found_module name d way.over (kind k.found_module k.newest) k.found list in
     record {
       done = u.done;
       step = named_step s in_switch name d u.done (entries_over first now) (Some (entry_of k.found_module)) list spelled k.last u.step;
@@ -91,10 +115,10 @@ live_name s in_switch start IsOver can before now first name d begins spelled wa
       };
     }
 
-no_name : (s : RequestContext) (in_switch : Bool) (start : Environment) (IsOver : List Module → Environment → Type 0) → CanUnload s start IsOver → (before now : List Module) (first : List Entry) (name : Text) (d : Done)
+no_name : (s : RequestContext) (in_switch : Bool) (start : Environment) (IsOver : List Module → Environment → Type 0) (IsOf : Module → Type 0) → CanUnload s start IsOver IsOf → (before now : List Module) (first : List Entry) (name : Text) (d : Done)
     → loaded_in start ≡ Some first → is_module_name name ≡ true → IsPartWay IsOver before now d → means_one name now ≡ false → last_meant name first ≡ None
     → UnloadsOneName s in_switch IsOver before (without_meant name now) name d
-no_name s in_switch start IsOver can before now first name d begins spelled way f none =
+no_name s in_switch start IsOver IsOf can before now first name d begins spelled way f none =
     let list = can.entries now d.env first begins way.over in
     let k = none_meant name first now f in
     record {
@@ -103,14 +127,14 @@ no_name s in_switch start IsOver can before now first name d begins spelled way 
       way = subst (λ (l : List Module). IsPartWay IsOver before l d) (sym k.1) way;
     }
 
-pub one_name : (s : RequestContext) (in_switch : Bool) (start : Environment) (IsOver : List Module → Environment → Type 0) → CanUnload s start IsOver → (before now : List Module) (first : List Entry) (name : Text) (d : Done)
-    → loaded_in start ≡ Some first → is_module_name name ≡ true → (means_one name now ≡ true) ⊎ (last_meant name first ≡ None) → IsPartWay IsOver before now d
+pub one_name : (s : RequestContext) (in_switch : Bool) (start : Environment) (IsOver : List Module → Environment → Type 0) (IsOf : Module → Type 0) → CanUnload s start IsOver IsOf → (before now : List Module) (first : List Entry) (name : Text) (d : Done)
+    → loaded_in start ≡ Some first → is_module_name name ≡ true → (means_one name now ≡ true) ⊎ (last_meant name first ≡ None) → IsMeantOf IsOf name now → IsPartWay IsOver before now d
     → UnloadsOneName s in_switch IsOver before (without_meant name now) name d
-one_name s in_switch start IsOver can before now first name d begins spelled of way = by_test (means_one name now) _
-    (λ t. live_name s in_switch start IsOver can before now first name d begins spelled way t)
+one_name s in_switch start IsOver IsOf can before now first name d begins spelled of kind way = by_test (means_one name now) _
+    (λ t. live_name s in_switch start IsOver IsOf can before now first name d begins spelled way kind t)
     (λ f. by_cases of
     (λ t. absurd (false≢true (sym f ∙ t)))
-    (λ none. no_name s in_switch start IsOver can before now first name d begins spelled way f none))
+    (λ none. no_name s in_switch start IsOver IsOf can before now first name d begins spelled way f none))
 
 -- ---- names
 
@@ -119,13 +143,40 @@ pub record UnloadsNames (s : RequestContext) (IsOver : List Module → Environme
   pub steps : Each (UnloadsName s false) names d (Ok done)
   pub way : IsPartWay IsOver before left done
 
-pub each_name : (s : RequestContext) (start : Environment) (IsOver : List Module → Environment → Type 0) → CanUnload s start IsOver → (before now : List Module) (first : List Entry) (names : List Text) (d : Done)
-    → loaded_in start ≡ Some first → AreOfLive first names now → IsPartWay IsOver before now d → UnloadsNames s IsOver before (without_all names now) names d
-each_name s start IsOver can before now first [] d begins of way = record { done = d; steps = refl; way = way }
-each_name s start IsOver can before now first (name ∷ names) d begins of way =
-    let k = one_name s false start IsOver can before now first name d begins of.0 of.1 way in
-    let r = each_name s start IsOver can before (without_meant name now) first names k.done begins of.2 k.way in
+pub each_name : (s : RequestContext) (start : Environment) (IsOver : List Module → Environment → Type 0) (IsOf : Module → Type 0) → CanUnload s start IsOver IsOf → (before now : List Module) (first : List Entry) (names : List Text) (d : Done)
+    → loaded_in start ≡ Some first → AreOfLive first names now → AreTakenOf IsOf names now → IsPartWay IsOver before now d → UnloadsNames s IsOver before (without_all names now) names d
+each_name s start IsOver IsOf can before now first [] d begins of kinds way = record { done = d; steps = refl; way = way }
+each_name s start IsOver IsOf can before now first (name ∷ names) d begins of kinds way =
+    let k = one_name s false start IsOver IsOf can before now first name d begins of.0 of.1 (meant_of IsOf name names now kinds) way in
+    let r = each_name s start IsOver IsOf can before (without_meant name now) first names k.done begins of.2 (later_of IsOf name names now kinds) k.way in
     record { done = r.done; steps = (Ok k.done, k.step, r.steps); way = r.way }
+
+-- ---- what names take
+
+found_among : {X : Type 0} (p : X → Bool) (xs : List X) (x : X) → find p xs ≡ Some x → IsAmong x xs × (p x ≡ true)
+found_among p [] x h = absurd (cc)
+found_among {X} p (y ∷ xs) x h = by_test (p y) _
+    (λ t. let k : Some y ≡ Some x = rw t at h in let e : y ≡ x = cc in (inl (sym e), subst (λ (z : X). p z ≡ true) e t))
+    (λ f. let k = found_among p xs x (rw f at h) in (inr k.0, k.1))
+
+-- it is live
+either_of : (m : Module) (o : Option Module) (rest : List Module) → IsAmong m (cons_option o rest) → (o ≡ Some m) ⊎ IsAmong m rest
+either_of m None rest a = inr a
+either_of m (Some x) rest (inl e) = inl (ap (λ (k : Module). Some k) (sym e))
+either_of m (Some x) rest (inr a) = inr a
+
+left_live : (m : Module) (name : Text) (live : List Module) → IsAmong m (without_meant name live) → IsAmong m live
+left_live m name [] a = a
+left_live m name (x ∷ live) a = by_test (means name x.name) _
+    (λ t. inr (rw t at a))
+    (λ f. by_cases (rw f at a) (λ e. inl e) (λ k. inr (left_live m name live k)))
+
+pub taken_live : (m : Module) (names : List Text) (live : List Module) → IsAmong m (taken_by names live) → IsAmong m live
+taken_live m [] live a = absurd a
+taken_live m (name ∷ names) live a =
+    by_cases (either_of m (find (λ x. means name x.name) live) (taken_by names (without_meant name live)) a)
+    (λ h. (found_among (λ x. means name x.name) live m h).0)
+    (λ k. left_live m name live (taken_live m names (without_meant name live) k))
 
 -- ---- the request
 
@@ -138,10 +189,10 @@ record EndsSo (s : RequestContext) (IsOver : List Module → Environment → Typ
   steps : Then (Each (UnloadsName s false) names (nothing_done e)) (EndsRequest (entries_over first live))
       (unless (end_objection (entries_over first live) (entries_over first left)) (Ok done))
 
-ends_so : (s : RequestContext) (start : Environment) (IsOver : List Module → Environment → Type 0) → CanUnload s start IsOver → (e : Environment) (first : List Entry) (live : List Module) (names : List Text)
-    → IsOver live e → loaded_in start ≡ Some first → AreOfLive first names live → EndsSo s IsOver e first live (without_all names live) names
-ends_so s start IsOver can e first live names over begins of =
-    let r = each_name s start IsOver can live live first names (nothing_done e) begins of (record { over = over; moved = refl }) in
+ends_so : (s : RequestContext) (start : Environment) (IsOver : List Module → Environment → Type 0) (IsOf : Module → Type 0) → CanUnload s start IsOver IsOf → (e : Environment) (first : List Entry) (live : List Module) (names : List Text)
+    → IsOver live e → loaded_in start ≡ Some first → AreOfLive first names live → AreTakenOf IsOf names live → EndsSo s IsOver e first live (without_all names live) names
+ends_so s start IsOver IsOf can e first live names over begins of kinds =
+    let r = each_name s start IsOver IsOf can live live first names (nothing_done e) begins of kinds (record { over = over; moved = refl }) in
     let left = without_all names live in
     record {
       done = r.done;
@@ -151,12 +202,12 @@ ends_so s start IsOver can e first live names over begins of =
       steps = (Ok r.done, r.steps, (Ok (entries_over first left), sym (ap consistent (can.entries left r.done.env first begins r.way.over)), refl));
     }
 
-pub unloads_end : requests.OneOutcome → (s : RequestContext) (start : Environment) (IsOver : List Module → Environment → Type 0) → CanUnload s start IsOver
+pub unloads_end : requests.OneOutcome → (s : RequestContext) (start : Environment) (IsOver : List Module → Environment → Type 0) (IsOf : Module → Type 0) → CanUnload s start IsOver IsOf
     → (e : Environment) (first : List Entry) (live : List Module) (name : Text) (names : List Text) (o : Result Done RequestReason)
-    → IsOver live e → loaded_in start ≡ Some first → AreOfLive first (name ∷ names) live → RequestStep s e (unload (name ∷ names)) o
+    → IsOver live e → loaded_in start ≡ Some first → AreOfLive first (name ∷ names) live → AreTakenOf IsOf (name ∷ names) live → RequestStep s e (unload (name ∷ names)) o
     → EndsUnlessNeeded IsOver first live (without_all (name ∷ names) live) o
-unloads_end outcome s start IsOver can e first live name names o over begins of step =
-    let k = ends_so s start IsOver can e first live (name ∷ names) over begins of in
+unloads_end outcome s start IsOver IsOf can e first live name names o over begins of kinds step =
+    let k = ends_so s start IsOver IsOf can e first live (name ∷ names) over begins of kinds in
     record {
       done = k.done;
       over = k.over;
@@ -171,23 +222,18 @@ ends_over P Q first live left o f k = record { done = k.done; over = f left k.do
 
 -- ---- what can object at the end
 
-found_among : {X : Type 0} (p : X → Bool) (xs : List X) (x : X) → find p xs ≡ Some x → IsAmong x xs × (p x ≡ true)
-found_among p [] x h = absurd (cc)
-found_among {X} p (y ∷ xs) x h = by_test (p y) _
-    (λ t. let k : Some y ≡ Some x = rw t at h in let e : y ≡ x = cc in (inl (sym e), subst (λ (z : X). p z ≡ true) e t))
-    (λ f. let k = found_among p xs x (rw f at h) in (inr k.0, k.1))
-
 objected : (IsOver : List Module → Environment → Type 0) (first : List Entry) (live left : List Module) (o : Result Done RequestReason) (done : Done) (x : Option Entry)
     → find (has_lost (entries_over first live) (entries_over first left)) (entries_over first left) ≡ x → IsOver left done.env
-    → o ≡ unless (option_map (λ y. still_needed_by y.name) x) (Ok done) → IsAcceptedOrNeeded IsOver first live left o
-objected IsOver first live left o done None h over e = inl (done, over, e)
-objected IsOver first live left o done (Some x) h over e =
-    let k = found_among (has_lost (entries_over first live) (entries_over first left)) (entries_over first left) x h in inr (x, k.0, k.1, e)
+    → live_after live done.moves ≡ left → o ≡ unless (option_map (λ y. still_needed_by y.name) x) (Ok done) → IsAcceptedOrNeeded IsOver first live left o
+objected IsOver first live left o done None h over moved e = subst (IsAcceptedOrNeeded IsOver first live left) (sym e) (over, moved)
+objected IsOver first live left o done (Some x) h over moved e =
+    let k = found_among (has_lost (entries_over first live) (entries_over first left)) (entries_over first left) x h in
+    subst (IsAcceptedOrNeeded IsOver first live left) (sym e) (x, k.0, k.1, refl)
 
 pub accepted_or_needed : (IsOver : List Module → Environment → Type 0) (first : List Entry) (live left : List Module) (o : Result Done RequestReason)
     → EndsUnlessNeeded IsOver first live left o → IsAcceptedOrNeeded IsOver first live left o
 accepted_or_needed IsOver first live left o k =
-    objected IsOver first live left o k.done (find (has_lost (entries_over first live) (entries_over first left)) (entries_over first left)) refl k.over k.outcome
+    objected IsOver first live left o k.done (find (has_lost (entries_over first live) (entries_over first left)) (entries_over first left)) refl k.over k.moved k.outcome
 
 -- ---- back to the start
 

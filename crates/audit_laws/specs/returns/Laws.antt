@@ -19,8 +19,11 @@ use Rattle.requests.specs.Requests.{Request, load, unload, switch, purge}
 use Rattle.requests.specs.Conditions.{has_lost}
 use Rattle.requests.specs.Steps.{RequestContext, Done, nothing_done, RequestStep, Finds, last_meant, UnloadsName, old_name}
 use Rattle.requests.specs.Sessions.{Response, Session, in_shell, end_environment, session_moves}
-use Rattle.requests.specs.Returning.{AreNew}
+use Rattle.requests.specs.Returning.{AreNew, AreReversibleBeside}
 use Rattle.requests.specs.PlainRuns.{HasEvaluatedTo, IsPlain}
+use Rattle.requests.specs.JudgedRuns.{IsJudgedPlain}
+use Rattle.requests.specs.hand_changes.Events.{Event, moves_of, EventsReach}
+use Rattle.requests.specs.hand_changes.Laws.{answered_moves, ResponseMakes}
 use Rattle.search.specs.Found.{FoundModule}
 use Rattle.audit_certificate.specs.RecordUses.{used_by, IsAmong}
 use Rattle.audit_certificate.specs.Candidates.{Candidate, as_module}
@@ -29,7 +32,8 @@ use Rattle.audit_certificate.specs.Certificates.{IsCertified, certified, AgreesW
 use Rattle.audit_certificate.specs.Laws.{AreLayered}
 use Rattle.audit_laws.specs.site.Sites.{Site, over_site, ReadsEquivalently, candidate_file}
 use Rattle.audit_laws.specs.site.Laws.{AreDeterministic, LoadsAreOf, AreReadEquivalently}
-use Rattle.audit_laws.specs.returns.Unloads.{without_all, AreOfLive, AreNamesOf, without_named, EndsUnlessNeeded, IsAcceptedOrNeeded, IsBack, EndAlike}
+use Rattle.audit_laws.specs.returns.Unloads.{without_all, taken_by, AreOfLive, AreNamesOf, without_named}
+use Rattle.audit_laws.specs.returns.Unloads.{EndsUnlessNeeded, IsAcceptedOrNeeded, IsBack, EndAlike}
 use Rattle.audit_laws.specs.returns.Unloads.{IsPlainlyLoaded, ArePlainlyLoaded}
 use Rattle.audit_laws.specs.returns.Loads.{IsAcceptedOrForbidden, IsSwitchedOrForbidden}
 
@@ -52,6 +56,20 @@ NamesOfLive =
 
 -- ---- certified modules
 
+-- Certified modules of a site are live over a start. What they read has in the start the values of the audit.
+pub record AreLiveOver (site : Site) (ms : List Candidate) (start : Environment) (live : List Module) (e : Environment)
+    : Type 0 where
+  pub deterministic : AreDeterministic site ms
+  pub layered : AreLayered ms start live e
+  pub reads : AreReadEquivalently site start live
+
+-- An unload of these names, in this shell, has this outcome where such modules are live over a start with these entries.
+pub record IsUnloadOver (site : Site) (ms : List Candidate) (shell : Shell) (start e : Environment) (live : List Module)
+    (first : List Entry) (names : List Text) (o : Result Done RequestReason) : Type 0 where
+  pub over : AreLiveOver site ms start live e
+  pub loaded : loaded_in start ≡ Some first
+  pub step : RequestStep (in_shell (over_site site) shell) e (unload names) o
+
 -- An unload of live certified modules runs to its end, in any shell: neither a file nor an edit is refused. The modules
 -- that it leaves live are known beforehand, and so is its outcome: it is accepted, unless a module that stays loaded has
 -- lost what it needs.
@@ -59,9 +77,7 @@ abbrev pub UnloadsEnd : Type 0
 UnloadsEnd =
     (site : Site) (ms : List Candidate) (shell : Shell) (start e : Environment) (live : List Module) (first : List Entry)
     (name : Text) (names : List Text) (o : Result Done RequestReason)
-    → AreDeterministic site ms → AreLayered ms start live e → AreReadEquivalently site start live
-    → loaded_in start ≡ Some first → AreOfLive first (name ∷ names) live
-    → RequestStep (in_shell (over_site site) shell) e (unload (name ∷ names)) o
+    → IsUnloadOver site ms shell start e live first (name ∷ names) o → AreOfLive first (name ∷ names) live
     → EndsUnlessNeeded (AreLayered ms start) first live (without_all (name ∷ names) live) o
 
 -- So every outcome of such an unload is one of two: it is accepted, or it is refused since a module that stays loaded
@@ -70,9 +86,7 @@ abbrev pub UnloadsAreAccepted : Type 0
 UnloadsAreAccepted =
     (site : Site) (ms : List Candidate) (shell : Shell) (start e : Environment) (live : List Module) (first : List Entry)
     (name : Text) (names : List Text) (o : Result Done RequestReason)
-    → AreDeterministic site ms → AreLayered ms start live e → AreReadEquivalently site start live
-    → loaded_in start ≡ Some first → AreOfLive first (name ∷ names) live
-    → RequestStep (in_shell (over_site site) shell) e (unload (name ∷ names)) o
+    → IsUnloadOver site ms shell start e live first (name ∷ names) o → AreOfLive first (name ∷ names) live
     → IsAcceptedOrNeeded (AreLayered ms start) first live (without_all (name ∷ names) live) o
 
 -- This holds for the names of live modules, each once and in any order, if no name means another live module. The live
@@ -81,9 +95,7 @@ abbrev pub NamedUnloadsAreAccepted : Type 0
 NamedUnloadsAreAccepted =
     (site : Site) (ms : List Candidate) (shell : Shell) (start e : Environment) (live : List Module) (first : List Entry)
     (name : Text) (names : List Text) (o : Result Done RequestReason)
-    → AreDeterministic site ms → AreLayered ms start live e → AreReadEquivalently site start live
-    → loaded_in start ≡ Some first → AreNamesOf (name ∷ names) live
-    → RequestStep (in_shell (over_site site) shell) e (unload (name ∷ names)) o
+    → IsUnloadOver site ms shell start e live first (name ∷ names) o → AreNamesOf (name ∷ names) live
     → IsAcceptedOrNeeded (AreLayered ms start) first live (without_named (name ∷ names) live) o
 
 -- An unload that leaves nothing live is accepted and leads to the start, if no module of the start loses what it needs.
@@ -91,18 +103,17 @@ abbrev pub UnloadsOfAllReturn : Type 0
 UnloadsOfAllReturn =
     (site : Site) (ms : List Candidate) (shell : Shell) (start e : Environment) (live : List Module) (first : List Entry)
     (name : Text) (names : List Text) (o : Result Done RequestReason)
-    → AreDeterministic site ms → AreLayered ms start live e → AreReadEquivalently site start live
-    → loaded_in start ≡ Some first → AreOfLive first (name ∷ names) live → without_all (name ∷ names) live ≡ []
-    → ((x : Entry) → IsAmong x first → has_lost (entries_over first live) first x ≡ false)
-    → RequestStep (in_shell (over_site site) shell) e (unload (name ∷ names)) o → IsBack start o
+    → IsUnloadOver site ms shell start e live first (name ∷ names) o → AreOfLive first (name ∷ names) live
+    → without_all (name ∷ names) live ≡ []
+    → ((x : Entry) → IsAmong x first → has_lost (entries_over first live) first x ≡ false) → IsBack start o
 
 -- If no module is loaded at the start, every outcome of `purge` is accepted and leads to the start.
 abbrev pub PurgesReturn : Type 0
 PurgesReturn =
     (site : Site) (ms : List Candidate) (shell : Shell) (start e : Environment) (live : List Module)
     (o : Result Done RequestReason)
-    → AreDeterministic site ms → AreLayered ms start live e → AreReadEquivalently site start live
-    → loaded_in start ≡ Some [] → RequestStep (in_shell (over_site site) shell) e purge o → IsBack start o
+    → AreLiveOver site ms start live e → loaded_in start ≡ Some []
+    → RequestStep (in_shell (over_site site) shell) e purge o → IsBack start o
 
 -- Over any start `purge` ends as it would at the start: accepted in the same environment, or refused for the same reason.
 -- It unloads the modules of the start too, so only these can refuse it.
@@ -110,9 +121,8 @@ abbrev pub PurgesEndAsAtStart : Type 0
 PurgesEndAsAtStart =
     (site : Site) (ms : List Candidate) (shell : Shell) (start e : Environment) (live : List Module)
     (o p : Result Done RequestReason)
-    → AreDeterministic site ms → AreLayered ms start live e → AreReadEquivalently site start live
-    → RequestStep (in_shell (over_site site) shell) e purge o → RequestStep (in_shell (over_site site) shell) start purge p
-    → EndAlike o p
+    → AreLiveOver site ms start live e → RequestStep (in_shell (over_site site) shell) e purge o
+    → RequestStep (in_shell (over_site site) shell) start purge p → EndAlike o p
 
 -- ---- sessions
 
@@ -124,8 +134,7 @@ SessionsAreLayered =
     (site : Site) (ms : List Candidate) (start : Environment) (rs : List Request) (os : List Response)
     → AreDeterministic site ms → AreLoadedInOrder start → Session (over_site site) start rs os
     → AreNew start (session_moves os) → LoadsAreOf site (certified ms) start (session_moves os)
-    → AreLayered ms start (live_after [] (session_moves os)) (end_environment start os)
-    × AreReadEquivalently site start (live_after [] (session_moves os))
+    → AreLiveOver site ms start (live_after [] (session_moves os)) (end_environment start os)
 
 -- The way back is always open. Take a start with no module loaded, and any such session, whatever was refused or failed in
 -- it. At its end every outcome of `purge`, in any shell, is accepted and leads to the start.
@@ -168,8 +177,7 @@ abbrev pub SwitchesAreAccepted : Type 0
 SwitchesAreAccepted =
     (site : Site) (ms : List Candidate) (shell : Shell) (start e : Environment) (live : List Module) (first : List Entry)
     (c : Candidate) (old : Option Text) (new : Text) (m : FoundModule) (o : Result Done RequestReason)
-    → AreDeterministic site ms → AreLayered ms start live e → AreReadEquivalently site start live
-    → loaded_in start ≡ Some first → AreOfLive first (old_name old new ∷ []) live
+    → AreLiveOver site ms start live e → loaded_in start ≡ Some first → AreOfLive first (old_name old new ∷ []) live
     → IsCertified ms c → AgreesWith (used_by c.records) start → m.name ≡ c.name → m.path ≡ c.path
     → ((d : Done) → UnloadsName (in_shell (over_site site) shell) true (old_name old new) (nothing_done e) (Ok d)
     → Finds (in_shell (over_site site) shell) d.env new (Ok m) × ReadsEquivalently site d.env (candidate_file c))
@@ -187,36 +195,58 @@ ReadsAreOfStart =
 
 -- ---- plain modules
 
--- A module whose file is plain, as one that is judged plain, has the records of every accepted evaluation of its file. So
--- one that was loaded by such an evaluation is plainly loaded.
+-- Modules that are reversible and apart are live over a start, which is in order by their uses of variables.
+pub record AreReversibleOver (uses : Text → VariableUse) (start : Environment) (live : List Module) (e : Environment)
+    : Type 0 where
+  pub begins : IsStart uses start
+  pub order : IsInOrder uses e
+  pub start_with_live : IsStartWith uses start live e
+  pub fit : AreReversibleTogether uses live
+
+-- A module with a plain file is plainly loaded if its records are those of an accepted evaluation of this file.
 abbrev pub PlainModulesLoadPlainly : Type 0
 PlainModulesLoadPlainly =
     (s : RequestContext) (m : Module) (ran : Ran) → IsPlain s m.name m.path → HasEvaluatedTo s m.name m.path ran
     → m.records ≡ ran.records → IsPlainlyLoaded s m
 
--- The laws of unloads and of `purge`, without a site: the files of the live modules ask nothing, and these are reversible
--- and apart, over a start in order by their uses of variables.
+-- An unload of plain modules runs to its end. They are live beside others, of whose files nothing is asked.
 abbrev pub PlainUnloadsEnd : Type 0
 PlainUnloadsEnd =
     (uses : Text → VariableUse) (s : RequestContext) (start e : Environment) (live : List Module) (first : List Entry)
     (name : Text) (names : List Text) (o : Result Done RequestReason)
-    → IsStart uses start → IsInOrder uses e → IsStartWith uses start live e → AreReversibleTogether uses live
-    → ArePlainlyLoaded s live → loaded_in start ≡ Some first → AreOfLive first (name ∷ names) live
-    → RequestStep s e (unload (name ∷ names)) o
+    → AreReversibleOver uses start live e → loaded_in start ≡ Some first → AreOfLive first (name ∷ names) live
+    → ArePlainlyLoaded s (taken_by (name ∷ names) live) → RequestStep s e (unload (name ∷ names)) o
     → EndsUnlessNeeded (Holds uses start) first live (without_all (name ∷ names) live) o
 
+-- So every outcome of such an unload is accepted, or refused since a module that stays loaded would lose what it needs.
 abbrev pub PlainUnloadsAreAccepted : Type 0
 PlainUnloadsAreAccepted =
     (uses : Text → VariableUse) (s : RequestContext) (start e : Environment) (live : List Module) (first : List Entry)
     (name : Text) (names : List Text) (o : Result Done RequestReason)
-    → IsStart uses start → IsInOrder uses e → IsStartWith uses start live e → AreReversibleTogether uses live
-    → ArePlainlyLoaded s live → loaded_in start ≡ Some first → AreOfLive first (name ∷ names) live
-    → RequestStep s e (unload (name ∷ names)) o
+    → AreReversibleOver uses start live e → loaded_in start ≡ Some first → AreOfLive first (name ∷ names) live
+    → ArePlainlyLoaded s (taken_by (name ∷ names) live) → RequestStep s e (unload (name ∷ names)) o
     → IsAcceptedOrNeeded (Holds uses start) first live (without_all (name ∷ names) live) o
 
+-- If no module is loaded at the start and all live ones are plain, every outcome of `purge` is accepted and leads to the
+-- start.
 abbrev pub PlainPurgesReturn : Type 0
 PlainPurgesReturn =
     (uses : Text → VariableUse) (s : RequestContext) (start e : Environment) (live : List Module)
     (o : Result Done RequestReason)
-    → IsStart uses start → IsInOrder uses e → IsStartWith uses start live e → AreReversibleTogether uses live
-    → ArePlainlyLoaded s live → loaded_in start ≡ Some [] → RequestStep s e purge o → IsBack start o
+    → AreReversibleOver uses start live e → ArePlainlyLoaded s live → loaded_in start ≡ Some []
+    → RequestStep s e purge o → IsBack start o
+
+-- A session of requests with changes by hand between them loads new modules that are reversible and apart. At its end the
+-- unload of live modules that were judged plain has such an outcome. Nothing is asked of the files of the others.
+abbrev pub JudgedUnloadsAreAccepted : Type 0
+JudgedUnloadsAreAccepted =
+    (uses : Text → VariableUse) (s : RequestContext) (start last_start last : Environment)
+    (events : List (Event (Request × Response))) (live : List Module) (first : List Entry) (shell : Shell) (name : Text)
+    (names : List Text) (o : Result Done RequestReason)
+    → IsStart uses start → EventsReach answered_moves (ResponseMakes s) uses start events last_start last
+    → AreNew start (moves_of answered_moves events) → AreReversibleBeside uses [] (moves_of answered_moves events)
+    → live ≡ live_after [] (moves_of answered_moves events) → loaded_in last_start ≡ Some first
+    → AreOfLive first (name ∷ names) live
+    → ((m : Module) → IsAmong m (taken_by (name ∷ names) live) → IsJudgedPlain s m.name m.path)
+    → RequestStep (in_shell s shell) last (unload (name ∷ names)) o
+    → IsAcceptedOrNeeded (Holds uses last_start) first live (without_all (name ∷ names) live) o

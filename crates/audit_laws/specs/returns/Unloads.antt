@@ -1,6 +1,6 @@
 -- What an unload leaves live, and how it ends (own; `unload` and `purge` of module(1)).
-use Rattle.std.specs.Prelude.{◌≡◌, ◌⊎◌, Bool, true, not, List, [], ◌∷◌, filter, if◌then◌else◌, None, Result, Ok, Err}
-use Rattle.std.specs.List.{list_any}
+use Rattle.std.specs.Prelude.{◌≡◌, ◌⊎◌, Bool, true, not, List, [], ◌∷◌, filter, find, if◌then◌else◌, None, Result, Ok, Err}
+use Rattle.std.specs.List.{list_any, cons_option}
 use Rattle.modulename.specs.ModuleName.{is_module_name, means}
 use Rattle.envvars.specs.Texts.{Text, has}
 use Rattle.envvars.specs.Fields.{are_distinct}
@@ -34,6 +34,12 @@ abbrev pub without_all : List Text → List Module → List Module
 without_all [] live = live
 without_all (name ∷ names) live = without_all names (without_meant name live)
 
+-- The live modules that unloads of these names take, one after another: for each name the newest that it means then, if
+-- any is meant.
+abbrev pub taken_by : List Text → List Module → List Module
+taken_by [] live = []
+taken_by (name ∷ names) live = cons_option (find (λ m. means name m.name) live) (taken_by names (without_meant name live))
+
 -- Unloads of these names, one after another, take only live modules. Each name is well spelled. In its turn it means a
 -- live module, or it means none of those that are loaded at the start, which has these entries.
 abbrev pub AreOfLive : List Entry → List Text → List Module → Type 0
@@ -64,14 +70,19 @@ pub record EndsUnlessNeeded (IsOver : List Module → Environment → Type 0) (f
   pub moved : live_after live done.moves ≡ left
   pub outcome : o ≡ unless (end_objection (entries_over first live) (entries_over first left)) (Ok done)
 
+-- A module that stays loaded would lose what it needs: one of its prereqs is met before, and would no longer be. The
+-- modules that are live before are these, and those that are left.
+abbrev pub IsStillNeeded : List Entry → List Module → List Module → RequestReason → Type 0
+IsStillNeeded first live left reason =
+    (x : Entry) × IsAmong x (entries_over first left)
+    × (has_lost (entries_over first live) (entries_over first left) x ≡ true) × (reason ≡ still_needed_by x.name)
+
 -- The request is accepted and leaves these modules live over the start. Or it is refused, since a module that stays loaded
--- would lose what it needs: one of its prereqs is met before, and would no longer be.
+-- would lose what it needs.
 abbrev pub IsAcceptedOrNeeded : (List Module → Environment → Type 0) → List Entry → List Module → List Module
     → Result Done RequestReason → Type 0
-IsAcceptedOrNeeded IsOver first live left o =
-    ((done : Done) × IsOver left done.env × (o ≡ Ok done))
-    ⊎ ((x : Entry) × IsAmong x (entries_over first left)
-    × (has_lost (entries_over first live) (entries_over first left) x ≡ true) × (o ≡ Err (still_needed_by x.name)))
+IsAcceptedOrNeeded IsOver first live left (Ok done) = IsOver left done.env × (live_after live done.moves ≡ left)
+IsAcceptedOrNeeded IsOver first live left (Err reason) = IsStillNeeded first live left reason
 
 -- The request is accepted and leads to the start.
 abbrev pub IsBack : Environment → Result Done RequestReason → Type 0

@@ -4,7 +4,7 @@ ghost use Rattle.audit_laws.specs.returns.Laws.{NamesOfNoneAtStart, NamesOfLive,
 ghost use Rattle.audit_laws.specs.returns.Laws.{UnloadsOfAllReturn, PurgesReturn, SessionsAreLayered, TheWayBackIsOpen};
 ghost use Rattle.audit_laws.specs.returns.Laws.{TheWayBackIsThere, PlainModulesLoadPlainly, PurgesEndAsAtStart};
 ghost use Rattle.audit_laws.specs.returns.Laws.{LoadsAreAccepted, SwitchesAreAccepted, ReadsAreOfStart};
-ghost use Rattle.audit_laws.specs.returns.Laws.{PlainUnloadsEnd, PlainUnloadsAreAccepted, PlainPurgesReturn};
+ghost use Rattle.audit_laws.specs.returns.Laws.{PlainUnloadsEnd, PlainUnloadsAreAccepted, PlainPurgesReturn, JudgedUnloadsAreAccepted};
 
 /// An accepted file is accepted again, with the same records and messages, in a context that answers its questions the
 /// same and in which its records have their effects. `stable` is for a file whose questions have stable inputs, and
@@ -87,17 +87,22 @@ pub fn switches_are_accepted()
     crate::determinism::laws::undone();
 }
 
-/// The laws of unloads and of `purge` for plain modules, without a site. The files of the live modules ask nothing, and
-/// these are reversible and apart, over a start in order by their uses of variables. What a plain module has loaded are
-/// the records of such a file (`loaded`).
+/// The laws of unloads and of `purge` for plain modules, without a site. The live modules are reversible and apart, over a
+/// start in order by their uses of variables. Of those that are unloaded each has the records of a file that asks nothing
+/// (`end`, `accepted`). The others may ask what they want. For `purge` all are such modules (`purge`). A module with a
+/// plain file is one, if an evaluation of this file has loaded it (`loaded`). So in a session each live module that was
+/// judged plain can be unloaded, unless a module that stays loaded would lose what it needs (`judged`).
 pub fn plain_unloads_are_accepted()
     ensures end { PlainUnloadsEnd }
     ensures accepted { PlainUnloadsAreAccepted }
     ensures purge { PlainPurgesReturn }
     ensures loaded { PlainModulesLoadPlainly }
+    ensures judged { JudgedUnloadsAreAccepted }
 {
     modulefile::files();
     modulefile::plain();
     requests::outcomes();
+    requests::verdicts();
+    requests::hand_changes::laws::sessions_return();
     reversal::laws::steps();
 }
