@@ -437,14 +437,17 @@ def test_wrong_programs_are_found(program, tmp_path, around, said, note):
 
 
 class Row(losses.Row):
-    """A site, accepted commands over it, and a last one with the text that refuses it. Before the last one files change, or
-    are removed where they have no later text; and it is run in this working directory."""
+    """A site, which is audited in an environment; accepted commands over it, and a last one with the text that refuses it.
+    Before the last one files change, or are removed where they have no later text; and it is run in this working directory.
+    Without the commands that break the premise the last one is accepted."""
 
-    def __init__(self, files, stand, commands, last, start=None, reads=None, later=None, place="/"):
+    def __init__(self, files, stand, commands, last, start=None, reads=None, later=None, place="/", audit=None, breaks=None):
         super().__init__(files, stand, commands[:-1], None, start, reads)
         self.last = commands[-1], last
         self.later = later or {}
         self.place = place
+        self.audit = audit or {}
+        self.breaks = breaks or []
 
 
 # What is loaded at the start: a module without a file; and the same if it needs `a`.
@@ -478,6 +481,24 @@ ROWS = {
         "no (line 2)",
         reads={"W": "x"},
     ),
+    "a module of the start is unloaded": Row(
+        {"a/1": NO.format("[getenv W] ne {x}"), "old/1": "setenv W x\n"},
+        ["certified", "clashes"],
+        ["load a", "unload old", "unload a"],
+        "no (line 2)",
+        {**OLD, "W": "x"},
+        audit={"W": "x"},
+        breaks=["unload old"],
+    ),
+    "the start doesn't agree": Row(
+        {"a/1": "conflict b\nsetenv W x\n", "b/1": NO.format("[getenv W] ne {y} && [module-info mode unload]")},
+        ["certified"] * 2,
+        ["load a", "unload a", "load b", "unload b"],
+        "no (line 2)",
+        {"W": "y"},
+        audit={"W": "y"},
+        breaks=["load a", "unload a"],
+    ),
     "hands change what is read": Row(
         {"a/1": NO.format("[getenv W] ne {}")}, ["certified"], ["load a", "W=x", "unload a"], "no (line 2)"
     ),
@@ -507,22 +528,34 @@ def test_claims_has_each_row():
     same([name for name in ROWS if f'"{name}"' not in text], [], "the rows that CLAIMS doesn't name")
 
 
+def ends(session, row, commands):
+    """How the last command ends after these: what it prints, what it says and its status."""
+    for words in commands:
+        session.does(words)
+    for name, text in row.later.items():
+        if text is None:
+            os.remove(session.folder.at(name))
+        else:
+            session.folder.module(name, text)
+    last = row.last[0]
+    words = [os.fsdecode(session.folder.program), *(last if last.split()[0] in TYPES else f"sh {last}").split()]
+    options = {"env": session.env, "cwd": row.place, "capture_output": True, "text": True, "timeout": SECONDS}
+    done = subprocess.run(words, check=False, **options)
+    return done.stdout, done.stderr, done.returncode
+
+
 @pytest.mark.parametrize("row", ROWS.values(), ids=ROWS)
 def test_what_refuses_where_a_premise_is_missing(folder, built, monkeypatch, row):
     monkeypatch.chdir("/")
     session = losses.Session(folder, row)
-    words = [built("modaudit"), "--json", os.fsdecode(folder.modules)]
-    done = subprocess.run(words, env={}, capture_output=True, timeout=SECONDS, check=False)
+    words = [built("modaudit"), "--json", session.env["MODULEPATH"]]
+    done = subprocess.run(words, env=row.audit, capture_output=True, timeout=SECONDS, check=False)
     same([one["standing"] for one in json.loads(done.stdout)["modules"]], row.stand, "how the modules stand")
-    for words in row.commands:
-        session.does(words)
-    for name, text in row.later.items():
-        if text is None:
-            os.remove(folder.at(name))
-        else:
-            folder.module(name, text)
     last, said = row.last
-    words = [os.fsdecode(folder.program), *(last if last.split()[0] in TYPES else f"sh {last}").split()]
-    options = {"env": session.env, "cwd": row.place, "capture_output": True, "text": True, "timeout": SECONDS}
-    done = subprocess.run(words, check=False, **options)
-    same((done.stdout, done.stderr, done.returncode), ("", f"ERROR: {session.real(said)}\n", 1), f"the end of {last}")
+    same(ends(session, row, row.commands), ("", f"ERROR: {session.real(said)}\n", 1), f"the end of {last}")
+
+
+@pytest.mark.parametrize("row", [row for row in ROWS.values() if row.breaks], ids=[name for name in ROWS if ROWS[name].breaks])
+def test_only_that_premise_is_missing(folder, row):
+    _, said, status = ends(losses.Session(folder, row), row, [words for words in row.commands if words not in row.breaks])
+    same((said, status), ("", 0), f"the end of {row.last[0]} without {row.breaks}")

@@ -7,5 +7,6 @@ mod PathLemmas
 mod ReadableLemmas
 pub mod SiteCommandLemmas
 mod WayBackLemmas
+mod MomentLemmas
 mod ReportedLemmas
 mod EndLemmas

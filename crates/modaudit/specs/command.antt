@@ -9,5 +9,6 @@ pub mod Tried
 pub mod Steps
 pub mod SiteCommands
 pub mod WayBack
+pub mod Moments
 pub mod Reported
 pub mod Ends

@@ -1,10 +1,11 @@
 //! Laws of the way back. Each function does nothing: its contract is the law.
 ghost use Rattle.audit_laws.specs.returns.Files.{FilesRunAgain, PlainFilesRunAgain};
-ghost use Rattle.audit_laws.specs.returns.Laws.{NamesOfNoneAtStart, NamesOfLive, UnloadsEnd, UnloadsAreAccepted, NamedUnloadsAreAccepted};
-ghost use Rattle.audit_laws.specs.returns.Laws.{UnloadsOfAllReturn, PurgesReturn, SessionsAreLayered, TheWayBackIsOpen};
-ghost use Rattle.audit_laws.specs.returns.Laws.{TheWayBackIsThere, PlainModulesLoadPlainly, PurgesEndAsAtStart};
+ghost use Rattle.audit_laws.specs.returns.Laws.{NamesOfNoneAtStart, NamesOfLive, UnloadsEnd, UnloadsAreAccepted};
+ghost use Rattle.audit_laws.specs.returns.Laws.{NamedUnloadsAreAccepted, UnloadsOfAllReturn, PurgesReturn, PurgesEndAsAtStart};
+ghost use Rattle.audit_laws.specs.returns.Laws.{SessionsAreLayered, TheWayBackIsOpen, TheWayBackIsThere};
 ghost use Rattle.audit_laws.specs.returns.Laws.{LoadsAreAccepted, SwitchesAreAccepted, ReadsAreOfStart};
-ghost use Rattle.audit_laws.specs.returns.Laws.{PlainUnloadsEnd, PlainUnloadsAreAccepted, PlainPurgesReturn, JudgedUnloadsAreAccepted};
+ghost use Rattle.audit_laws.specs.returns.Laws.{PlainUnloadsEnd, PlainUnloadsAreAccepted, PlainPurgesReturn};
+ghost use Rattle.audit_laws.specs.returns.Laws.{PlainModulesLoadPlainly, JudgedUnloadsAreAccepted};
 
 /// An accepted file is accepted again, with the same records and messages, in a context that answers its questions the
 /// same and in which its records have their effects. `stable` is for a file whose questions have stable inputs, and

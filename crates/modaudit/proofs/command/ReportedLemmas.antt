@@ -23,7 +23,7 @@ use Rattle.audit_certificate.proofs.OnceLemmas.{in_once}
 use Rattle.audit_certificate.proofs.Exact.{filtered}
 use Rattle.audit_laws.specs.determinism.Contexts.{FileRuns}
 use Rattle.requests.specs.Reasons.{RequestReason}
-use Rattle.audit_laws.specs.site.Sites.{Site, SiteModule, site_of, candidate_of, is_excluded, deterministic_among, file_of}
+use Rattle.audit_laws.specs.site.Sites.{Site, SiteModule, site_of, candidate_of, is_excluded, deterministic_among, file_of, ReadsEquivalently}
 use Rattle.audit_laws.specs.site.Standings as standings
 use Rattle.audit_laws.specs.site.Standings.{HasStanding}
 use Rattle.audit_laws.specs.site.Laws.{AreDeterministic, IsOneOf, LoadsAreOf}
@@ -37,13 +37,15 @@ use Rattle.audit_site.specs.Audits.{StandsAs, AllStand, audited_file, is_certifi
 use Rattle.modulecmd.specs.Command.{standard}
 use Rattle.modulecmd.specs.Runs.{PrintedCommand, command_moves, moves_in, CommandMakes}
 use Rattle.modulecmd.proofs.RunLemmas.{AllAllowed, alone, same_moves}
-use Rattle.modaudit.specs.command.Audits.{judged_env}
 use Rattle.requests.proofs.hand_changes.EventLemmas.{new_parts}
 use Rattle.modaudit.specs.command.SiteCommands.{CommandLoads, HandsLeaveReads, SiteShellsAndHandsReturn}
-use Rattle.modaudit.specs.command.WayBack.{IsSession, IsWayBackOpen, SiteWayBackIsOpen}
-use Rattle.modaudit.specs.command.Reported.{IsReported, LoadsAreReported, CommandLoadsReported, LoadsAreNamed, HasAllThatWasRead, reported_site}
+use Rattle.modaudit.specs.command.WayBack.{IsSession, live_at_end, SiteSessionsLayer, SiteWayBackIsOpen}
+use Rattle.modaudit.specs.command.Moments.{Suits, IsReported, HoldsAtMoment}
+use Rattle.modaudit.specs.command.Reported.{LoadsAreReported, CommandLoadsReported, LoadsAreNamed, HasAllThatWasRead, audited_env, reported_site}
 use Rattle.modaudit.specs.command.Reported.{ReportedModulesReturn, MomentsAreSessions, AuditedStartReturns, TreesHaveAllThatWasRead}
 use Rattle.modaudit.proofs.command.SiteCommandLemmas.{commands_leave}
+use Rattle.modaudit.proofs.command.MomentLemmas as moments
+use Rattle.modaudit.proofs.command.MomentLemmas.{IsCertain}
 
 -- ---- maps
 
@@ -97,18 +99,31 @@ record IsIn (limits : Limits) (env : Environment) (files : Files) (listings : Li
   standing : AllStand (site_of limits env files listings) names ms found.modules.items
   deterministic : AreDeterministic (site_of limits env files listings) ms
 
-reported_one : files.OneOutcome → CertifiedAreExact → DeterministicModulesStay → (limits : Limits) (env : Environment) (files : Files) (listings : Listings) (more_files : Files)
+suits_one : files.OneOutcome → CertifiedAreExact → DeterministicModulesStay → (limits : Limits) (env : Environment) (files : Files) (listings : Listings) (more_files : Files)
     (more_listings : Listings) (names : List Text) (ms : List Candidate) (found : SiteAudit) → IsIn limits env files listings more_files more_listings names ms found
-    → (start : Environment) (m : SiteModule) → IsReported (site_of limits env more_files more_listings) found start m
-    → IsOneOf (site_of limits env more_files more_listings) (certified ms) start m.name m.path
-reported_one one exact stay limits env files listings more_files more_listings names ms found k start m r =
+    → (start : Environment) (m : SiteModule) → Suits (site_of limits env more_files more_listings) found start m → IsCertain ms start m
+suits_one one exact stay limits env files listings more_files more_listings names ms found k start m r =
     let more = site_of limits env more_files more_listings in
     let s = certified_stands (site_of limits env files listings) names ms found.modules.items m k.standing r.certified in
     let c : Candidate = candidate_of m s.0 in
     let d = stay limits env files listings more_files more_listings c k.extended (k.deterministic c s.3.listed) in
     let runs = same_runs one more m d.records.runs r.first.runs d.records.evaluated r.first.evaluated in
     let same : r.records ≡ c.records = r.first.records ∙ (ap (λ (x : FileRuns RequestReason). x.first.records) runs ∙ sym d.records.records) in
-    (c, (exact ms c).1 s.3, refl, refl, subst (λ (rs : List Record). AgreesWith (used_by rs) start) same r.agrees, r.reads)
+    record { certain = c; certified = s.3; file = refl; agrees = subst (λ (rs : List Record). AgreesWith (used_by rs) start) same r.agrees }
+
+reported_one : files.OneOutcome → CertifiedAreExact → DeterministicModulesStay → (limits : Limits) (env : Environment) (files : Files) (listings : Listings) (more_files : Files)
+    (more_listings : Listings) (names : List Text) (ms : List Candidate) (found : SiteAudit) → IsIn limits env files listings more_files more_listings names ms found
+    → (start : Environment) (m : SiteModule) → IsReported (site_of limits env more_files more_listings) found start m
+    → IsOneOf (site_of limits env more_files more_listings) (certified ms) start m.name m.path
+reported_one one exact stay limits env files listings more_files more_listings names ms found k start m r =
+    let c = suits_one one exact stay limits env files listings more_files more_listings names ms found k start m r.suits in (
+      c.certain,
+      (exact ms c.certain).1 c.certified,
+      ap (λ (x : SiteModule). x.name) c.file,
+      ap (λ (x : SiteModule). x.path) c.file,
+      c.agrees,
+      subst (ReadsEquivalently (site_of limits env more_files more_listings) start) (sym c.file) r.reads,
+    )
 
 reported_loads : files.OneOutcome → CertifiedAreExact → DeterministicModulesStay → (limits : Limits) (env : Environment) (files : Files) (listings : Listings) (more_files : Files)
     (more_listings : Listings) (names : List Text) (ms : List Candidate) (found : SiteAudit) → IsIn limits env files listings more_files more_listings names ms found
@@ -173,26 +188,39 @@ moments_are_sessions site found start last_start last before after session =
 remain : (site : Site) (names : List Text) (ms : List Candidate) → AreDeterministic site ms → AreDeterministic site (remaining names ms)
 remain site names ms all m a = all m (filtered (λ (k : Candidate). not (is_excluded names k.name)) ms m a).0
 
-pub reported_modules_return : files.OneOutcome → CertifiedAreExact → DeterministicModulesStay → SiteShellsAndHandsReturn → SiteWayBackIsOpen
-    → (agrees : Files → Listings → Type 0) (has_failed : Text → Bool) → ReportedModulesReturn agrees has_failed
-reported_modules_return one exact stay returns back agrees has_failed before now e not_utf8 arguments wanted audit files listings start last_start last events audited has session =
-    let env = judged_env e wanted.directories in
+-- the laws that these rest on
+pub record Laws : Type 0 where
+  pub one : files.OneOutcome
+  pub exact : CertifiedAreExact
+  pub stay : DeterministicModulesStay
+  pub returns : SiteShellsAndHandsReturn
+  pub layer : SiteSessionsLayer
+  pub back : SiteWayBackIsOpen
+  pub at_moment : moments.Laws
+
+pub reported_modules_return : Laws → (agrees : Files → Listings → Type 0) (has_failed : Text → Bool) → ReportedModulesReturn agrees has_failed
+reported_modules_return laws agrees has_failed before now e not_utf8 arguments wanted audit files listings start last_start last events audited has session =
+    let env = audited_env e wanted in
     let a = audited.exact has.read_files has.read_listings has.agree in
     let ms : List Candidate = remaining wanted.without (deterministic_among a.outcomes) in
     let judged : AreDeterministic (site_of standard env has.read_files has.read_listings) ms =
     remain (site_of standard env has.read_files has.read_listings) wanted.without (deterministic_among a.outcomes) (λ m k. (a.deterministic m).0 k) in
     let more = reported_site e wanted files listings in
-    let all : AreDeterministic more ms = λ m k. stay standard env has.read_files has.read_listings files listings m has.extended (judged m k) in
+    let all : AreDeterministic more ms = λ m k. laws.stay standard env has.read_files has.read_listings files listings m has.extended (judged m k) in
     let is_in : IsIn standard env has.read_files has.read_listings files listings wanted.without ms audit.found =
     record { extended = has.extended; standing = a.standing; deterministic = judged } in
     let reach = allowed_so (CommandLoadsReported more audit.found) (CommandLoads more (certified ms))
-    (λ b c h. reported_loads one exact stay standard env has.read_files has.read_listings files listings wanted.without ms audit.found is_in b (command_moves c) h)
+    (λ b c h. reported_loads laws.one laws.exact laws.stay standard env has.read_files has.read_listings files listings wanted.without ms audit.found is_in b (command_moves c) h)
     files listings events [] start start last_start last session.reach in
     let allowed : IsSession more (CommandLoads more (certified ms)) start last_start last events =
-    record { order = session.order; reach = reach; new = session.new; unread = session.unread } in (
-      (returns env files listings ms start last_start last events all session.order reach session.new session.unread).1,
-      back env files listings ms start last_start last events all allowed,
-    )
+    record { order = session.order; reach = reach; new = session.new; unread = session.unread } in
+    let left = laws.layer env files listings ms start last_start last events all allowed in
+    record {
+      returned = (laws.returns env files listings ms start last_start last events all session.order reach session.new session.unread).1;
+      way_back = laws.back env files listings ms start last_start last events all allowed;
+      commands = moments.commands_end laws.at_moment env files listings ms audit.found (live_at_end events) last last_start left.over
+          (suits_one laws.one laws.exact laws.stay standard env has.read_files has.read_listings files listings wanted.without ms audit.found is_in last_start);
+    }
 
 -- ---- from the environment of the audit
 
@@ -218,10 +246,12 @@ module _ (one : files.OneOutcome) (exact : CertifiedAreExact) (stay : Determinis
       let c : Candidate = candidate_of m s.0 in
       let d = stay limits env files listings more_files more_listings c k.extended (k.deterministic c s.3.listed) in
       record {
-        certified = a;
-        records = c.records;
-        first = record { runs = d.records.runs; evaluated = d.records.evaluated; records = d.records.records };
-        agrees = record { loaded = suits.loaded; uses = λ v x u. suits.uses v x (used_by_all (v, x) c (certified ms) ((exact ms c).1 s.3) u) };
+        suits = record {
+          certified = a;
+          records = c.records;
+          first = record { runs = d.records.runs; evaluated = d.records.evaluated; records = d.records.records };
+          agrees = record { loaded = suits.loaded; uses = λ v x u. suits.uses v x (used_by_all (v, x) c (certified ms) ((exact ms c).1 s.3) u) };
+        };
         reads = λ v r. refl;
       }
 
@@ -238,7 +268,7 @@ module _ (one : files.OneOutcome) (exact : CertifiedAreExact) (stay : Determinis
 pub audited_start_returns : files.OneOutcome → CertifiedAreExact → DeterministicModulesStay → (agrees : Files → Listings → Type 0) (has_failed : Text → Bool)
     → ReportedModulesReturn agrees has_failed → AuditedStartReturns agrees has_failed
 audited_start_returns one exact stay agrees has_failed returns before now e not_utf8 arguments wanted audit files listings last cs audited has none holds news named =
-    let env = judged_env e wanted.directories in
+    let env = audited_env e wanted in
     let a = audited.exact has.read_files has.read_listings has.agree in
     let ms : List Candidate = remaining wanted.without (deterministic_among a.outcomes) in
     let agreeing = a.agrees.0 none in
@@ -260,5 +290,5 @@ audited_start_returns one exact stay agrees has_failed returns before now e not_
       new = subst (AreNew env) (sym same) news;
       unread = commands_leave more [] cs;
     } in
-    subst (λ (moves : List Move). (live_after [] moves ≡ [] → last ≡ env) × IsWayBackOpen files listings (live_after [] moves) last env) same
+    subst (λ (moves : List Move). HoldsAtMoment more audit.found (live_after [] moves) last env) same
     (returns before now e not_utf8 arguments wanted audit files listings env env last (map act cs) audited has session)

@@ -5,14 +5,12 @@ use Rattle.envvars.specs.Texts.{Text, texts_in}
 use Rattle.envvars.specs.Environment.{Environment}
 use Rattle.filetree.specs.Agreement.{Files, Listings}
 use Rattle.filetree.specs.hiding.Hidden.{AgreesWithout}
-use Rattle.modulefile.specs.Records.{Record}
 use Rattle.modulefile.specs.Moves.{Move, Loads, Unloads}
 use Rattle.reversal.specs.Runs.{live_after}
 use Rattle.requests.specs.Returning.{AreNew}
 use Rattle.requests.specs.hand_changes.Events.{Event}
-use Rattle.audit_certificate.specs.RecordUses.{IsAmong, used_by}
-use Rattle.audit_certificate.specs.Certificates.{AgreesWith}
-use Rattle.audit_laws.specs.site.Sites.{Site, SiteModule, HasFirstRecords, ReadsEquivalently, file_of}
+use Rattle.audit_certificate.specs.RecordUses.{IsAmong}
+use Rattle.audit_laws.specs.site.Sites.{Site, file_of}
 use Rattle.audit_laws.specs.site.Extended.{IsExtendedBy}
 use Rattle.audit_site.specs.Audits.{certified_files}
 use Rattle.audit_site.specs.declared.auditing.SiteAudit.{SiteAudit}
@@ -21,18 +19,10 @@ use Rattle.modulecmd.specs.Runs.{PrintedCommand, ShellsHold, command_moves, move
 use Rattle.modaudit.specs.command.Arguments.{Wanted}
 use Rattle.modaudit.specs.command.Audits.{IsAudited, judged_env}
 use Rattle.modaudit.specs.command.SiteCommands.{judged_site}
-use Rattle.modaudit.specs.command.WayBack.{IsSession, live_at_end, IsWayBackOpen}
+use Rattle.modaudit.specs.command.WayBack.{IsSession, live_at_end}
+use Rattle.modaudit.specs.command.Moments.{IsReported, HoldsAtMoment}
 
 -- ---- what may be loaded
-
--- The report calls this module certified. The start agrees with what it uses, by the records of its file for loading in
--- sh with nothing loaded, and has the values of the audit of what it reads.
-pub record IsReported (site : Site) (found : SiteAudit) (start : Environment) (m : SiteModule) : Type 0 where
-  pub certified : IsAmong m (certified_files found.modules.items)
-  pub records : List Record
-  pub first : HasFirstRecords site m records
-  pub agrees : AgreesWith (used_by records) start
-  pub reads : ReadsEquivalently site start m
 
 -- each load is of such a module, by its name and its file
 abbrev pub LoadsAreReported : Site → SiteAudit → Environment → List Move → Type 0
@@ -63,16 +53,20 @@ pub record HasAllThatWasRead (agrees : Files → Listings → Type 0) (unreadabl
   pub agree : AgreesWithout unreadable agrees read_files read_listings
   pub extended : IsExtendedBy read_files read_listings files listings
 
--- the site of the audit's environment over these maps, under the limits of commands
+-- the environment of the audit: that at hand, with the directories of the arguments, if there are any, as its MODULEPATH
+abbrev pub audited_env : Environment → Wanted → Environment
+audited_env e wanted = judged_env e wanted.directories
+
+-- its site over these maps, under the limits of commands
 abbrev pub reported_site : Environment → Wanted → Files → Listings → Site
-reported_site e wanted files listings = judged_site (judged_env e wanted.directories) files listings
+reported_site e wanted files listings = judged_site (audited_env e wanted) files listings
 
 -- ---- the laws
 
 -- modaudit audited a tree in an environment and reported certified modules. Over files and directories that have all that
 -- it read, take any session of commands that loads only reported modules, with changes by hand between the commands. If
--- none of these modules is live at the end, the shell holds what the same changes have made of the start. And at the end
--- the way back to it is open.
+-- none of these modules is live at the end, the shell holds what the same changes have made of the start. At the end the
+-- way back to it is open, and unloads, loads and switches are refused only for what is loaded or for a full counter.
 abbrev pub ReportedModulesReturn : (Files → Listings → Type 0) → (Text → Bool) → Type 0
 ReportedModulesReturn agrees has_failed =
     (before now : ℕ) (e : Environment) (not_utf8 arguments : List Text) (wanted : Wanted) (audit : ReadableAudit)
@@ -81,7 +75,7 @@ ReportedModulesReturn agrees has_failed =
     → HasAllThatWasRead agrees (texts_in audit.unreadable) files listings
     → IsSession (reported_site e wanted files listings)
     (CommandLoadsReported (reported_site e wanted files listings) audit.found) start last_start last events
-    → (live_at_end events ≡ [] → last ≡ last_start) × IsWayBackOpen files listings (live_at_end events) last last_start
+    → HoldsAtMoment (reported_site e wanted files listings) audit.found (live_at_end events) last last_start
 
 -- A beginning of such a session is such a session. So what holds at the end of each holds at each moment of one.
 abbrev pub MomentsAreSessions : Type 0
@@ -98,15 +92,15 @@ TreesHaveAllThatWasRead agrees =
     → HasAllThatWasRead agrees unreadable files listings
 
 -- The environment of the audit is such a start for all reported modules, if the report says that it agrees with the
--- certificate. From there any commands that load only reported modules, and unload none that was loaded, return: nothing
--- else is asked of the start.
+-- certificate. From there this holds after any commands that load only reported modules, and unload none that was loaded
+-- there: nothing else is asked of the start.
 abbrev pub AuditedStartReturns : (Files → Listings → Type 0) → (Text → Bool) → Type 0
 AuditedStartReturns agrees has_failed =
     (before now : ℕ) (e : Environment) (not_utf8 arguments : List Text) (wanted : Wanted) (audit : ReadableAudit)
     (files : Files) (listings : Listings) (last : Environment) (cs : List PrintedCommand)
     → IsAudited agrees has_failed before now e not_utf8 arguments wanted audit
     → HasAllThatWasRead agrees (texts_in audit.unreadable) files listings → audit.found.disagreements.items ≡ []
-    → ShellsHold files listings (judged_env e wanted.directories) cs last
-    → AreNew (judged_env e wanted.directories) (moves_in cs) → LoadsAreNamed audit.found (moves_in cs)
-    → (live_after [] (moves_in cs) ≡ [] → last ≡ judged_env e wanted.directories)
-    × IsWayBackOpen files listings (live_after [] (moves_in cs)) last (judged_env e wanted.directories)
+    → ShellsHold files listings (audited_env e wanted) cs last
+    → AreNew (audited_env e wanted) (moves_in cs) → LoadsAreNamed audit.found (moves_in cs)
+    → HoldsAtMoment (reported_site e wanted files listings) audit.found (live_after [] (moves_in cs)) last
+    (audited_env e wanted)

@@ -17,10 +17,10 @@ use Rattle.requests.specs.hand_changes.Events.{Event, moves_of, EventsReachWhile
 use Rattle.audit_certificate.specs.RecordUses.{IsAmong, uses_by}
 use Rattle.audit_certificate.specs.Candidates.{Candidate}
 use Rattle.audit_certificate.specs.Certificates.{certified}
-use Rattle.audit_certificate.specs.Laws.{AreLayered}
 use Rattle.audit_laws.specs.site.Sites.{Site}
-use Rattle.audit_laws.specs.site.Laws.{AreDeterministic, AreReadEquivalently}
+use Rattle.audit_laws.specs.site.Laws.{AreDeterministic}
 use Rattle.audit_laws.specs.returns.Unloads.{AreOfLive, without_all}
+use Rattle.audit_laws.specs.returns.Laws.{AreLiveOver}
 use Rattle.modulecmd.specs.Command.{CommandResult, CommandHasResult}
 use Rattle.modulecmd.specs.Runs.{PrintedCommand, command_moves, CommandMakes}
 use Rattle.modaudit.specs.command.SiteCommands.{judged_site, CommandLoads, HandsLeaveReads}
@@ -43,13 +43,11 @@ pub record IsSession (site : Site) (Allows : Environment → PrintedCommand → 
 abbrev pub live_at_end : List (Event PrintedCommand) → List Module
 live_at_end events = live_after [] (moves_of command_moves events)
 
--- These certified modules are live over the last start. What they read has there the values of the environment that was
--- judged, and the last start has the modules loaded that the first had.
-pub record IsLeftLayered (site : Site) (ms : List Candidate) (start last_start last : Environment) (live : List Module)
-    : Type 0 where
-  pub layered : AreLayered ms last_start live last
-  pub reads : AreReadEquivalently site last_start live
-  pub loaded : loaded_in last_start ≡ loaded_in start
+-- The session leaves these certified modules live over the last start. There the same modules are loaded as at the first.
+pub record LeavesLive (site : Site) (ms : List Candidate) (start last_start last : Environment) (live : List Module) : Type 0
+  where
+    pub over : AreLiveOver site ms last_start live last
+    pub loaded : loaded_in last_start ≡ loaded_in start
 
 -- ---- commands that lead back
 
@@ -99,7 +97,7 @@ SiteSessionsLayer =
     → AreDeterministic (judged_site judged_in files listings) ms
     → IsSession (judged_site judged_in files listings) (CommandLoads (judged_site judged_in files listings) (certified ms))
     start last_start last events
-    → IsLeftLayered (judged_site judged_in files listings) ms start last_start last (live_at_end events)
+    → LeavesLive (judged_site judged_in files listings) ms start last_start last (live_at_end events)
 
 -- At the end of each such session the way back to the last start is open: to what the changes by hand have made of the
 -- start.

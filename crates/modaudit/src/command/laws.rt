@@ -65,10 +65,10 @@ pub fn site_way_back_is_open()
 
 /// From the report of an audit to the shell. Over files and directories that have all that the audit read, take a session
 /// of commands that loads only modules which the report calls certified. It returns to the start with the changes by
-/// hand, and at its end the way back is open (`returned`). A beginning of such a session is one, so this holds at each
-/// moment (`moments`). The environment of the audit is a start for all of these modules, if the report says that it
-/// agrees (`at_hand`). Files and directories that agree with the tree of the audit have all that it read, whoever reads
-/// them (`trees`).
+/// hand. At its end the way back is open, and what may refuse an unload, a load or a switch is known (`returned`). A
+/// beginning of such a session is one, so this holds at each moment (`moments`). The environment of the audit is a start
+/// for all of these modules, if the report says that it agrees (`at_hand`). Files and directories that agree with the tree
+/// of the audit have all that it read, whoever reads them (`trees`).
 pub fn reported_modules_return<T: Tree>(audited: &T)
     ensures returned { ReportedModulesReturn (T.agrees audited.now) (T.failed audited.now) }
     ensures moments { MomentsAreSessions }
@@ -78,6 +78,10 @@ pub fn reported_modules_return<T: Tree>(audited: &T)
     modulefile::files();
     audit_certificate::laws::certified();
     audit_laws::site::laws::extended_sites();
+    audit_laws::returns::laws::unloads_are_accepted();
+    audit_laws::returns::laws::loads_are_accepted();
+    audit_laws::returns::laws::switches_are_accepted();
+    requests::some_outcome();
     site_commands_and_hands_return();
     site_way_back_is_open();
 }

@@ -3,8 +3,22 @@ use Rattle.modaudit.proofs.command.laws.reported_modules_return.Goals as goal
 
 pub returns-clause-returned : goal.returns-clause-returned
 returns-clause-returned g c =
-    reported_modules_return c.files.ensures.one c.certified.ensures.exact c.extended_sites.ensures c.site_commands_and_hands_return.ensures.returned
-    c.site_way_back_is_open.ensures.open (g.T.Tree.agrees c.args.audited.now) (g.T.Tree.failed c.args.audited.now)
+    reported_modules_return (record {
+      one = c.files.ensures.one;
+      exact = c.certified.ensures.exact;
+      stay = c.extended_sites.ensures;
+      returns = c.site_commands_and_hands_return.ensures.returned;
+      layer = c.site_way_back_is_open.ensures.layered;
+      back = c.site_way_back_is_open.ensures.open;
+      at_moment = record {
+        some = c.some_outcome.ensures;
+        unloads = c.unloads_are_accepted.ensures.accepted;
+        named = c.unloads_are_accepted.ensures.named;
+        loads = c.loads_are_accepted.ensures.accepted;
+        reads = c.loads_are_accepted.ensures.reads;
+        switches = c.switches_are_accepted.ensures;
+      };
+    }) (g.T.Tree.agrees c.args.audited.now) (g.T.Tree.failed c.args.audited.now)
 
 pub returns-clause-moments : goal.returns-clause-moments
 returns-clause-moments g c = moments_are_sessions
