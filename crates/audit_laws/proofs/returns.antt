@@ -10,6 +10,7 @@ mod Unloads
 pub mod Purges
 mod OneUnload
 mod SiteLaws
+mod OnePlain
 mod PlainUnload
 mod LoadEntry
 mod PrereqWords

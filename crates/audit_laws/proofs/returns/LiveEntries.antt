@@ -34,7 +34,7 @@ use Rattle.audit_certificate.proofs.Exact.{all_each, some_any}
 
 -- ---- entries
 
-in_map : {X Y : Type 0} (f : X → Y) (x : X) (xs : List X) → IsAmong x xs → IsAmong (f x) (map f xs)
+pub in_map : {X Y : Type 0} (f : X → Y) (x : X) (xs : List X) → IsAmong x xs → IsAmong (f x) (map f xs)
 in_map f x [] a = absurd a
 in_map f x (y ∷ xs) (inl e) = inl (ap f e)
 in_map f x (y ∷ xs) (inr a) = inr (in_map f x xs a)
@@ -47,7 +47,7 @@ entry_there xs (m ∷ live) l (inr a) = among_left (entry_of l) (entries_over xs
 name_there : (xs : List Entry) (live : List Module) (l : Module) → IsAmong l live → IsAmong l.name (names_of (entries_over xs live))
 name_there xs live l a = in_map (λ (x : Entry). x.name) (entry_of l) (entries_over xs live) (entry_there xs live l a)
 
-sound_list : (e : Environment) (xs : List Entry) → AreLoadedInOrder e → loaded_in e ≡ Some xs → AreSound xs
+pub sound_list : (e : Environment) (xs : List Entry) → AreLoadedInOrder e → loaded_in e ≡ Some xs → AreSound xs
 sound_list e xs order list = let now = list_in_order e order in subst AreSound (same_Some now.0 xs (sym now.1 ∙ list)) now.2
 
 -- a live module's name is well spelled
@@ -102,7 +102,7 @@ drop_had e name xs true h = (with_loaded e (without_entry name xs), refl)
 drop_had e name xs false h = (e, refl)
 
 -- an unload whose records have their effects is a move
-move_had : (m : Module) (old mid : Environment) (xs : List Entry) → loaded_in old ≡ Some xs → effects unload m.name m.records old ≡ Ok mid → (new : Environment) × (moved (Unloads m) old ≡ Ok new)
+pub move_had : (m : Module) (old mid : Environment) (xs : List Entry) → loaded_in old ≡ Some xs → effects unload m.name m.records old ≡ Ok mid → (new : Environment) × (moved (Unloads m) old ≡ Ok new)
 move_had m old mid xs list made =
     let d = drop_had mid m.name xs (has m.name (names_of xs)) refl in
     let there : entry_moved (Unloads m) mid ≡ Ok d.0 = ap (λ (o : Option (List Entry)). edit_outcome (dropped_from mid m.name o)) (effects_leave_list unload m.name m.records old mid made ∙ list) ∙ d.1 in

@@ -90,7 +90,7 @@ if_yes true Yes No o h y = y
 if_yes false Yes No o h y = absurd (false≢true h)
 
 -- a step whose name means this entry, or none
-named_step : (s : RequestContext) (in_switch : Bool) (name : Text) (d done : Done) (xs : List Entry) (x : Option Entry) → loaded_in d.env ≡ Some xs → is_module_name name ≡ true
+pub named_step : (s : RequestContext) (in_switch : Bool) (name : Text) (d done : Done) (xs : List Entry) (x : Option Entry) → loaded_in d.env ≡ Some xs → is_module_name name ≡ true
     → last_meant name xs ≡ x → UnloadsMeant s in_switch name d xs x (Ok done) → UnloadsName s in_switch name d (Ok done)
 named_step s in_switch name d done xs x list spelled meant step = (
   Ok xs,
@@ -153,7 +153,7 @@ each_name s start IsOver IsOf can before now first (name ∷ names) d begins of 
 
 -- ---- what names take
 
-found_among : {X : Type 0} (p : X → Bool) (xs : List X) (x : X) → find p xs ≡ Some x → IsAmong x xs × (p x ≡ true)
+pub found_among : {X : Type 0} (p : X → Bool) (xs : List X) (x : X) → find p xs ≡ Some x → IsAmong x xs × (p x ≡ true)
 found_among p [] x h = absurd (cc)
 found_among {X} p (y ∷ xs) x h = by_test (p y) _
     (λ t. let k : Some y ≡ Some x = rw t at h in let e : y ≡ x = cc in (inl (sym e), subst (λ (z : X). p z ≡ true) e t))

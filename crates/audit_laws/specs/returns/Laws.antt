@@ -5,11 +5,13 @@ use Rattle.std.specs.Prelude.{◌≡◌, true, false, List, [], ◌∷◌, Optio
 use Rattle.modulename.specs.ModuleName.{is_module_name}
 use Rattle.envvars.specs.Texts.{Text}
 use Rattle.envvars.specs.Environment.{Environment}
-use Rattle.envstate.specs.loaded_list.Loaded.{Entry, loaded_in, AreLoadedInOrder}
+use Rattle.envstate.specs.loaded_list.Loaded.{Entry, loaded_in, without_entry, AreLoadedInOrder}
+use Rattle.envstate.specs.stacks.Stacks.{StackState}
+use Rattle.envstate.specs.stacks.StackVariables.{stack_in}
 use Rattle.shelltext.specs.declared.shell.Shell.{Shell}
 use Rattle.modulefile.specs.Moves.{Module}
 use Rattle.modulefile.specs.Files.{Ran}
-use Rattle.reversal.specs.VariableUses.{VariableUse}
+use Rattle.reversal.specs.VariableUses.{VariableUse, Stacked}
 use Rattle.reversal.specs.Live.{entries_over}
 use Rattle.reversal.specs.Starts.{IsInOrder, IsStart, IsStartWith}
 use Rattle.reversal.specs.Runs.{live_after, AreReversibleTogether}
@@ -17,7 +19,8 @@ use Rattle.reversal.specs.Laws.{Holds}
 use Rattle.requests.specs.Reasons.{RequestReason}
 use Rattle.requests.specs.Requests.{Request, load, unload, switch, purge}
 use Rattle.requests.specs.Conditions.{has_lost}
-use Rattle.requests.specs.Steps.{RequestContext, Done, nothing_done, RequestStep, Finds, last_meant, UnloadsName, old_name}
+use Rattle.requests.specs.Steps.{RequestContext, Done, nothing_done, module_of, RequestStep, Finds, last_meant}
+use Rattle.requests.specs.Steps.{UnloadsName, old_name}
 use Rattle.requests.specs.Sessions.{Response, Session, in_shell, end_environment, session_moves}
 use Rattle.requests.specs.Returning.{AreNew, AreReversibleBeside}
 use Rattle.requests.specs.PlainRuns.{HasEvaluatedTo, IsPlain}
@@ -25,7 +28,7 @@ use Rattle.requests.specs.JudgedRuns.{IsJudgedPlain}
 use Rattle.requests.specs.hand_changes.Events.{Event, moves_of, EventsReach}
 use Rattle.requests.specs.hand_changes.Laws.{answered_moves, ResponseMakes}
 use Rattle.search.specs.Found.{FoundModule}
-use Rattle.audit_certificate.specs.RecordUses.{used_by, IsAmong}
+use Rattle.audit_certificate.specs.RecordUses.{used_by, IsAmong, Uses}
 use Rattle.audit_certificate.specs.Candidates.{Candidate, as_module}
 use Rattle.audit_certificate.specs.Clashes.{names_in_conflict}
 use Rattle.audit_certificate.specs.Certificates.{IsCertified, certified, AgreesWith}
@@ -34,7 +37,7 @@ use Rattle.audit_laws.specs.site.Sites.{Site, over_site, ReadsEquivalently, cand
 use Rattle.audit_laws.specs.site.Laws.{AreDeterministic, LoadsAreOf, AreReadEquivalently}
 use Rattle.audit_laws.specs.returns.Unloads.{without_all, taken_by, AreOfLive, AreNamesOf, without_named}
 use Rattle.audit_laws.specs.returns.Unloads.{EndsUnlessNeeded, IsAcceptedOrNeeded, IsBack, EndAlike}
-use Rattle.audit_laws.specs.returns.Unloads.{IsPlainlyLoaded, ArePlainlyLoaded}
+use Rattle.audit_laws.specs.returns.Unloads.{IsPlainlyLoaded, ArePlainlyLoaded, IsUnloadedOrNeeded}
 use Rattle.audit_laws.specs.returns.Loads.{IsAcceptedOrForbidden, IsSwitchedOrForbidden}
 
 -- ---- names
@@ -208,6 +211,19 @@ abbrev pub PlainModulesLoadPlainly : Type 0
 PlainModulesLoadPlainly =
     (s : RequestContext) (m : Module) (ran : Ran) → IsPlain s m.name m.path → HasEvaluatedTo s m.name m.path ran
     → m.records ≡ ran.records → IsPlainlyLoaded s m
+
+-- The name means a loaded module with a plain file. The loaded list is in order, and each stack on which the file pushes
+-- can be read. Then every outcome of its unload is one of two. Nothing is asked of other modules, of a start, or of how the
+-- module was loaded.
+abbrev pub OnePlainIsUnloaded : Type 0
+OnePlainIsUnloaded =
+    (s : RequestContext) (e : Environment) (loaded : List Entry) (x : Entry) (ran : Ran) (name : Text)
+    (o : Result Done RequestReason)
+    → AreLoadedInOrder e → loaded_in e ≡ Some loaded → is_module_name name ≡ true → last_meant name loaded ≡ Some x
+    → HasEvaluatedTo s x.name x.path ran → ran.asked ≡ []
+    → ((v : Text) → Uses ran.records v Stacked → (stack : StackState) × (stack_in e v ≡ Some stack))
+    → RequestStep s e (unload (name ∷ [])) o
+    → IsUnloadedOrNeeded (module_of x.name x.path ran) loaded (without_entry x.name loaded) o
 
 -- An unload of plain modules runs to its end. They are live beside others, of whose files nothing is asked.
 abbrev pub PlainUnloadsEnd : Type 0

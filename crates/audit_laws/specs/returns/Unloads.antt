@@ -6,7 +6,7 @@ use Rattle.envvars.specs.Texts.{Text, has}
 use Rattle.envvars.specs.Fields.{are_distinct}
 use Rattle.envvars.specs.Environment.{Environment}
 use Rattle.envstate.specs.loaded_list.Loaded.{Entry}
-use Rattle.modulefile.specs.Moves.{Module}
+use Rattle.modulefile.specs.Moves.{Module, Unloads}
 use Rattle.modulefile.specs.Files.{Ran}
 use Rattle.reversal.specs.Live.{entries_over}
 use Rattle.reversal.specs.Runs.{live_after}
@@ -70,19 +70,18 @@ pub record EndsUnlessNeeded (IsOver : List Module → Environment → Type 0) (f
   pub moved : live_after live done.moves ≡ left
   pub outcome : o ≡ unless (end_objection (entries_over first live) (entries_over first left)) (Ok done)
 
--- A module that stays loaded would lose what it needs: one of its prereqs is met before, and would no longer be. The
--- modules that are live before are these, and those that are left.
-abbrev pub IsStillNeeded : List Entry → List Module → List Module → RequestReason → Type 0
-IsStillNeeded first live left reason =
-    (x : Entry) × IsAmong x (entries_over first left)
-    × (has_lost (entries_over first live) (entries_over first left) x ≡ true) × (reason ≡ still_needed_by x.name)
+-- A module that stays loaded would lose what it needs: one of its prereqs is met before, and would no longer be.
+abbrev pub IsStillNeeded : (before after : List Entry) → RequestReason → Type 0
+IsStillNeeded before after reason =
+    (x : Entry) × IsAmong x after × (has_lost before after x ≡ true) × (reason ≡ still_needed_by x.name)
 
 -- The request is accepted and leaves these modules live over the start. Or it is refused, since a module that stays loaded
 -- would lose what it needs.
 abbrev pub IsAcceptedOrNeeded : (List Module → Environment → Type 0) → List Entry → List Module → List Module
     → Result Done RequestReason → Type 0
 IsAcceptedOrNeeded IsOver first live left (Ok done) = IsOver left done.env × (live_after live done.moves ≡ left)
-IsAcceptedOrNeeded IsOver first live left (Err reason) = IsStillNeeded first live left reason
+IsAcceptedOrNeeded IsOver first live left (Err reason) =
+    IsStillNeeded (entries_over first live) (entries_over first left) reason
 
 -- The request is accepted and leads to the start.
 abbrev pub IsBack : Environment → Result Done RequestReason → Type 0
@@ -103,3 +102,9 @@ IsPlainlyLoaded s m = (ran : Ran) × HasEvaluatedTo s m.name m.path ran × (ran.
 
 abbrev pub ArePlainlyLoaded : RequestContext → List Module → Type 0
 ArePlainlyLoaded s live = (m : Module) → IsAmong m live → IsPlainlyLoaded s m
+
+-- The request is accepted and unloads this module alone. Or it is refused, since a module that stays loaded would lose
+-- what it needs.
+abbrev pub IsUnloadedOrNeeded : Module → (before after : List Entry) → Result Done RequestReason → Type 0
+IsUnloadedOrNeeded m before after (Ok done) = done.moves ≡ Unloads m ∷ []
+IsUnloadedOrNeeded m before after (Err reason) = IsStillNeeded before after reason

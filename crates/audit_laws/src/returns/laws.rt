@@ -5,7 +5,7 @@ ghost use Rattle.audit_laws.specs.returns.Laws.{NamedUnloadsAreAccepted, Unloads
 ghost use Rattle.audit_laws.specs.returns.Laws.{SessionsAreLayered, TheWayBackIsOpen, TheWayBackIsThere};
 ghost use Rattle.audit_laws.specs.returns.Laws.{LoadsAreAccepted, SwitchesAreAccepted, ReadsAreOfStart};
 ghost use Rattle.audit_laws.specs.returns.Laws.{PlainUnloadsEnd, PlainUnloadsAreAccepted, PlainPurgesReturn};
-ghost use Rattle.audit_laws.specs.returns.Laws.{PlainModulesLoadPlainly, JudgedUnloadsAreAccepted};
+ghost use Rattle.audit_laws.specs.returns.Laws.{PlainModulesLoadPlainly, JudgedUnloadsAreAccepted, OnePlainIsUnloaded};
 
 /// An accepted file is accepted again, with the same records and messages, in a context that answers its questions the
 /// same and in which its records have their effects. `stable` is for a file whose questions have stable inputs, and
@@ -92,13 +92,15 @@ pub fn switches_are_accepted()
 /// start in order by their uses of variables. Of those that are unloaded each has the records of a file that asks nothing
 /// (`end`, `accepted`). The others may ask what they want. For `purge` all are such modules (`purge`). A module with a
 /// plain file is one, if an evaluation of this file has loaded it (`loaded`). So in a session each live module that was
-/// judged plain can be unloaded, unless a module that stays loaded would lose what it needs (`judged`).
+/// judged plain can be unloaded, unless a module that stays loaded would lose what it needs (`judged`). For one module
+/// with a plain file it is enough that the loaded list is in order and its stacks can be read (`one`).
 pub fn plain_unloads_are_accepted()
     ensures end { PlainUnloadsEnd }
     ensures accepted { PlainUnloadsAreAccepted }
     ensures purge { PlainPurgesReturn }
     ensures loaded { PlainModulesLoadPlainly }
     ensures judged { JudgedUnloadsAreAccepted }
+    ensures one { OnePlainIsUnloaded }
 {
     modulefile::files();
     modulefile::plain();

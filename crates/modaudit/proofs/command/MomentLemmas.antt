@@ -7,6 +7,7 @@ use Rattle.shelltext.specs.declared.shell.Shell.{Shell}
 use Rattle.shelltext.specs.Shells.{shell_named}
 use Rattle.filetree.specs.Agreement.{Files, Listings}
 use Rattle.modulefile.specs.Moves.{Module}
+use Rattle.reversal.specs.Live.{entries_over}
 use Rattle.requests.specs.Laws as requests
 use Rattle.requests.specs.Reasons.{RequestReason}
 use Rattle.requests.specs.Requests.{RequestedAction, load, unload, switch, request_of}
@@ -39,7 +40,7 @@ ends_by files listings word shell words action e HasDone MayRefuse (Err reason) 
     inr (reason, (Ok (shell, action), sym (ap (by_shell word words) named ∙ ap (for_shell shell) asked), (Err reason, step, refl)), refused_so)
 
 unloaded : (IsOver : List Module → Environment → Type 0) (first : List Entry) (live left : List Module) (o : Result Done RequestReason) → IsAcceptedOrNeeded IsOver first live left o
-    → StepEndsBy (Leaves live left) (IsStillNeeded first live left) o
+    → StepEndsBy (Leaves live left) (IsStillNeeded (entries_over first live) (entries_over first left)) o
 unloaded IsOver first live left (Ok done) h = h.1
 unloaded IsOver first live left (Err reason) h = h
 
@@ -79,13 +80,13 @@ commands_end laws judged_in files listings ms found live now start over certain 
       unloads = λ first name names begins of word words shell named asked.
           let o = laws.some (request_context_in standard shell files listings) now (unload (name ∷ names)) tt in
           let left = without_all (name ∷ names) live in
-          ends_by files listings word shell words (unload (name ∷ names)) now (Leaves live left) (IsStillNeeded first live left) o.0 named asked o.1
+          ends_by files listings word shell words (unload (name ∷ names)) now (Leaves live left) (IsStillNeeded (entries_over first live) (entries_over first left)) o.0 named asked o.1
           (unloaded (AreLayered ms start) first live left o.0
           (laws.unloads site ms shell start now live first name names o.0 (record { over = over; loaded = begins; step = o.1 }) of));
       named_unloads = λ first name names begins of word words shell named asked.
           let o = laws.some (request_context_in standard shell files listings) now (unload (name ∷ names)) tt in
           let left = without_named (name ∷ names) live in
-          ends_by files listings word shell words (unload (name ∷ names)) now (Leaves live left) (IsStillNeeded first live left) o.0 named asked o.1
+          ends_by files listings word shell words (unload (name ∷ names)) now (Leaves live left) (IsStillNeeded (entries_over first live) (entries_over first left)) o.0 named asked o.1
           (unloaded (AreLayered ms start) first live left o.0
           (laws.named site ms shell start now live first name names o.0 (record { over = over; loaded = begins; step = o.1 }) of));
       loads = λ name m finds suits reads word words shell named asked.

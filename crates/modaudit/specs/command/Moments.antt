@@ -11,6 +11,7 @@ use Rattle.shelltext.specs.Shells.{shell_named}
 use Rattle.filetree.specs.Agreement.{Files, Listings}
 use Rattle.modulefile.specs.Records.{Record, conflict_names}
 use Rattle.modulefile.specs.Moves.{Module}
+use Rattle.reversal.specs.Live.{entries_over}
 use Rattle.reversal.specs.Runs.{live_after}
 use Rattle.search.specs.Found.{FoundModule}
 use Rattle.requests.specs.Reasons.{RequestReason}
@@ -86,11 +87,11 @@ pub record CommandsEnd (site : Site) (found : SiteAudit) (live : List Module) (n
   pub unloads : (first : List Entry) (name : Text) (names : List Text) → loaded_in start ≡ Some first
       → AreOfLive first (name ∷ names) live
       → EachEndsBy site (unload (name ∷ names)) now (Leaves live (without_all (name ∷ names) live))
-      (IsStillNeeded first live (without_all (name ∷ names) live))
+      (IsStillNeeded (entries_over first live) (entries_over first (without_all (name ∷ names) live)))
   pub named_unloads : (first : List Entry) (name : Text) (names : List Text) → loaded_in start ≡ Some first
       → AreNamesOf (name ∷ names) live
       → EachEndsBy site (unload (name ∷ names)) now (Leaves live (without_named (name ∷ names) live))
-      (IsStillNeeded first live (without_named (name ∷ names) live))
+      (IsStillNeeded (entries_over first live) (entries_over first (without_named (name ∷ names) live)))
   pub loads : (name : Text) (m : FoundModule) → Finds (over_site site) now name (Ok m)
       → Suits site found start (found_file m) → ReadsEquivalently site now (found_file m)
       → EachEndsBy site (load (name ∷ [])) now IsDone MayForbidLoad
