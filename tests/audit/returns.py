@@ -12,7 +12,7 @@ Texts are read by the reader of `core/plain.py`. Besides there are
 
 - sessions in real shells, each with a way back at its end;
 - wrong programs, each of which has to be found: they refuse without cause, or leave something;
-- rows of what refuses an unload where a premise is missing, which docs/CLAIMS.md names.
+- rows of what refuses an unload or a load where a premise is missing, which docs/CLAIMS.md names.
 """
 
 import collections
@@ -433,7 +433,7 @@ def test_wrong_programs_are_found(program, tmp_path, around, said, note):
     note(f"in session {len(found)}: {found[-1]}")
 
 
-# What refuses an unload where a premise is missing.
+# What refuses an unload or a load where a premise is missing.
 
 
 class Row(losses.Row):
@@ -458,7 +458,11 @@ NO = "if {{{}}} {{error no}}\n"
 
 ROWS = {
     "a module that stays needs it": Row(
-        {"a/1": SET, "b/1": "prereq a\n"}, ["certified"] * 2, ["load a", "load b", "unload a"], "Still needed by 'b/1'"
+        {"a/1": SET, "b/1": "prereq a\n"},
+        ["certified"] * 2,
+        ["load a", "load b", "unload a"],
+        "Still needed by 'b/1'",
+        breaks=["load b"],
     ),
     "a module of the start needs it": Row({"a/1": SET}, ["certified"], ["load a", "unload a"], "Still needed by 'old/1'", NEEDY),
     "a module of the start is purged": Row({"a/1": SET}, ["certified"], ["load a", "purge"], "No file at '/m/old/1'", OLD),
@@ -473,6 +477,7 @@ ROWS = {
         ["certified", "clashes"],
         ["load a", "load b", "unload a"],
         "no (line 2)",
+        breaks=["load b"],
     ),
     "the start has another value than the audit": Row(
         {"a/1": NO.format("[getenv W] ne {} && [module-info mode unload]")},
@@ -500,18 +505,40 @@ ROWS = {
         breaks=["load a", "unload a"],
     ),
     "hands change what is read": Row(
-        {"a/1": NO.format("[getenv W] ne {}")}, ["certified"], ["load a", "W=x", "unload a"], "no (line 2)"
+        {"a/1": NO.format("[getenv W] ne {}")},
+        ["certified"],
+        ["load a", "W=x", "unload a"],
+        "no (line 2)",
+        breaks=["W=x"],
     ),
     "hands change a stack": Row(
-        {"a/1": "pushenv V x\n"}, ["certified"], ["load a", "__MODULES_PUSHENV_V=x", "unload a"], "Bad stack of 'V'"
+        {"a/1": "pushenv V x\n"},
+        ["certified"],
+        ["load a", "__MODULES_PUSHENV_V=x", "unload a"],
+        "Bad stack of 'V'",
+        breaks=["__MODULES_PUSHENV_V=x"],
     ),
     "hands change the loaded list": Row(
-        {"a/1": SET}, ["certified"], ["load a", "_LMFILES_=", "unload a"], "Loaded modules are inconsistent"
+        {"a/1": SET},
+        ["certified"],
+        ["load a", "_LMFILES_=", "unload a"],
+        "Loaded modules are inconsistent",
+        breaks=["_LMFILES_="],
     ),
     "the file is gone": Row({"a/1": SET}, ["certified"], ["load a", "unload a"], "No file at '/m/a/1'", later={"a/1": None}),
     "the file is another": Row({"a/1": SET}, ["certified"], ["load a", "unload a"], "no (line 2)", later={"a/1": "error no\n"}),
     "the working directory is another": Row(
         {"a/1": SET}, ["certified"], ["load a", "unload a"], "No file at './m/a/1'", {"MODULEPATH": "./m"}, place="/usr"
+    ),
+    "a module in conflict has set what is read": Row(
+        {"a/1": "conflict b\nsetenv W x\n", "b/1": NO.format("[getenv W] ne {}")},
+        ["certified"] * 2,
+        ["load a", "load b"],
+        "no (line 2)",
+        breaks=["load a"],
+    ),
+    "the start has another stack": Row(
+        {"a/1": "pushenv V x\n"}, ["certified"], ["load a"], "Bad stack of 'V'", {"__MODULES_PUSHENV_V": "x"}
     ),
     "the shell has no text for it": Row(
         {"a/1": "unsetenv V two\\nlines\n"},
