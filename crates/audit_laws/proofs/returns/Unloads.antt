@@ -169,7 +169,7 @@ left_live : (m : Module) (name : Text) (live : List Module) → IsAmong m (witho
 left_live m name [] a = a
 left_live m name (x ∷ live) a = by_test (means name x.name) _
     (λ t. inr (rw t at a))
-    (λ f. by_cases (rw f at a) (λ e. inl e) (λ k. inr (left_live m name live k)))
+    (λ f. let k : (m ≡ x) ⊎ IsAmong m (without_meant name live) = rw f at a in by_cases k (λ e. inl e) (λ b. inr (left_live m name live b)))
 
 pub taken_live : (m : Module) (names : List Text) (live : List Module) → IsAmong m (taken_by names live) → IsAmong m live
 taken_live m [] live a = absurd a

@@ -203,7 +203,8 @@ WritesHelp exit text out out' err err' = AppendsPart out out' text × WritesFaul
 -- The cause of a fault, where words name these directories and this environment is judged, in the order in which all but
 -- the last are looked for: a word names no directory, and it is the first; or the device has failed at the first that
 -- can't be judged; each of them is there, and MODULEPATH has no directory, or the walk over the site, without what can't
--- be read, has a cause; or an audit finds that none of its directories is there. At any time memory is wanting, or the device has failed too often.
+-- be read, has a cause; or an audit finds that none of its directories is there. At any time memory is wanting, or the
+-- device has failed too often.
 pub data IsSiteFault (agrees : Files → Listings → Type 0) (has_failed : Text → Bool) (often : Type 0)
     (judged : Environment) (dirs : List Text) : AuditFault → Type 0 where
   no_directory : (dir : String Global) → IsFirstGone agrees dirs (string_bytes dir)
