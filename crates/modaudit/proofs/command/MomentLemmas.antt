@@ -23,7 +23,7 @@ use Rattle.audit_laws.specs.returns.Laws.{AreLiveOver, UnloadsAreAccepted, Named
 use Rattle.audit_site.specs.declared.auditing.SiteAudit.{SiteAudit}
 use Rattle.modulecmd.specs.Command.{standard, for_shell, by_shell}
 use Rattle.modaudit.specs.command.SiteCommands.{judged_site}
-use Rattle.modaudit.specs.command.Moments.{Suits, EndsBy, Leaves, IsDone, IsUnrelated, CommandsEnd}
+use Rattle.modaudit.specs.command.Moments.{SuitsStart, EndsBy, Leaves, IsDone, IsUnrelated, CommandsEnd}
 
 -- ---- from the step of a request to a command
 
@@ -72,7 +72,7 @@ pub record Laws : Type 0 where
 
 pub commands_end : Laws → (judged_in : Environment) (files : Files) (listings : Listings) (ms : List Candidate) (found : SiteAudit) (live : List Module) (now start : Environment)
     → AreLiveOver (judged_site judged_in files listings) ms start live now
-    → ((m : SiteModule) → Suits (judged_site judged_in files listings) found start m → IsCertain ms start m)
+    → ((m : SiteModule) → SuitsStart (judged_site judged_in files listings) found start m → IsCertain ms start m)
     → CommandsEnd (judged_site judged_in files listings) found live now start
 commands_end laws judged_in files listings ms found live now start over certain =
     let site = judged_site judged_in files listings in

@@ -40,7 +40,7 @@ use Rattle.modulecmd.proofs.RunLemmas.{AllAllowed, alone, same_moves}
 use Rattle.requests.proofs.hand_changes.EventLemmas.{new_parts}
 use Rattle.modaudit.specs.command.SiteCommands.{CommandLoads, HandsLeaveReads, SiteShellsAndHandsReturn}
 use Rattle.modaudit.specs.command.WayBack.{IsSession, live_at_end, SiteSessionsLayer, SiteWayBackIsOpen}
-use Rattle.modaudit.specs.command.Moments.{Suits, IsReported, HoldsAtMoment}
+use Rattle.modaudit.specs.command.Moments.{SuitsStart, IsReported, HoldsAtMoment}
 use Rattle.modaudit.specs.command.Reported.{LoadsAreReported, CommandLoadsReported, LoadsAreNamed, HasAllThatWasRead, audited_env, reported_site}
 use Rattle.modaudit.specs.command.Reported.{ReportedModulesReturn, MomentsAreSessions, AuditedStartReturns, TreesHaveAllThatWasRead}
 use Rattle.modaudit.proofs.command.SiteCommandLemmas.{commands_leave}
@@ -101,7 +101,7 @@ record IsIn (limits : Limits) (env : Environment) (files : Files) (listings : Li
 
 suits_one : files.OneOutcome → CertifiedAreExact → DeterministicModulesStay → (limits : Limits) (env : Environment) (files : Files) (listings : Listings) (more_files : Files)
     (more_listings : Listings) (names : List Text) (ms : List Candidate) (found : SiteAudit) → IsIn limits env files listings more_files more_listings names ms found
-    → (start : Environment) (m : SiteModule) → Suits (site_of limits env more_files more_listings) found start m → IsCertain ms start m
+    → (start : Environment) (m : SiteModule) → SuitsStart (site_of limits env more_files more_listings) found start m → IsCertain ms start m
 suits_one one exact stay limits env files listings more_files more_listings names ms found k start m r =
     let more = site_of limits env more_files more_listings in
     let s = certified_stands (site_of limits env files listings) names ms found.modules.items m k.standing r.certified in

@@ -32,7 +32,7 @@ use Rattle.modaudit.specs.command.WayBack.{IsWayBackOpen}
 
 -- The report calls this module certified. The start agrees with what it uses, by the records of its file for loading in
 -- sh with nothing loaded.
-pub record Suits (site : Site) (found : SiteAudit) (start : Environment) (m : SiteModule) : Type 0 where
+pub record SuitsStart (site : Site) (found : SiteAudit) (start : Environment) (m : SiteModule) : Type 0 where
   pub certified : IsAmong m (certified_files found.modules.items)
   pub records : List Record
   pub first : HasFirstRecords site m records
@@ -40,7 +40,7 @@ pub record Suits (site : Site) (found : SiteAudit) (start : Environment) (m : Si
 
 -- Such a module, of which the start has also the values of the audit of what it reads.
 pub record IsReported (site : Site) (found : SiteAudit) (start : Environment) (m : SiteModule) : Type 0 where
-  pub suits : Suits site found start m
+  pub suits : SuitsStart site found start m
   pub reads : ReadsEquivalently site start m
 
 -- ---- how a command ends
@@ -93,11 +93,11 @@ pub record CommandsEnd (site : Site) (found : SiteAudit) (live : List Module) (n
       → EachEndsBy site (unload (name ∷ names)) now (Leaves live (without_named (name ∷ names) live))
       (IsStillNeeded (entries_over first live) (entries_over first (without_named (name ∷ names) live)))
   pub loads : (name : Text) (m : FoundModule) → Finds (over_site site) now name (Ok m)
-      → Suits site found start (found_file m) → ReadsEquivalently site now (found_file m)
+      → SuitsStart site found start (found_file m) → ReadsEquivalently site now (found_file m)
       → EachEndsBy site (load (name ∷ [])) now IsDone MayForbidLoad
   pub reads : (m : SiteModule) → IsReported site found start m → IsUnrelated live m → ReadsEquivalently site now m
   pub switches : (old : Option Text) (new : Text) (first : List Entry) (m : FoundModule) → loaded_in start ≡ Some first
-      → AreOfLive first (old_name old new ∷ []) live → Suits site found start (found_file m)
+      → AreOfLive first (old_name old new ∷ []) live → SuitsStart site found start (found_file m)
       → ((shell : Shell) (d : Done)
       → UnloadsName (in_shell (over_site site) shell) true (old_name old new) (nothing_done now) (Ok d)
       → Finds (over_site site) d.env new (Ok m) × ReadsEquivalently site d.env (found_file m))
