@@ -1,9 +1,8 @@
 //! Laws of sites. Each function does nothing: its contract is the law.
 ghost use Rattle.audit_laws.specs.site.Laws.{StepsAreAdmitted, SessionsAreAdmitted, NamesListed, DirectoriesFound};
-ghost use Rattle.audit_laws.specs.site.Laws.{ModulesFound, DeterministicModulesFound, DeterministicRecordsAreAll, EachStands, OneStanding};
-ghost use Rattle.audit_laws.specs.site.Laws.{CertifiedStand, CertifiedReadFreely, SiteSessionsReturn, AuditsHold};
-ghost use Rattle.audit_laws.specs.site.Laws.{SiteCommandsReturn};
-ghost use Rattle.audit_laws.specs.site.Laws.{ChangesAgree, ChangesLeaveReads};
+ghost use Rattle.audit_laws.specs.site.Laws.{ModulesFound, DeterministicModulesFound, DeterministicRecordsAreAll, EachStands};
+ghost use Rattle.audit_laws.specs.site.Laws.{OneStanding, CertifiedStand, CertifiedReadFreely, SiteSessionsReturn, AuditsHold};
+ghost use Rattle.audit_laws.specs.site.Laws.{SiteCommandsReturn, ChangesAgree, ChangesLeaveReads};
 ghost use Rattle.audit_laws.specs.site.Extended.{DeterministicModulesStay};
 
 /// Nothing that was loaded at the moment of an accepted load forbade it: neither a conflict that the loaded list records,
