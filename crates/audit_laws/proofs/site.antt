@@ -1,6 +1,6 @@
 mod Parts
 pub mod Evaluations
-mod Admissions
+pub mod Admissions
 pub mod Chosen
 pub mod Covered
 pub mod DeterministicRecords

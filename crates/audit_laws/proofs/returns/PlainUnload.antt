@@ -18,18 +18,18 @@ use Rattle.requests.specs.Laws as requests
 use Rattle.requests.specs.Requests.{Request}
 use Rattle.requests.specs.Steps.{RequestContext, Done}
 use Rattle.requests.specs.Sessions.{Response, accepted, refused, given_up, IsResponse, in_shell}
-use Rattle.requests.specs.PlainRuns.{IsPlain, JudgedIsPlain}
+use Rattle.requests.specs.PlainRuns.{HasEvaluatedTo, IsPlain, JudgedIsPlain}
 use Rattle.requests.specs.JudgedRuns.{IsJudgedPlain}
 use Rattle.requests.specs.hand_changes.HandChanges.{changed, start_after}
 use Rattle.requests.specs.hand_changes.Events.{Event, act, by_hand, moves_of, EventsReachWhile}
 use Rattle.requests.specs.hand_changes.Laws.{response_moves, answered_moves, ResponseMakes, SessionsAndHandsReturn}
-use Rattle.requests.proofs.Origins.{IsFrom, AllFrom, all_both, traced}
 use Rattle.audit_certificate.specs.RecordUses.{used_by, IsAmong, Uses}
 use Rattle.audit_certificate.proofs.UsedLemmas.{by_cases, cons_either}
 use Rattle.audit_laws.specs.returns.Files.{leaving}
 use Rattle.audit_laws.specs.returns.Unloads.{without_all, taken_by, IsPlainlyLoaded}
 use Rattle.audit_laws.specs.returns.Laws.{AreReversibleOver, PlainUnloadsEnd, PlainUnloadsAreAccepted, PlainPurgesReturn}
 use Rattle.audit_laws.specs.returns.Laws.{PlainModulesLoadPlainly, JudgedUnloadsAreAccepted}
+use Rattle.audit_laws.proofs.site.Admissions.{TracedReach, traced, any_shell}
 use Rattle.audit_laws.proofs.site.LiveReads.{named_among, left_among}
 use Rattle.audit_laws.proofs.returns.LiveStacks.{stack_read}
 use Rattle.audit_laws.proofs.returns.LiveEntries.{live_spelled, RunsAgain, unload_context, unloads_entry}
@@ -38,6 +38,7 @@ use Rattle.audit_laws.proofs.returns.UnloadEffects.{CanReadStacks, unloads_had, 
 use Rattle.audit_laws.proofs.returns.Unloads as Ends
 use Rattle.audit_laws.proofs.returns.Purges as Purges
 use Rattle.audit_laws.proofs.returns.Unloads.{CanUnload, UnloadsLive, taken_live}
+use Rattle.audit_laws.proofs.returns.Sessions.{live_parts}
 
 -- what a live module uses is used so
 suits_among : (uses : Text → VariableUse) (live : List Module) (l : Module) → IsAmong l live → AreReversibleTogether uses live → AllSuit uses l.records
@@ -143,31 +144,36 @@ in_any_shell : (s : RequestContext) (shell : Shell) (m : Module) → IsPlainlyLo
 in_any_shell s shell m (ran, left, none, same) =
     (ran, record { text = left.text; file = left.file; context = left.context; named = left.named; at_path = left.at_path; runs = left.runs }, none, same)
 
-all_from : (s : RequestContext) (ms : List Move) (live : List Module) → ((m : Module) → IsAmong m live → IsFrom s m) → AllFrom s ms → (m : Module) → IsAmong m (live_after live ms) → IsFrom s m
-all_from s [] live h k = h
-all_from s (Loads l ∷ ms) live h k = all_from s ms (l ∷ live) (λ m a. by_cases a (λ e. subst (IsFrom s) (sym e) k.0) (h m)) k.1
-all_from s (Unloads l ∷ ms) live h k = all_from s ms (without_live l.name live) (λ m a. h m (left_among l.name m live a)) k.1
+-- the module's records are those of an evaluation of its file
+abbrev IsEvaluated : RequestContext → Module → Type 0
+IsEvaluated s m = (ran : Ran) × HasEvaluatedTo s m.name m.path ran × (m.records ≡ ran.records)
 
-from_any_shell : (s : RequestContext) (shell : Shell) (ms : List Move) → AllFrom (in_shell s shell) ms → AllFrom s ms
-from_any_shell s shell [] h = tt
-from_any_shell s shell (m ∷ ms) ((ran, left, same), rest) = (
-  (ran, record { text = left.text; file = left.file; context = left.context; named = left.named; at_path = left.at_path; runs = left.runs }, same),
-  from_any_shell s shell ms rest,
-)
+abbrev AreEvaluated : RequestContext → List Module → Type 0
+AreEvaluated s live = (m : Module) → IsAmong m live → IsEvaluated s m
 
-one_from : (s : RequestContext) (r : Request) (o : Response) (old : Environment) → IsResponse (in_shell s r.0) old r.1 o → AllFrom s (response_moves o)
-one_from s r (accepted d) old h = from_any_shell s r.0 d.moves (traced (in_shell s r.0) old r.1 d h)
-one_from s r (refused reason) old h = tt
-one_from s r (given_up number) old h = tt
+-- so are those of each module that moves leave live
+moves_evaluated : (s : RequestContext) (ms : List Move) (e d : Environment) (live : List Module) → AreEvaluated s live → TracedReach s ms e d → AreEvaluated s (live_after live ms)
+moves_evaluated s [] e d live h k = h
+moves_evaluated s (Loads l ∷ ms) e d live h ((admitted, (ran, left, same, before, by_mode)), (mid, made, rest)) =
+    moves_evaluated s ms mid d (l ∷ live) (λ m a. by_cases a (λ q. subst (IsEvaluated s) (sym q) (ran, left, same)) (h m)) rest
+moves_evaluated s (Unloads l ∷ ms) e d live h (from, (mid, made, rest)) =
+    moves_evaluated s ms mid d (without_live l.name live) (λ m a. h m (left_among l.name m live a)) rest
 
-events_from : (s : RequestContext) (uses : Text → VariableUse) (Allows : Environment → (Request × Response) → Type 0) (events : List (Event (Request × Response))) (live : List Module)
-    (start e last_start last : Environment) → EventsReachWhile answered_moves (ResponseMakes s) (λ l. uses) Allows live start e events last_start last → AllFrom s (moves_of answered_moves events)
-events_from s uses Allows [] live start e last_start last h = tt
-events_from s uses Allows (act (r, o) ∷ events) live start e last_start last (allowed, (next, made, rest)) =
-    all_both s (response_moves o) (moves_of answered_moves events) (one_from s r o e made.0)
-    (events_from s uses Allows events (live_after live (response_moves o)) start next last_start last rest)
-events_from s uses Allows (by_hand c ∷ events) live start e last_start last (may, rest) =
-    events_from s uses Allows events live (start_after uses live start e c) (changed c e) last_start last rest
+response_evaluated : (s : RequestContext) (r : Request) (o : Response) (old : Environment) (live : List Module) → AreEvaluated s live → IsResponse (in_shell s r.0) old r.1 o
+    → AreEvaluated s (live_after live (response_moves o))
+response_evaluated s r (accepted d) old live h is = moves_evaluated s d.moves old d.env live h (any_shell s r.0 d.moves old d.env (traced (in_shell s r.0) old r.1 d is))
+response_evaluated s r (refused reason) old live h is = h
+response_evaluated s r (given_up number) old live h is = h
+
+events_evaluated : (s : RequestContext) (uses : Text → VariableUse) (Allows : Environment → (Request × Response) → Type 0) (events : List (Event (Request × Response))) (live : List Module)
+    (start e last_start last : Environment) → AreEvaluated s live → EventsReachWhile answered_moves (ResponseMakes s) (λ l. uses) Allows live start e events last_start last
+    → AreEvaluated s (live_after live (moves_of answered_moves events))
+events_evaluated s uses Allows [] live start e last_start last h reach = h
+events_evaluated s uses Allows (act (r, o) ∷ events) live start e last_start last h (allowed, (next, made, rest)) =
+    subst (AreEvaluated s) (live_parts live (response_moves o) (moves_of answered_moves events))
+    (events_evaluated s uses Allows events (live_after live (response_moves o)) start next last_start last (response_evaluated s r o e live h made.0) rest)
+events_evaluated s uses Allows (by_hand c ∷ events) live start e last_start last h (may, rest) =
+    events_evaluated s uses Allows events live (start_after uses live start e c) (changed c e) last_start last h rest
 
 judged_plain : JudgedIsPlain → (s : RequestContext) (name path : Text) → IsJudgedPlain s name path → IsPlain s name path
 judged_plain law s name path j =
@@ -175,7 +181,7 @@ judged_plain law s name path j =
     let at = j.means m found in
     subst (λ (n : Text). IsPlain s n path) at.0 (subst (λ (p : Text). IsPlain s m.name p) at.1 plain)
 
-loaded_plainly : PlainFilesAgree → JudgedIsPlain → (s : RequestContext) (m : Module) → IsFrom s m → IsJudgedPlain s m.name m.path → IsPlainlyLoaded s m
+loaded_plainly : PlainFilesAgree → JudgedIsPlain → (s : RequestContext) (m : Module) → IsEvaluated s m → IsJudgedPlain s m.name m.path → IsPlainlyLoaded s m
 loaded_plainly law judged s m (ran, left, same) j = plain_modules_load_plainly law s m ran (judged_plain judged s m.name m.path j) left same
 
 pub judged_unloads_are_accepted : Laws → PlainFilesAgree → JudgedIsPlain → SessionsAndHandsReturn → JudgedUnloadsAreAccepted
@@ -183,7 +189,7 @@ judged_unloads_are_accepted laws agree judged returns uses s start last_start la
     let after = returns uses s start last_start last events begin reach new reversible in
     let over : AreReversibleOver uses last_start live last = subst (λ (l : List Module). AreReversibleOver uses last_start l last) (sym is)
     (record { begins = after.0; order = after.1.order; start_with_live = after.1.start_with_live; fit = after.2 }) in
-    let from = all_from s (moves_of answered_moves events) [] (λ m a. absurd a) (events_from s uses (λ b a. Unit {0}) events [] start start last_start last reach) in
+    let from = events_evaluated s uses (λ b a. Unit {0}) events [] start start last_start last (λ m a. absurd a) reach in
     let among : (m : Module) → IsAmong m (taken_by (name ∷ names) live) → IsAmong m (live_after [] (moves_of answered_moves events)) =
     λ m a. subst (IsAmong m) is (taken_live m (name ∷ names) live a) in
     unloads_are_accepted laws uses (in_shell s shell) last_start last live first name names o over begins of

@@ -40,7 +40,7 @@ back_loads site cs start [] ns h = h
 back_loads site cs start (Loads m ∷ ms) ns h = back_loads site cs start ms ns h.1
 back_loads site cs start (Unloads m ∷ ms) ns h = back_loads site cs start ms ns h
 
-live_parts : (live : List Module) (ms ns : List Move) → live_after (live_after live ms) ns ≡ live_after live (ms ++ ns)
+pub live_parts : (live : List Module) (ms ns : List Move) → live_after (live_after live ms) ns ≡ live_after live (ms ++ ns)
 live_parts live [] ns = refl
 live_parts live (Loads m ∷ ms) ns = live_parts (m ∷ live) ms ns
 live_parts live (Unloads m ∷ ms) ns = live_parts (without_live m.name live) ms ns
