@@ -1,21 +1,16 @@
 -- What a file asked is answered again, as a stable input.
-use Rattle.std.proofs.Common.{◌≡◌, inl, inr, Bool, true, false, ◌||◌, List, [], ◌∷◌, Option, Some, None}
-use Rattle.std.proofs.Common.{Ok, Err, refl, ap, sym, subst, ◌∙◌, ◌⊎◌, ◌++◌}
-use Rattle.std.specs.Prelude.{bytes_eq, unwrap_or}
-use Rattle.std.specs.List.{list_all, list_any, cons_option, AllByRecursion}
-use Rattle.std.proofs.lemmas.Bool.{and_parts}
-use Rattle.envvars.specs.Texts.{Text, has}
-use Rattle.envvars.proofs.TextLemmas.{bytes_eq-same}
-use Rattle.envvars.specs.Environment.{Environment, lookup}
+use Rattle.std.proofs.Common.{◌≡◌, true, List}
+use Rattle.std.proofs.Common.{ap, sym, ◌∙◌}
+use Rattle.std.specs.List.{list_all}
+use Rattle.envvars.specs.Texts.{Text}
+use Rattle.envvars.specs.Environment.{lookup}
 use Rattle.tclrules.specs.Oracle.{CommandWords, Question, OfCommand, OfVariable}
 use Rattle.modulefile.specs.Records.{Record}
-use Rattle.modulefile.specs.Effects.{Mode, load, unload, display, whatis}
-use Rattle.modulefile.specs.Calls.{InfoField, mode, shell, shell_type, CallForm, adds_record, adds_message, getenv, is_loaded}
-use Rattle.modulefile.specs.Calls.{own_name, typed_name, info, info_test, call_of}
-use Rattle.modulefile.specs.Answers.{FileContext, command_answer, environment_after, field_text, field_test, question_answer}
-use Rattle.modulefile.specs.Answers.{any_loaded, truth, value_shown, variable_answer}
-use Rattle.audit_laws.specs.determinism.StableInput.{is_changing, is_stable_variable, is_stable_call, is_stable_input, read_by, read_by_call, variables_read, field_of}
-use Rattle.audit_laws.specs.determinism.StableInput.{field_of_call, is_mode, is_shell, names_of_call, names_of, loaded_questions}
+use Rattle.modulefile.specs.Calls.{call_of}
+use Rattle.modulefile.specs.Answers.{FileContext, command_answer, environment_after}
+use Rattle.modulefile.specs.Answers.{any_loaded}
+use Rattle.audit_laws.specs.determinism.StableInput.{is_changing, is_stable_variable, is_stable_input, read_by, variables_read, field_of}
+use Rattle.audit_laws.specs.determinism.StableInput.{is_mode, is_shell, names_of}
 use Rattle.audit_laws.specs.determinism.StableInput.{IsSameContext, AreEquivalent}
 use Rattle.audit_laws.proofs.determinism.Noted.{Among}
 use Rattle.audit_laws.proofs.determinism.Rests.{Beginning, finds_before}

@@ -1,5 +1,5 @@
 -- Certified modules that are live together use a variable in one way.
-use Rattle.std.proofs.Common.{◌≡◌, List, refl, subst}
+use Rattle.std.proofs.Common.{◌≡◌, List, subst}
 use Rattle.envvars.specs.Texts.{Text}
 use Rattle.envvars.specs.Environment.{Environment}
 use Rattle.modulefile.specs.Moves.{Module}

@@ -1,10 +1,9 @@
 -- One plain module is unloaded, whatever else is loaded.
-use Rattle.std.proofs.Common.{◌≡◌, inl, inr, true, false, List, [], ◌∷◌, ◌++◌, Option, Some, None, Result, Ok, Err, refl, ap, sym, ◌∙◌, subst}
+use Rattle.std.proofs.Common.{◌≡◌, inl, inr, true, false, List, [], ◌∷◌, Option, Some, None, Result, Ok, Err, refl, ap, sym, ◌∙◌, subst}
 use Rattle.std.proofs.Common.{find, reverse}
 use Rattle.std.specs.Option.{option_map}
 use Rattle.std.proofs.lemmas.List.{reverse-append}
 use Rattle.modulename.specs.ModuleName.{is_module_name, means}
-use Rattle.envvars.specs.Texts.{Text}
 use Rattle.envvars.specs.Environment.{Environment}
 use Rattle.envvars.specs.Reasons.{EnvReason}
 use Rattle.envstate.specs.loaded_list.Loaded.{Entry, names_of, loaded_in, without_entry, dropped_loaded}
@@ -24,7 +23,7 @@ use Rattle.requests.specs.Refusals.{refused_as, unless}
 use Rattle.requests.specs.Reasons.{RequestReason, refused_edit, still_needed_by}
 use Rattle.requests.specs.Requests as actions
 use Rattle.requests.specs.Conditions.{has_lost, end_objection}
-use Rattle.requests.specs.Steps.{RequestContext, Done, nothing_done, with_move, consistent, context_of, module_of, script_at, UnloadsEntry, UnloadsName, RequestStep}
+use Rattle.requests.specs.Steps.{Done, nothing_done, with_move, consistent, context_of, module_of, script_at, UnloadsEntry, UnloadsName, RequestStep}
 use Rattle.audit_certificate.specs.RecordUses.{IsAmong}
 use Rattle.audit_certificate.proofs.UsedLemmas.{by_cases, among_either}
 use Rattle.audit_certificate.proofs.Exact.{all_each}

@@ -1,8 +1,7 @@
 -- A purge over live modules ends as a purge of the start does, where each live module can be unloaded.
-use Rattle.std.proofs.Common.{◌≡◌, Bool, true, false, cond, not, List, [], ◌∷◌, ◌++◌, map, Option, Some, None, Result, Ok, Err, refl, ap, sym, ◌∙◌, subst}
+use Rattle.std.proofs.Common.{◌≡◌, Bool, true, false, List, [], ◌∷◌, ◌++◌, map, Option, Some, None, Result, Ok, Err, refl, ap, sym, ◌∙◌, subst}
 use Rattle.std.proofs.Common.{find, reverse, inl, inr}
 use Rattle.std.specs.Prelude.{bytes_eq}
-use Rattle.std.proofs.lemmas.Bool.{false≢true}
 use Rattle.std.proofs.lemmas.List.{map-append, reverse-append, reverse-reverse}
 use Rattle.std.proofs.lemmas.Option.{same_Some}
 use Rattle.modulename.specs.ModuleName.{is_module_name, means}
@@ -26,7 +25,7 @@ use Rattle.requests.specs.Laws as requests
 use Rattle.requests.specs.Refusals.{refused_as, unless}
 use Rattle.requests.specs.Reasons.{RequestReason, missed, refused_edit}
 use Rattle.requests.specs.Requests.{purge}
-use Rattle.requests.specs.Steps.{RequestContext, Done, nothing_done, with_move, continued, consistent, entries_of, module_of, UnloadsEntry, UnloadsMeant, last_meant}
+use Rattle.requests.specs.Steps.{RequestContext, Done, nothing_done, with_move, continued, consistent, module_of, UnloadsEntry, UnloadsMeant, last_meant}
 use Rattle.requests.specs.Steps.{UnloadsName, Each, EndsRequest, RequestStep}
 use Rattle.search.specs.Reasons.{bad_name}
 use Rattle.audit_certificate.specs.RecordUses.{IsAmong}

@@ -8,7 +8,6 @@ use Rattle.envvars.specs.Environment.{Environment}
 use Rattle.envstate.specs.loaded_list.Loaded.{Entry, loaded_in, is_path}
 use Rattle.filetree.specs.Modulefiles.{script, modulefile}
 use Rattle.filetree.specs.Relations.{Then}
-use Rattle.search.specs.Found.{FoundModule}
 use Rattle.modulefile.specs.Laws as files
 use Rattle.reversal.specs.Live.{entries_over}
 use Rattle.requests.specs.Refusals.{unless}
@@ -17,9 +16,8 @@ use Rattle.requests.specs.Requests.{switch}
 use Rattle.requests.specs.Conditions.{has_lost, end_objection}
 use Rattle.requests.specs.Steps.{RequestContext, Done, nothing_done, consistent, LoadsName, UnloadsName, EndsRequest, Switches, old_name}
 use Rattle.requests.specs.Sessions.{in_shell}
-use Rattle.audit_certificate.specs.Candidates.{Candidate}
 use Rattle.audit_certificate.specs.Laws.{CertifiedMovesPreserve}
-use Rattle.audit_laws.specs.site.Sites.{Site, over_site, candidate_file}
+use Rattle.audit_laws.specs.site.Sites.{over_site, candidate_file}
 use Rattle.audit_laws.specs.returns.Unloads.{without_meant}
 use Rattle.audit_laws.specs.returns.Loads.{IsSwitchedOrForbidden}
 use Rattle.audit_laws.specs.returns.Laws.{SwitchesAreAccepted}

@@ -1,21 +1,20 @@
 -- Unloads of names that are of live modules come to their end, where each live module can be unloaded.
-use Rattle.std.proofs.Common.{◌≡◌, inl, inr, ◌⊎◌, Bool, true, false, List, [], ◌∷◌, ◌++◌, map, Option, Some, None, Result, Ok, Err, refl, ap, sym, ◌∙◌, subst}
-use Rattle.std.proofs.Common.{find, reverse}
+use Rattle.std.proofs.Common.{◌≡◌, inl, inr, ◌⊎◌, Bool, true, false, List, [], ◌∷◌, ◌++◌, Option, Some, None, Result, Ok, Err, refl, ap, sym, ◌∙◌, subst}
+use Rattle.std.proofs.Common.{find}
 use Rattle.std.specs.List.{cons_option}
 use Rattle.std.specs.Option.{option_map}
 use Rattle.std.proofs.lemmas.Bool.{false≢true}
-use Rattle.std.proofs.lemmas.List.{map-append, reverse-append}
 use Rattle.modulename.specs.ModuleName.{is_module_name, means}
 use Rattle.envvars.specs.Texts.{Text}
 use Rattle.envvars.specs.Environment.{Environment}
-use Rattle.envstate.specs.loaded_list.Loaded.{Entry, names_of, loaded_in}
+use Rattle.envstate.specs.loaded_list.Loaded.{Entry, loaded_in}
 use Rattle.filetree.specs.Relations.{Is, If, Then}
 use Rattle.modulefile.specs.Moves.{Module, Move, Loads, Unloads, entry_of}
 use Rattle.reversal.specs.Live.{entries_over}
 use Rattle.reversal.specs.Runs.{live_named, without_live, live_after}
 use Rattle.requests.specs.Refusals.{unless}
 use Rattle.requests.specs.Reasons.{RequestReason, missed, still_needed_by}
-use Rattle.requests.specs.Requests.{unload, purge}
+use Rattle.requests.specs.Requests.{unload}
 use Rattle.requests.specs.Conditions.{has_lost, end_objection}
 use Rattle.requests.specs.Laws as requests
 use Rattle.requests.specs.Steps.{RequestContext, Done, nothing_done, consistent, UnloadsEntry, UnloadsMeant, last_meant, UnloadsName, Each, EndsRequest}
@@ -24,7 +23,7 @@ use Rattle.search.specs.Reasons.{bad_name}
 use Rattle.audit_certificate.specs.RecordUses.{IsAmong}
 use Rattle.audit_certificate.proofs.UsedLemmas.{by_test, by_cases}
 use Rattle.audit_laws.specs.returns.Unloads.{means_one, without_meant, without_all, taken_by, AreOfLive, EndsUnlessNeeded, IsAcceptedOrNeeded, IsBack}
-use Rattle.audit_laws.proofs.returns.MeantNames.{means_itself, is_meant, none_meant}
+use Rattle.audit_laws.proofs.returns.MeantNames.{is_meant, none_meant}
 
 -- ---- one live module
 

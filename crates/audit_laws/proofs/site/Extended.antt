@@ -13,10 +13,9 @@ use Rattle.search.specs.Listed.{IsBelow, ReachesThrough}
 use Rattle.requests.specs.Refusals.{RefusedAs}
 use Rattle.requests.specs.Reasons.{RequestReason, file_refused}
 use Rattle.requests.specs.Steps.{entries_of, script_at}
-use Rattle.audit_certificate.specs.Candidates.{Candidate}
 use Rattle.audit_laws.specs.determinism.Contexts.{EvaluationContext, first_context, other_contexts, FileRuns}
 use Rattle.audit_laws.specs.site.Sites.{SiteModule, site_of, IsIn, context_in, EvaluatesBy, EvaluateBy, EvaluatesTo, HasFirstRecords}
-use Rattle.audit_laws.specs.site.Sites.{HasDeterministicRecords, IsDirectory, first, added, IsOfSite, candidate_file, IsDeterministicModule}
+use Rattle.audit_laws.specs.site.Sites.{HasDeterministicRecords, IsDirectory, first, added, IsOfSite, candidate_file}
 use Rattle.audit_laws.specs.site.Extended.{IsExtendedBy, DeterministicModulesStay}
 use Rattle.audit_laws.proofs.site.Evaluations.{evaluated}
 

@@ -9,7 +9,7 @@ use Rattle.envvars.specs.Texts.{Text}
 use Rattle.envvars.specs.Environment.{Environment, lookup}
 use Rattle.envvars.proofs.TextLemmas.{bytes_eq-same, bytes_eq-symmetric, or_left, or_right}
 use Rattle.modulefile.specs.Laws as files
-use Rattle.modulefile.specs.Records.{Record, conflict_names}
+use Rattle.modulefile.specs.Records.{conflict_names}
 use Rattle.modulefile.specs.Moves.{Module}
 use Rattle.reversal.specs.VariableUses.{VariableUse, Untouched}
 use Rattle.reversal.specs.Starts.{HasVariable}

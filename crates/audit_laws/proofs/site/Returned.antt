@@ -1,25 +1,23 @@
 -- Sessions and commands of certified modules, by the law of moves.
-use Rattle.std.proofs.Common.{◌≡◌, ◌⊎◌, inl, inr, Bool, true, false, cond, not, ◌&&◌, ◌||◌, List, [], ◌∷◌, ◌++◌, Some, Ok, refl, ap, sym, ◌∙◌}
+use Rattle.std.proofs.Common.{◌≡◌, inl, inr, true, false, List, [], ◌∷◌, ◌++◌, Some, Ok, refl, ap, sym, ◌∙◌}
 use Rattle.std.proofs.Common.{subst}
 use Rattle.std.specs.Prelude.{bytes_eq}
 use Rattle.std.specs.List.{list_any}
-use Rattle.std.proofs.lemmas.Bool.{false≢true}
 use Rattle.modulename.specs.ModuleName.{means}
 use Rattle.envvars.specs.Texts.{Text, has}
-use Rattle.envvars.specs.Environment.{Environment, lookup}
-use Rattle.envvars.proofs.TextLemmas.{bytes_eq-same, bytes_eq-symmetric, or_left, or_right}
+use Rattle.envvars.specs.Environment.{Environment}
+use Rattle.envvars.proofs.TextLemmas.{or_right}
 use Rattle.envstate.specs.loaded_list.Loaded.{Entry, names_of, loaded_in}
 use Rattle.envstate.proofs.StateLemmas.{list_in_order}
 use Rattle.modulefile.specs.Laws as files
 use Rattle.modulefile.specs.Records.{Record, conflict_names}
 use Rattle.modulefile.specs.Effects.{load}
 use Rattle.modulefile.specs.Moves.{Module, Move, Loads, Unloads, module_of_move, Fits, moved, MovesReach}
-use Rattle.reversal.specs.VariableUses.{VariableUse, Untouched}
 use Rattle.reversal.specs.Live.{entries_over}
-use Rattle.reversal.specs.Starts.{HasVariable, IsStartWith}
+use Rattle.reversal.specs.Starts.{IsStartWith}
 use Rattle.reversal.specs.Requests as moves
 use Rattle.reversal.specs.Undone.{UndoEquivalently}
-use Rattle.reversal.specs.Runs.{live_named, without_live, live_after, Undoes}
+use Rattle.reversal.specs.Runs.{without_live, live_after, Undoes}
 use Rattle.requests.specs.Requests.{Request}
 use Rattle.requests.specs.Steps.{RequestContext}
 use Rattle.requests.specs.Sessions.{Response, Session, in_shell, env_after, end_environment, outcome_of, session_moves}
@@ -27,16 +25,15 @@ use Rattle.requests.specs.Returning.{IsNew, AreNew}
 use Rattle.requests.specs.Laws.{SessionsReach, StepsReach}
 use Rattle.requests.proofs.Undone.{same_list}
 use Rattle.audit_laws.specs.determinism.StableInput.{is_changing}
-use Rattle.audit_certificate.specs.RecordUses.{IsAmong, Uses, used_by, used_by_modules, first_use, uses_by}
-use Rattle.audit_certificate.specs.Candidates.{Candidate, as_module}
-use Rattle.audit_certificate.specs.Clashes.{is_other, names_in_conflict, in_conflict, exclude, in_conflict_with_entry}
+use Rattle.audit_certificate.specs.RecordUses.{IsAmong, used_by, uses_by}
+use Rattle.audit_certificate.specs.Candidates.{Candidate}
+use Rattle.audit_certificate.specs.Clashes.{names_in_conflict, in_conflict, in_conflict_with_entry}
 use Rattle.audit_certificate.specs.Certificates.{IsCertified, certified, AgreesWith}
 use Rattle.audit_certificate.specs.Laws.{CertifiedAreExact, IsAsCertified, AreCertified, EntriesHaveConflicts, AreLayered}
-use Rattle.audit_certificate.specs.Laws.{AreCertifiedTogether, CertifiedMovesPreserve, NoneIsLayered}
-use Rattle.audit_certificate.proofs.UsedLemmas.{by_cases, first_or_none, user_of}
+use Rattle.audit_certificate.specs.Laws.{CertifiedMovesPreserve, NoneIsLayered}
 use Rattle.audit_certificate.proofs.AsCertified.{used_alike}
 use Rattle.audit_certificate.proofs.MovedVariables.{not_named}
-use Rattle.audit_laws.specs.site.Sites.{Site, SiteModule, over_site, HasDeterministicRecords, Reads, ReadsEquivalently, file_of, candidate_file}
+use Rattle.audit_laws.specs.site.Sites.{Site, SiteModule, over_site, HasDeterministicRecords, ReadsEquivalently, file_of, candidate_file}
 use Rattle.audit_laws.specs.site.Admitted.{IsAdmitted}
 use Rattle.audit_laws.specs.site.Laws.{LoadEquivalently, DeterministicRecordsAreAll, LoadsAreOf, AreDeterministic, SiteSessionsReturn}
 use Rattle.audit_laws.specs.site.Laws.{AuditsHold, AreReadEquivalently, SiteCommandsReturn}

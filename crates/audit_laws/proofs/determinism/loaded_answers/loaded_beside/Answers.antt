@@ -1,8 +1,7 @@
-use Rattle.std.proofs.Common.{◌∙◌, ap, map, not, string_bytes, take_all, List, String, Global}
+use Rattle.std.proofs.Common.{map, not, string_bytes}
 use Rattle.std.specs.List.{list_any}
 use Rattle.modulename.specs.ModuleName.{means}
 use Rattle.envvars.specs.Texts.{texts_in}
-use Rattle.audit_laws.specs.determinism.LoadedAnswers.{loaded_beside}
 use Rattle.audit_laws.proofs.determinism.Seen.{filter_more}
 use Rattle.audit_laws.proofs.determinism.loaded_answers.loaded_beside.Goals as goal
 
