@@ -1,7 +1,7 @@
 -- What modaudit reported as certified is certified where all is there that it read.
 use Rattle.std.proofs.Common.{◌≡◌, ◌⊎◌, inl, inr, Bool, true, false, cond, not, List, [], ◌∷◌, ◌++◌, map, filter, Option, Some, None, refl, ap, sym, ◌∙◌, subst}
 use Rattle.std.proofs.lemmas.Bool.{false≢true}
-use Rattle.envvars.specs.Texts.{Text, texts_in}
+use Rattle.envvars.specs.Texts.{Text}
 use Rattle.envvars.specs.Environment.{Environment}
 use Rattle.tclrules.specs.declared.limits.Limits.{Limits}
 use Rattle.filetree.specs.Agreement.{Files, Listings}
@@ -33,7 +33,7 @@ use Rattle.audit_site.specs.declared.auditing.AuditedModule.{AuditedModule}
 use Rattle.audit_site.specs.declared.auditing.SiteAudit.{SiteAudit}
 use Rattle.audit_site.specs.declared.standing.AuditStanding.{AuditStanding}
 use Rattle.audit_site.specs.declared.standing.AuditStanding.TheVariants.{Certified, Unstable, OneWay, Inconsistent, Excluded, Clashes, Refused}
-use Rattle.audit_site.specs.Audits.{StandsAs, AllStand, audited_file, is_certified, certified_files, remaining, IsAudit}
+use Rattle.audit_site.specs.Audits.{StandsAs, AllStand, audited_file, is_certified, certified_files, remaining}
 use Rattle.modulecmd.specs.Command.{standard}
 use Rattle.modulecmd.specs.Runs.{PrintedCommand, command_moves, moves_in, CommandMakes}
 use Rattle.modulecmd.proofs.RunLemmas.{AllAllowed, alone, same_moves}
@@ -41,7 +41,7 @@ use Rattle.requests.proofs.hand_changes.EventLemmas.{new_parts}
 use Rattle.modaudit.specs.command.SiteCommands.{CommandLoads, HandsLeaveReads, SiteShellsAndHandsReturn}
 use Rattle.modaudit.specs.command.WayBack.{IsSession, live_at_end, SiteSessionsLayer, SiteWayBackIsOpen}
 use Rattle.modaudit.specs.command.Moments.{SuitsStart, IsReported, HoldsAtMoment}
-use Rattle.modaudit.specs.command.Reported.{LoadsAreReported, CommandLoadsReported, LoadsAreNamed, HasAllThatWasRead, audited_env, reported_site}
+use Rattle.modaudit.specs.command.Reported.{LoadsAreReported, CommandLoadsReported, LoadsAreNamed, audited_env, reported_site}
 use Rattle.modaudit.specs.command.Reported.{ReportedModulesReturn, MomentsAreSessions, AuditedStartReturns, TreesHaveAllThatWasRead}
 use Rattle.modaudit.proofs.command.SiteCommandLemmas.{commands_leave}
 use Rattle.modaudit.proofs.command.MomentLemmas as moments

@@ -3,7 +3,6 @@ use Rattle.std.proofs.Common.{◌≡◌, List, [], ◌∷◌, Some, Result, Ok, 
 use Rattle.std.specs.Prelude.{codes}
 use Rattle.envvars.specs.Texts.{Text}
 use Rattle.envvars.specs.Environment.{Environment}
-use Rattle.envstate.specs.loaded_list.Loaded.{loaded_in}
 use Rattle.shelltext.specs.declared.shell.Shell.{Shell}
 use Rattle.shelltext.specs.Shells.{shell_named}
 use Rattle.shelltext.specs.Reading.{OneEffect, DifferenceMakes}
