@@ -1,0 +1,13 @@
+//! What Tcl computes from constants: a folder over the tree of a command, with the few commands that answer by their
+//! words alone.
+//! Takes memory and touches nothing else.
+#![tactic(auto)]
+
+mod answers;
+mod folding;
+mod knowledge;
+mod paths;
+mod values;
+
+pub use folding::{Computed, computed_in};
+pub use knowledge::{KnownFile, KnownVariable, Knowledge};
