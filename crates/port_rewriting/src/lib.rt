@@ -1,0 +1,25 @@
+//! Modulefiles translated: each command is read once, classified, written, and reported.
+//! Takes memory and touches nothing else.
+#![tactic(auto)]
+
+mod acceptance;
+mod aliases;
+mod class;
+mod classifying;
+mod conditions;
+mod guards;
+mod names;
+mod pieces;
+mod reader;
+mod rewrite;
+mod scopes;
+mod symbols;
+mod translation;
+
+pub use aliases::ShellScript;
+pub use class::{Class, Note, Outcome};
+pub use names::{Member, Site};
+pub use pieces::TranslatedPiece;
+pub use scopes::{FileKind, Given};
+pub use symbols::{VersionSymbol, symbols_said};
+pub use translation::{Translation, TranslationFault, translate};
