@@ -20,6 +20,7 @@ pub use aliases::ShellScript;
 pub use class::{Class, Note, Outcome};
 pub use names::{Member, Site};
 pub use pieces::TranslatedPiece;
+pub use reader::NamedFamily;
 pub use scopes::{FileKind, Given};
 pub use symbols::{VersionSymbol, symbols_said};
 pub use translation::{Translation, TranslationFault, translate};
