@@ -71,7 +71,7 @@ fn asks_unload(
 }
 
 /// What an expression asks.
-fn condition<'t>(
+fn condition_in<'t>(
     alloc: Global,
     text: &'t str,
     expression: &Expr<ByteRange>,
@@ -97,7 +97,7 @@ pub(crate) fn condition_of<'t>(
     text: &'t str,
 ) -> Result<Option<Condition<'t>>, AllocError> {
     match parse_expr_pieces(alloc, &text) {
-        Ok(expression) => condition(alloc, text, &expression),
+        Ok(expression) => condition_in(alloc, text, &expression),
         Err(TextFault::OutOfMemory) => Err(AllocError),
         Err(_) => Ok(None),
     }

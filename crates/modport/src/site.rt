@@ -1,11 +1,12 @@
-//! What the files below a directory say of its modules: families, and version symbols.
+//! What the files below directories say of their modules: names, version symbols and families.
 
 use crate::fault::PortFault;
-use crate::texts::{joined, kind_of, modulefile, read};
+use crate::texts::{joined, modulefile, read};
 use crate::walk::{MOST_DIRECTORIES, name_below, names_in};
-use port_rewriting::families::{SiteFacts, families_said, symbols_said};
+use port_constants::KnownFile;
+use port_rewriting::{FileKind, Given, Member, Site, symbols_said, translate};
 use std::alloc::Global;
-use std::str;
+use std::fs;
 use tcltext::chars::TextFault;
 
 /// A directory whose files are read.
@@ -17,6 +18,11 @@ struct Folder {
     name: String,
 }
 
+/// Whether the name is that of a default file.
+pub(crate) fn is_default_file(name: &str) -> bool {
+    name == ".modulerc" || name == ".version"
+}
+
 /// Goes on behind what can't be read, which the translation says, unless memory ran out.
 fn unless_memory(done: Result<(), PortFault>) -> Result<(), PortFault> {
     match done {
@@ -25,36 +31,17 @@ fn unless_memory(done: Result<(), PortFault>) -> Result<(), PortFault> {
     }
 }
 
-/// Adds the families that a text names, as those of a module.
-fn add_families(
-    alloc: Global,
-    site: &mut SiteFacts,
-    text: &str,
-    module: &str,
-) -> Result<(), PortFault> {
-    match families_said(alloc, text) {
-        Ok(names) => {
-            for name in &names {
-                site.add(alloc, name, module.as_bytes())?;
-            }
-            Ok(())
-        }
-        Err(TextFault::OutOfMemory) => Err(PortFault::OutOfMemory),
-        Err(_) => Ok(()),
-    }
-}
-
 /// Adds the version symbols that the text of a default file says, in a directory with modules of that name.
 fn add_symbols(
     alloc: Global,
-    site: &mut SiteFacts,
+    site: &mut Site,
     text: &str,
     folder: &str,
 ) -> Result<(), PortFault> {
-    match symbols_said(alloc, text, folder.as_bytes()) {
+    match symbols_said(alloc, text, folder) {
         Ok(symbols) => {
             for symbol in symbols {
-                site.add_symbol(symbol)?;
+                site.symbols.push(symbol)?;
             }
             Ok(())
         }
@@ -63,48 +50,71 @@ fn add_symbols(
     }
 }
 
-/// Adds what the text of a file of this name says, in a directory with modules of that name.
-fn add_text(
-    alloc: Global,
-    site: &mut SiteFacts,
-    text: &str,
-    folder: &str,
-    name: &str,
-) -> Result<(), PortFault> {
-    match name {
-        ".modulerc" | ".version" => add_symbols(alloc, site, text, folder),
-        _ => add_families(alloc, site, text, module_of(folder, name)),
+/// Adds a module, and the families that its file names.
+fn add_module(alloc: Global, site: &mut Site, text: &str, name: String) -> Result<(), PortFault> {
+    let given = Given {
+        kind: FileKind::Modulefile,
+        site: None,
+        file: Some(KnownFile {
+            path: "",
+            name: name.as_str(),
+        }),
+        host: &[],
+        scripts_folder: None,
+        one_version: None,
+        has_defaults: false,
+        is_strict: false,
+    };
+    let translation = translate(alloc, given, text)?;
+    for family in translation.families {
+        match family.name {
+            Some(family_name) => site.members.push(Member {
+                family: family_name,
+                module: name.clone()?,
+                is_sure: family.is_sure,
+            })?,
+            None => site.has_unknown_families = true,
+        }
     }
+    site.modules.push(name)?;
+    Ok(())
 }
 
 /// Adds what the file at a path says, which has this name in a directory with modules of that name.
 fn add_file(
     rt: &HostRuntime,
-    site: &mut SiteFacts,
+    site: &mut Site,
     path: &str,
     folder: &str,
     name: &str,
 ) -> Result<(), PortFault> {
-    let Some(file) = modulefile(rt.alloc(), read(rt, path)?.as_slice())? else {
+    let alloc = rt.alloc();
+    let Some(file) = modulefile(alloc, read(rt, path)?.as_slice())? else {
         return Ok(());
     };
-    match str::from_utf8(file.text.as_slice()) {
-        Ok(text) => add_text(rt.alloc(), site, text, folder, name),
-        Err(_) => Ok(()),
+    if is_default_file(name) {
+        add_symbols(alloc, site, file.text.as_str(), folder)
+    } else if name.starts_with('.') {
+        Ok(())
+    } else {
+        let module = name_below(alloc, folder, name)?;
+        add_module(alloc, site, file.text.as_str(), module)
     }
 }
 
 /// Adds what is at a name of a directory, or the directory that is there to those that are still to be read.
 fn add_name(
     rt: &HostRuntime,
-    site: &mut SiteFacts,
+    site: &mut Site,
     below: &mut Vec<Folder>,
     folder: &Folder,
     name: &str,
 ) -> Result<(), PortFault> {
     let alloc = rt.alloc();
     let path = joined(alloc, folder.path.as_str(), name)?;
-    let found = kind_of(rt, path.as_str())?;
+    let Ok(found) = fs::metadata(rt, path.as_str()) else {
+        return Ok(());
+    };
     if found.is_dir() {
         let name = name_below(alloc, folder.name.as_str(), name)?;
         below.push(Folder { path, name })?;
@@ -119,7 +129,7 @@ fn add_name(
 /// Adds what is in a directory.
 fn add_folder(
     rt: &HostRuntime,
-    site: &mut SiteFacts,
+    site: &mut Site,
     below: &mut Vec<Folder>,
     folder: &Folder,
 ) -> Result<(), PortFault> {
@@ -132,7 +142,7 @@ fn add_folder(
 /// Adds what is in some directories, and gives those in them.
 fn add_folders(
     rt: &HostRuntime,
-    site: &mut SiteFacts,
+    site: &mut Site,
     folders: &[Folder],
 ) -> Result<Vec<Folder>, PortFault> {
     let mut below = Vec::new(rt.alloc());
@@ -142,18 +152,11 @@ fn add_folders(
     Ok(below)
 }
 
-/// The module of a file of this name, in a directory with modules of that name.
-pub(crate) fn module_of<'n>(folder: &'n str, name: &'n str) -> &'n str {
-    if folder.is_empty() { name } else { folder }
-}
-
-/// What the modulefiles below a directory say of families, and its default files of version symbols: those of a
-/// directory by their names, before those of the directories in it.
+/// Adds what the files below a directory say: those of a directory by their names, before those of the directories in it.
 ///
 /// The error: want of memory. What can't be read says nothing.
-pub(crate) fn site_of(rt: &HostRuntime, from: &str) -> Result<SiteFacts, PortFault> {
+pub(crate) fn add_tree(rt: &HostRuntime, site: &mut Site, from: &str) -> Result<(), PortFault> {
     let alloc = rt.alloc();
-    let mut site = SiteFacts::new(alloc);
     let mut folders = Vec::new(alloc);
     folders.push(Folder {
         path: String::from_str(alloc, from)?,
@@ -163,7 +166,7 @@ pub(crate) fn site_of(rt: &HostRuntime, from: &str) -> Result<SiteFacts, PortFau
         if folders.is_empty() {
             break;
         }
-        folders = add_folders(rt, &mut site, folders.as_slice())?;
+        folders = add_folders(rt, site, folders.as_slice())?;
     }
-    Ok(site)
+    Ok(())
 }
