@@ -5,11 +5,11 @@
 pub enum PieceOutcome {
     /// Another text is written for it.
     Translated,
-    /// Nothing is written for it.
-    Dropped,
+    /// Another text is written for it, which differs in a case.
+    Changed,
     /// What Tcl computes is written for it.
     Computed,
-    /// What Environment Modules has shown of the file is written in its place.
+    /// What a load of the file has done is written in its place.
     Flattened,
     /// It wasn't there.
     Added,
@@ -28,6 +28,6 @@ pub struct Line<'w, 'p> {
     pub fate: PieceOutcome,
     /// Which it is.
     pub what: &'w [u8],
-    /// What is written for it, where that is said.
+    /// What is written for it, or in which case that differs, where this is said.
     pub put: Option<&'p [u8]>,
 }

@@ -17,7 +17,7 @@ impl PieceOutcome {
     {
         match self {
             PieceOutcome::Translated => "translated",
-            PieceOutcome::Dropped => "dropped",
+            PieceOutcome::Changed => "changed",
             PieceOutcome::Computed => "computed",
             PieceOutcome::Flattened => "flattened",
             PieceOutcome::Added => "added",
@@ -185,7 +185,9 @@ pub(crate) fn push_report(
 }
 
 /// A line on the whole of what is at this path.
-fn line_on(
+///
+/// The error: want of memory.
+pub(crate) fn line_on(
     alloc: Global,
     json: bool,
     path: &str,
@@ -201,26 +203,6 @@ fn line_on(
     let mut report = Vec::new(alloc);
     push_line(alloc, &mut report, json, path, &line)?;
     Ok(report)
-}
-
-/// The line that says of the folder of this path that its default is named.
-pub(crate) fn default_line(
-    alloc: Global,
-    json: bool,
-    path: &str,
-    name: &str,
-) -> Result<Vec<u8>, AllocError> {
-    line_on(alloc, json, path, PieceOutcome::Default, name)
-}
-
-/// The line that says of the file of this path that something is left out.
-pub(crate) fn left_out_line(
-    alloc: Global,
-    json: bool,
-    path: &str,
-    what: &str,
-) -> Result<Vec<u8>, AllocError> {
-    line_on(alloc, json, path, PieceOutcome::LeftOut, what)
 }
 
 /// The line that says of the file of this path why it isn't translated.

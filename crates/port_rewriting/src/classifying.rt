@@ -8,6 +8,7 @@ use crate::names::{Meaning, is_plain, meaning_in};
 use crate::reader::Reader;
 use crate::rewrite::{Case, Rewrite, WordText};
 use crate::scopes::{FileKind, Scope};
+use crate::symbols::{full_name, in_place};
 use std::alloc::AllocError;
 use tcltext::chars::is_name;
 
@@ -33,6 +34,14 @@ fn is_plain_part(part: &str) -> bool {
 /// Whether a directory can be written as a word of a script, and is the same wherever a shell is.
 fn is_directory(word: &str) -> bool {
     word.starts_with('/') && word.split('/').all(|part| is_plain_part(part))
+}
+
+/// The folder of a module.
+fn folder_of(module: &str) -> &str {
+    match module.rsplit_once('/') {
+        Some((folder, _)) => folder,
+        None => "",
+    }
 }
 
 /// Whether a shell takes something in a value for a home.
@@ -181,9 +190,9 @@ impl<'f> Reader<'f> {
         let (Some(site), Some(file)) = (self.given.site, self.given.file) else {
             return Ok(None);
         };
-        let module = match file.name.rsplit_once('/') {
-            Some((folder, _)) => folder,
-            None => file.name,
+        let module = match folder_of(file.name) {
+            "" => file.name,
+            folder => folder,
         };
         let is_family = !name.is_empty() && name.bytes().all(|byte| is_name(byte));
         if !is_family || !is_plain(module) {
@@ -294,6 +303,39 @@ impl<'f> Reader<'f> {
         }
     }
 
+    /// What a symbol of a default file does otherwise there; none where it has no effect here, and is written for itself.
+    fn symbol_difference<'w>(&self, name: &'w str, words: &[Option<&'w str>]) -> Result<Option<&'w str>, AllocError> {
+        let (Some(site), Some(file)) = (self.given.site, self.given.file) else {
+            return Ok(None);
+        };
+        let folder = folder_of(file.name);
+        let version = full_name(self.alloc, folder, name)?;
+        if !site.has_module(version.as_str()) && !site.is_symbol(version.as_str()) {
+            return Ok(Some(name));
+        }
+        let is_of_default = file.name.ends_with(".version") || folder_of(version.as_str()) != folder;
+        for word in words {
+            let Some(word) = *word else {
+                return Ok(Some(name));
+            };
+            let called = in_place(self.alloc, version.as_str(), word)?;
+            if site.has_module(called.as_str())
+                || word == "default" && is_of_default && !self.given.has_defaults
+            {
+                return Ok(Some(word));
+            }
+        }
+        Ok(None)
+    }
+
+    /// What is written for a symbol of a default file.
+    fn symbol(&self, name: &str, words: &[Option<&str>]) -> Result<Rewrite, AllocError> {
+        match self.symbol_difference(name, words)? {
+            Some(said) => self.left(said),
+            None => Ok(Rewrite::Keep),
+        }
+    }
+
     /// What a command that is read here does otherwise there.
     fn difference(&self, scope: Scope, words: &[Option<&str>]) -> Option<&'static str> {
         match words {
@@ -352,6 +394,9 @@ impl<'f> Reader<'f> {
         }
         if !self.reads(name, words, expands)? {
             return self.unread(name, words);
+        }
+        if let [Some("module-version"), Some(symbol), others @ ..] = words {
+            return self.symbol(symbol, others);
         }
         match self.difference(scope, words) {
             Some(said) => self.left(said),

@@ -143,6 +143,24 @@ impl Site {
             || self.is_family_of(name, module)
     }
 
+    /// Whether a module has this whole name.
+    pub(crate) fn has_module(&self, name: &str) -> bool {
+        is_among(self.modules.as_slice(), name)
+    }
+
+    /// Whether a module is directly in the folder of a name.
+    pub fn has_version(&self, folder: &str) -> bool {
+        self.modules.iter().any(|module| match module.as_str().rsplit_once('/') {
+            Some((above, _)) => above == folder,
+            None => false,
+        })
+    }
+
+    /// Whether a default file says what a name means.
+    pub(crate) fn is_symbol(&self, name: &str) -> bool {
+        self.said_of(name).is_some()
+    }
+
     /// Whether one of the modules is meant here by a name.
     pub(crate) fn has(&self, name: &str) -> bool {
         self.modules.iter().any(|module| means(name, module.as_str()))

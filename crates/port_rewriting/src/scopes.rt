@@ -29,6 +29,8 @@ pub struct Given<'g> {
     pub scripts_folder: Option<&'g str>,
     /// The name that it is to be in conflict with.
     pub one_version: Option<&'g str>,
+    /// Whether the defaults of folders are named by a list.
+    pub has_defaults: bool,
     /// Whether a command is left where something would differ.
     pub is_strict: bool,
 }

@@ -16,7 +16,7 @@ pub struct VersionSymbol {
 }
 
 /// The name that a word means in a default file of a folder, which is empty at the top.
-fn full_name(alloc: Global, folder: &str, word: &str) -> Result<String, AllocError> {
+pub(crate) fn full_name(alloc: Global, folder: &str, word: &str) -> Result<String, AllocError> {
     let rest = match word.strip_prefix(".") {
         Some(rest) => rest,
         None => word,
@@ -34,7 +34,7 @@ fn is_below(folder: &str, name: &str) -> bool {
 }
 
 /// The name with another word in place of its version.
-fn in_place(alloc: Global, name: &str, word: &str) -> Result<String, AllocError> {
+pub(crate) fn in_place(alloc: Global, name: &str, word: &str) -> Result<String, AllocError> {
     match name.rsplit_once('/') {
         Some((folder, _)) => Ok(format!(in alloc; "{folder}/{word}")?),
         None => String::from_str(alloc, word),
