@@ -397,20 +397,16 @@ impl<'r> Walk<'r> {
             return Ok(());
         };
         let names = mem::replace(&mut self.names, Vec::new(self.rt.alloc()));
+        let top = self.top.clone()?;
         for name in &names {
             if !self.site.has_version(name.as_str()) {
                 continue;
             }
             let path = joined(self.rt.alloc(), tree.from.as_str(), name.as_str())?;
             let place = DefaultPlace {
-                top: self.top.as_str(),
+                top: top.as_str(),
                 to: tree.to.as_deref(),
                 name: name.as_str(),
-            };
-            let top = String::from_str(self.rt.alloc(), place.top)?;
-            let place = DefaultPlace {
-                top: top.as_str(),
-                ..place
             };
             let done = self.default_of(defaults, path.as_str(), place);
             self.go_on(path.as_str(), done)?;

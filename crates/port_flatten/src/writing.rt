@@ -7,9 +7,7 @@ use tcltext::list::write_list;
 
 /// Adds a word, spelled as the element of a list.
 fn push_word(alloc: Global, text: &mut String, word: &str) -> Result<(), AllocError> {
-    let mut words = Vec::new(alloc);
-    words.push(String::from_str(alloc, word)?)?;
-    text.push_str(write_list(alloc, words.as_slice())?.as_str())
+    text.push_str(write_list(alloc, &[word])?.as_str())
 }
 
 /// Whether a text means itself in quotes.
@@ -108,8 +106,10 @@ fn push_words(
         return Ok(());
     }
     text.push_str(command)?;
-    text.push(' ')?;
-    text.push_str(write_list(alloc, words)?.as_str())?;
+    for word in words {
+        text.push(' ')?;
+        push_word(alloc, text, word.as_str())?;
+    }
     text.push('\n')
 }
 
