@@ -36,7 +36,10 @@ LMOD = (
 OWN = re.compile(rb"LOADEDMODULES|_LMFILES_|__MODULES_.*|MODULEPATH|SHLVL")
 
 NEED = re.compile(rb"(?m)^\s*prereq (\S+)")
-SAID = re.compile(r"(\d+: )(translated|computed|dropped|left out)(: .*)")
+SAID = re.compile(r"(\d+: )(translated|computed|changed|left out)(: .*)")
+
+# What a status of 1 comes from.
+TOLD = re.compile(r": (left out|changed): ")
 
 
 @pytest.fixture(scope="session")
@@ -68,7 +71,7 @@ def test_rows(folder, row, source):
     done = folder.run(path, given=modulefile)
     same(done.stdout.decode(), text(written), "what is written")
     same(done.stderr.decode(), "".join(f"{path}:{line}\n" for line in said), "what is said")
-    same(done.returncode, int(any("left out" in line for line in said)), "status")
+    same(done.returncode, int(any(TOLD.search(line) for line in said)), "status")
 
 
 @pytest.mark.parametrize("row", ROWS, ids=lambda row: parts(row)[0])
@@ -82,8 +85,9 @@ def test_translated_twice(folder, row):
 def test_refused(folder):
     """Nothing is written where the modulefile isn't there, isn't a script or isn't named."""
     usage = (
-        "Usage: modport [--json] [--host NAME=VALUE]... [--flatten SHOWN [--kept NAME=VALUE]...] FILE | --stdin | "
-        "[--one-version] [--like em|lmod] --check FROM | [--one-version] [--like em|lmod] FROM TO"
+        "Usage: modport [--json] [--strict] [--host NAME=VALUE]... [--flatten RECORDS [--kept NAME=VALUE]...] "
+        "FILE | --stdin | [--one-version] [--alias-scripts] [--defaults FILE] FROM TO [FROM TO]... | "
+        "[--one-version] [--alias-scripts] [--defaults FILE] --check FROM [TO]"
     )
     os.mkfifo(folder.at("fifo"))
     for words, given, said in (
@@ -98,11 +102,12 @@ def test_refused(folder):
         (["--check"], b"", usage),
         (["--one-version", "--stdin"], b"", usage),
         (["--one-version", "a"], b"", usage),
-        (["--like", "em", "a"], b"", usage),
-        (["--like", "lmod", "--stdin"], b"", usage),
-        (["--like", "modules", "a", "b"], b"", usage),
-        (["--like", "em", "--like", "em", "a", "b"], b"", usage),
-        (["a", "b", "--like"], b"", usage),
+        (["--alias-scripts", "a"], b"", usage),
+        (["--like", "em", "a", "b"], b"", usage),
+        (["--defaults", "d", "a"], b"", usage),
+        (["--defaults", "d", "--stdin"], b"", usage),
+        (["--defaults", "d", "--defaults", "d", "a", "b"], b"", usage),
+        (["a", "b", "--defaults"], b"", usage),
         (["--host", "machine", "a"], b"", usage),
         (["--host", "machine=", "a"], b"", usage),
         (["--host", "processor=x", "a"], b"", usage),
@@ -142,10 +147,11 @@ def test_files_as_they_come(folder, source, given, said):
     same(done.returncode, 0, "status")
 
 
-def test_a_lone_carriage_return_stays(folder):
+def test_a_lone_carriage_return_stays_and_is_told(folder):
     given = b"#%Module\nputs stderr {a\rb\r}\r"
     done = folder.run("--stdin", given=given)
-    same((done.stdout, done.stderr, done.returncode), (given, b"", 0), "what is written")
+    said = b"--stdin:1: left out: carriage return\n"
+    same((done.stdout, done.stderr, done.returncode), (given, said, 1), "what is written")
 
 
 # What is computed.
@@ -246,7 +252,7 @@ def test_host(folder):
         "3: computed: [uname node]: n1.cluster", "4: computed: [uname version]: {#1 SMP}",
         "5: computed: $tcl_platform(machine): aarch64", "5: computed: $::tcl_platform(os): Linux",
         "5: computed: $tcl_platform(osVersion): 5.14.0", "5: computed: [uname domain]: cluster",
-        "7: left out: uname", "8: left out: uname",
+        "6: left out: tcl_platform", "7: left out: uname", "8: left out: uname",
     ]  # fmt: skip
     same(done.stderr.decode().splitlines(), [f"--stdin:{it}" for it in said], "what is said")
     same(done.returncode, 1, "status")
@@ -427,7 +433,7 @@ def ends(folder, words, out, err, status):
 
 
 def test_tree(folder):
-    """Modulefiles, default files and links are written; what is no modulefile is said."""
+    """Modulefiles, default files and what links lead to are written; links, and what is no modulefile, are said."""
     old, new = tree(
         folder,
         {
@@ -442,7 +448,8 @@ def test_tree(folder):
     ends(
         folder,
         [old, new],
-        f"{at}/zlib/README: left out: no modulefile\n{at}/gcc/12:2: translated: module load zlib\n",
+        f"{at}/zlib/README: left out: no modulefile\n{at}/zlib/new: translated: link to 1\n"
+        f"{at}/gcc/12:2: translated: module load zlib\n",
         "",
         0,
     )
@@ -452,7 +459,7 @@ def test_tree(folder):
             "gcc/12": b"#%Module\nprereq zlib\n",
             "gcc/.version": b"#%Module\nset ModulesVersion 12\n",
             "zlib/1": b"#%Module\nsetenv Z 1\n",
-            "zlib/new": "1",
+            "zlib/new": b"#%Module\nsetenv Z 1\n",
         },
         "what is written",
     )
@@ -527,12 +534,13 @@ def test_rows_of_trees(folder, row):
     files = files_of(row)
     read = {name: text(given) for name, (given, written, _) in files.items() if not is_script(given, written)}
     old, new = tree(folder, read)
-    done = folder.run(old, new)
+    options = ["--alias-scripts"] if "set-alias" in row else []
+    done = folder.run(*options, old, new)
     at = old.decode()
     said = [f"{at}/{name}:{line}" for name, (_, _, lines) in files.items() for line in lines]
     same(sorted(done.stdout.decode().splitlines()), sorted(said), "what is said")
     same(done.stderr, b"", "standard error")
-    same(done.returncode, int(any(": left out: " in line for line in said)), "status")
+    same(done.returncode, int(any(TOLD.search(line) for line in said)), "status")
     same(
         contents(new),
         {name: as_written(new, given, written).encode() for name, (given, written, _) in files.items()},
@@ -567,8 +575,8 @@ def test_an_alias_in_a_shell(folder, built, shell):
     if not shutil.which(shell):
         pytest.skip(f"{shell} isn't there")
     old, new = alias_tree(folder)
-    done = folder.run(old, new)
-    same((done.stderr, done.returncode), (b"", 0), "standard error and status")
+    done = folder.run("--alias-scripts", old, new)
+    same((done.stderr, done.returncode), (b"", 1), "standard error and status")
     env = {b"MODULEPATH": new, b"PATH": b"/usr/bin:/bin"}
     words = [built("modulecmd"), "sh", "load", "a/1"]
     load = subprocess.run(words, env=env, capture_output=True, timeout=SECONDS, check=True).stdout
@@ -578,7 +586,7 @@ def test_an_alias_in_a_shell(folder, built, shell):
 def test_an_alias_beside_environment_modules(folder, tool):
     """The alias that Environment Modules sets, and the script, do the same in a shell."""
     old, new = alias_tree(folder)
-    folder.run(old, new)
+    folder.run("--alias-scripts", old, new)
     found = []
     for place in (old, new):
         env = {b"MODULEPATH": place, b"PATH": b"/usr/bin:/bin"}
@@ -592,7 +600,7 @@ def test_scripts_are_programs_by_the_umask(folder):
     old, new = alias_tree(folder)
     mask = os.umask(0o027)
     try:
-        folder.run(old, new)
+        folder.run("--alias-scripts", old, new)
     finally:
         os.umask(mask)
     places = ("bin", "bin/a", "bin/a/1", "bin/a/1/shown")
@@ -609,10 +617,10 @@ def test_an_alias_in_a_tree_of_a_relative_path(folder, named):
         place = folder.modules + b".link"
         os.symlink(folder.modules, place)
     env = {b"PWD": place} if named else {}
-    words = [folder.program, old, b"./x/../to/"]
+    words = [folder.program, "--alias-scripts", old, b"./x/../to/"]
     os.mkdir(folder.at("x"))
     done = subprocess.run(words, cwd=place, env=env, capture_output=True, timeout=SECONDS, check=False)
-    same((done.stderr, done.returncode), (b"", 0), "standard error and status")
+    same((done.stderr, done.returncode), (b"", 1), "standard error and status")
     written = contents(folder.at("to"))
     same(written["a/1"], b"#%Module\nprepend-path PATH " + place + b"/to/bin/a/1\n", "what is written")
     true("bin/a/1/shown" in written, "the script is there")
@@ -621,17 +629,19 @@ def test_an_alias_in_a_tree_of_a_relative_path(folder, named):
 def test_check_of_an_alias(folder):
     """The report is that of a tree that is written, and nothing is."""
     old, new = alias_tree(folder)
-    done = folder.run("--check", old)
-    same((done.stderr, done.returncode), (b"", 0), "standard error and status")
+    done = folder.run("--check", "--alias-scripts", old)
+    same((done.stderr, done.returncode), (b"", 1), "standard error and status")
     report = done.stdout
-    same(folder.run(old, new).stdout, report, "the report")
-    true(report.startswith(old + b"/a/1:2: translated: set-alias shown {"), "the alias is translated")
+    same(folder.run("--alias-scripts", old, new).stdout, report, "the report")
+    true(report.startswith(old + b"/a/1:2: changed: set-alias shown {"), "the alias is changed")
+    strict = folder.run("--check", "--alias-scripts", "--strict", old)
+    same(strict.stdout, old + b"/a/1:2: left out: set-alias\n", "the report, where nothing may differ")
 
 
 def test_a_script_that_cant_be_written(folder):
     """It isn't there, is said, and the other files are written."""
     old, new = tree(folder, {"a/1": COOKIE + f"set-alias x {{date {'u' * 5000}}}\n", "b/1": COOKIE + "setenv B 1\n"})
-    done = folder.run(old, new, most=4096)
+    done = folder.run("--alias-scripts", old, new, most=4096)
     at = new.decode()
     same(done.stderr.decode(), f"ERROR: {at}/bin/a/1/x: Can't be written\n", "standard error")
     same(done.returncode, 2, "status")
@@ -648,11 +658,12 @@ def test_a_family_in_a_file_that_is_no_script(folder):
     ends(
         folder,
         [old, new],
-        f"{at}/gcc/12:2: dropped: family compiler\n",
+        f"{at}/gcc/12:2: translated: family compiler\n",
         f"ERROR: {at}/broken/1: Missing close-brace at byte 31\n",
         2,
     )
-    same(contents(new), {"gcc/12": b"#%Module\n\n"}, "what is written")
+    written = b"#%Module\nsetenv MODULES_FAMILY_COMPILER gcc\nsetenv LMOD_FAMILY_COMPILER gcc\n"
+    same(contents(new), {"gcc/12": written}, "what is written")
 
 
 def test_json(folder):

@@ -271,7 +271,15 @@ impl<'r> Walk<'r> {
         }
     }
 
-    /// Writes the file that a link leads to at the place of the link, or makes the link again, where it still leads to the
+    /// Whether what is at a path, as a link leads to it, is a modulefile.
+    fn is_modulefile(&self, path: &str, found: &Metadata) -> Result<bool, PortFault> {
+        if !found.is_file() {
+            return Ok(false);
+        }
+        Ok(modulefile(self.rt.alloc(), read(self.rt, path)?.as_slice())?.is_some())
+    }
+
+    /// Writes the modulefile that a link leads to at the place of the link, or makes the link again, where it still leads to the
     /// same place.
     fn link(&mut self, at: FileAt) -> Result<(), PortFault> {
         let Ok(target) = fs::read_link(self.rt, at.from) else {
@@ -282,7 +290,7 @@ impl<'r> Walk<'r> {
         };
         let what = format!(in self.rt.alloc(); "link to {target}")?;
         match fs::metadata(self.rt, at.from) {
-            Ok(found) if found.is_file() => {
+            Ok(found) if self.is_modulefile(at.from, &found)? => {
                 self.say_of(at.from, PieceOutcome::Translated, what.as_str())?;
                 return self.file(at, &found);
             }

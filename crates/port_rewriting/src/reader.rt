@@ -122,6 +122,19 @@ fn is_fraction(number: &str) -> bool {
     number.contains('.') || !is_hexadecimal && (number.contains('e') || number.contains('E'))
 }
 
+/// A copy of a text, where there is one.
+fn copied(alloc: Global, text: Option<&str>) -> Result<Option<String>, AllocError> {
+    match text {
+        Some(text) => Ok(Some(String::from_str(alloc, text)?)),
+        None => Ok(None),
+    }
+}
+
+/// Whether parts are texts and scripts in brackets alone.
+fn are_spelled(parts: &[Part<ByteRange>]) -> bool {
+    parts.iter().all(|part| matches!(part, Part::Literal(_) | Part::Bracket(_)))
+}
+
 /// Whether a procedure is called by no load.
 fn is_for_reports(name: &str) -> bool {
     matches!(name, "ModulesHelp" | "ModulesDisplay" | "ModulesTest")
@@ -197,10 +210,7 @@ impl<'f> Reader<'f> {
         &mut self,
         command: &Command<ByteRange>,
     ) -> Result<PieceFindings, AllocError> {
-        let mut values = Vec::new(self.alloc);
-        for word in &command.words {
-            values.push(self.known.value_of_word(self.alloc, self.text, word)?)?;
-        }
+        let values = self.values_of(command)?;
         let mut words = Vec::new(self.alloc);
         for value in &values {
             words.push(value.as_deref())?;
@@ -211,6 +221,48 @@ impl<'f> Reader<'f> {
         self.learn(words.as_slice())?;
         let next = PieceFindings::new(self.alloc);
         Ok(replace(&mut self.piece, next))
+    }
+
+    /// The values of the words of a command of the file, as far as they are known; its name has to be constant, and a
+    /// condition with brackets is as it is spelled.
+    fn values_of(
+        &self,
+        command: &Command<ByteRange>,
+    ) -> Result<Vec<Option<String>>, AllocError> {
+        let mut values = Vec::new(self.alloc);
+        let [name, others @ ..] = command.words.as_slice() else {
+            return Ok(values);
+        };
+        let name = constant(self.text, name).map(|name| name.value);
+        values.push(copied(self.alloc, name)?)?;
+        for word in others {
+            values.push(self.known.value_of_word(self.alloc, self.text, word)?)?;
+        }
+        if name == Some("if") {
+            self.spell_condition(command, &mut values)?;
+        }
+        Ok(values)
+    }
+
+    /// Puts the text of a condition in place of its value, where it is spelled without braces.
+    fn spell_condition(
+        &self,
+        command: &Command<ByteRange>,
+        values: &mut Vec<Option<String>>,
+    ) -> Result<(), AllocError> {
+        let places = places_of_words(self.alloc, self.text, command)?;
+        let (Some(places), [_, word, ..]) = (places, command.words.as_slice()) else {
+            return Ok(());
+        };
+        if let (WordContent::Parts(parts), Some(place)) = (&word.content, places.as_slice().get(1))
+        {
+            let spelled = place.of(self.text);
+            let is_bare = !word.expands && !spelled.starts_with('"');
+            if let (true, Some(value)) = (is_bare && are_spelled(parts.as_slice()), values.get_mut(1)) {
+                *value = Some(String::from_str(self.alloc, spelled)?);
+            }
+        }
+        Ok(())
     }
 
     /// Reads the bodies and expressions that are still to be read.
@@ -348,6 +400,9 @@ impl<'f> Reader<'f> {
         self.piece.does_more = self.piece.does_more || scope.is_bracket && !is_pure(words);
         self.piece.asks = self.piece.asks || asks(words);
         self.note_family(scope, words)?;
+        if let [Some("proc"), Some(procedure), ..] = words {
+            self.known.define(procedure);
+        }
         let expands = command.words.iter().any(|word| word.expands);
         let rewrite = self.classify(scope, name, words, expands)?;
         match &rewrite {
@@ -498,11 +553,9 @@ impl<'f> Reader<'f> {
         command: &Command<ByteRange>,
         words: &[Option<&str>],
     ) -> Result<(), AllocError> {
-        if let [Some("proc"), Some(name), ..] = words {
-            self.known.define(name);
-            if is_for_reports(name) {
-                return Ok(());
-            }
+        match words {
+            [Some("proc"), Some(name), ..] if is_for_reports(name) => return Ok(()),
+            _ => {}
         }
         let roles = roles_of(self.alloc, words)?;
         let is_joined = words.len() > 2 && words.first() == Some(&Some("expr"));

@@ -53,17 +53,19 @@ fn first_character(bytes: &[u8]) -> Option<&str> {
 fn decoded(alloc: Global, bytes: &[u8]) -> Result<String, AllocError> {
     let mut text = String::new(alloc);
     let mut inside = 0usize;
-    let mut rest = bytes;
-    while let [byte, others @ ..] = rest {
+    for (place, byte) in bytes.iter().enumerate() {
+        let character = match bytes.get(place..) {
+            Some(rest) => first_character(rest),
+            None => None,
+        };
         if inside > 0 {
             inside -= 1;
-        } else if let Some(character) = first_character(rest) {
+        } else if let Some(character) = character {
             text.push_str(character)?;
             inside = character.len().saturating_sub(1);
         } else {
             text.push(char::from(*byte))?;
         }
-        rest = others;
     }
     Ok(text)
 }

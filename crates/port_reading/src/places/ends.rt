@@ -25,30 +25,50 @@ fn is_around(byte: u8) -> bool {
     is_blank(byte) || byte == b'\n' || byte == b';'
 }
 
-/// The place behind the blanks and escaped newlines at a place.
-pub fn gap_end(text: &str, at: usize) -> usize {
-    let mut rest = rest_at(text, at).as_bytes();
-    while let [byte, others @ ..] = rest {
-        match others {
-            [b'\n', behind @ ..] if *byte == b'\\' => rest = behind,
-            _ if is_blank(*byte) => rest = others,
-            _ => break,
-        }
-    }
-    text.len().saturating_sub(rest.len())
+/// What stands between words, or between commands.
+#[derive(Clone, Copy)]
+enum Between {
+    /// Between the words of a command.
+    Words,
+    /// Between commands, and around them.
+    Commands,
 }
 
-/// The place behind what stands at a place around commands.
-fn around_end(text: &str, at: usize) -> usize {
-    let mut rest = rest_at(text, at).as_bytes();
-    while let [byte, others @ ..] = rest {
-        match others {
-            [b'\n', behind @ ..] if *byte == b'\\' => rest = behind,
-            _ if is_around(*byte) => rest = others,
-            _ => break,
+impl Between {
+    /// Whether the byte stands there.
+    fn has(self, byte: u8) -> bool {
+        match self {
+            Between::Words => is_blank(byte),
+            Between::Commands => is_around(byte),
         }
     }
-    text.len().saturating_sub(rest.len())
+}
+
+/// The place behind the bytes between words or commands, and the escaped newlines, at a place.
+fn run_end(text: &str, at: usize, between: Between) -> usize {
+    let mut end = at;
+    let mut is_escaped = false;
+    for byte in rest_at(text, at).bytes() {
+        if is_escaped {
+            if byte != b'\n' {
+                break;
+            }
+            end = end.saturating_add(2);
+            is_escaped = false;
+        } else if byte == b'\\' {
+            is_escaped = true;
+        } else if between.has(byte) {
+            end = end.saturating_add(1);
+        } else {
+            break;
+        }
+    }
+    end
+}
+
+/// The place behind the blanks and escaped newlines at a place.
+pub fn gap_end(text: &str, at: usize) -> usize {
+    run_end(text, at, Between::Words)
 }
 
 /// The place behind the name of a variable, with its dollar sign, which stands at a place.
@@ -106,7 +126,7 @@ fn end_of_bracket(text: &str, at: usize, script: &Script<ByteRange>) -> Option<u
     for command in &script.commands {
         end = end_of_command(text, command)?;
     }
-    behind(text, around_end(text, end), b']')
+    behind(text, run_end(text, end, Between::Commands), b']')
 }
 
 /// The place behind the words of a command.

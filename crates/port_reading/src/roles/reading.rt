@@ -35,10 +35,9 @@ fn last_is(
     words: &[Option<&str>],
     role: Role,
 ) -> Result<(), AllocError> {
-    let mut rest = words;
-    while let [_, others @ ..] = rest {
-        roles.push(if others.is_empty() { role } else { Role::Value })?;
-        rest = others;
+    let last = words.len().saturating_sub(1);
+    for (place, _) in words.iter().enumerate() {
+        roles.push(if place == last { role } else { Role::Value })?;
     }
     Ok(())
 }
@@ -65,52 +64,43 @@ fn roles_in_if(roles: &mut Vec<Role>, words: &[Option<&str>]) -> Result<(), Allo
     Ok(())
 }
 
-/// What is behind the options of switch(n), and the roles of these.
-fn options_of_switch<'w, 't>(
-    roles: &mut Vec<Role>,
-    words: &'w [Option<&'t str>],
-) -> Result<&'w [Option<&'t str>], AllocError> {
-    let mut rest = words;
-    while let [word, others @ ..] = rest {
-        let is_last = is(*word, "--");
-        if !word.is_some_and(|word| word.starts_with('-')) {
-            break;
+/// How many options of switch(n) stand before its text.
+fn count_of_options(words: &[Option<&str>]) -> usize {
+    let mut count = 0usize;
+    for word in words {
+        if is(*word, "--") {
+            return count.saturating_add(1);
         }
-        roles.push(Role::Value)?;
-        rest = others;
-        if is_last {
-            break;
+        match *word {
+            Some(option) if option.starts_with('-') => count = count.saturating_add(1),
+            _ => break,
         }
     }
-    Ok(rest)
+    count
 }
 
-/// Adds the roles of patterns and bodies in turn.
-fn roles_in_pairs(roles: &mut Vec<Role>, words: &[Option<&str>]) -> Result<(), AllocError> {
-    let mut is_body = false;
-    for word in words {
-        let is_script = is_body && !is(*word, "-");
-        roles.push(if is_script { Role::Body } else { Role::Value })?;
-        is_body = !is_body;
+/// The role of a word of switch(n) that many places behind the text, of which there are so many: one list, or patterns
+/// and bodies in turn.
+fn role_in_switch(word: Option<&str>, behind: usize, count: usize) -> Role {
+    if behind == 0 || is(word, "-") {
+        Role::Value
+    } else if count == 1 {
+        Role::Patterns
+    } else if behind % 2 == 0 {
+        Role::Body
+    } else {
+        Role::Value
+    }
+}
+
+/// Adds the roles of the words of switch(n).
+fn roles_in_switch(roles: &mut Vec<Role>, words: &[Option<&str>]) -> Result<(), AllocError> {
+    let text = count_of_options(words);
+    let count = words.len().saturating_sub(text).saturating_sub(1);
+    for (place, word) in words.iter().enumerate() {
+        roles.push(role_in_switch(*word, place.saturating_sub(text), count))?;
     }
     Ok(())
-}
-
-/// Adds the roles of the words of switch(n): the text, and one list, or patterns and bodies in turn.
-fn roles_in_switch(roles: &mut Vec<Role>, words: &[Option<&str>]) -> Result<(), AllocError> {
-    match options_of_switch(roles, words)? {
-        [] => Ok(()),
-        [_, others @ ..] => {
-            roles.push(Role::Value)?;
-            match others {
-                [_] => {
-                    roles.push(Role::Patterns)?;
-                    Ok(())
-                }
-                _ => roles_in_pairs(roles, others),
-            }
-        }
-    }
 }
 
 /// Gives each word the role of the same place, and those behind the last one the role of a value.
