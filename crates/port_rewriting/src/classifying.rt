@@ -4,7 +4,7 @@ use crate::acceptance::{filled, is_name_read, is_read};
 use crate::aliases::{is_folder, script_of};
 use crate::class::Class;
 use crate::guards::guard_of;
-use crate::names::{Meaning, is_plain, meaning_in};
+use crate::names::{Meaning, Site, is_plain, meaning_in};
 use crate::reader::Reader;
 use crate::rewrite::{Case, Rewrite, WordText};
 use crate::scopes::{FileKind, Scope};
@@ -303,25 +303,30 @@ impl<'f> Reader<'f> {
         }
     }
 
-    /// What a symbol of a default file does otherwise there; none where it has no effect here, and is written for itself.
-    fn symbol_difference<'w>(&self, name: &'w str, words: &[Option<&'w str>]) -> Result<Option<&'w str>, AllocError> {
+    /// Whether a default that a default file names is taken here: it is there, and of the file's own folder.
+    fn is_default_taken(&self, site: &Site, file: &str, version: &str) -> bool {
+        let is_known = site.has_module(version) || site.is_symbol(version);
+        let is_own = !file.ends_with(".version") && folder_of(version) == folder_of(file);
+        is_known && (is_own || self.given.has_defaults)
+    }
+
+    /// What isn't read here of the symbols for a name in a default file: a symbol that is the name of a version, and a
+    /// default that isn't taken.
+    fn unread_symbol<'w>(
+        &self,
+        name: &str,
+        words: &[Option<&'w str>],
+    ) -> Result<Option<&'w str>, AllocError> {
         let (Some(site), Some(file)) = (self.given.site, self.given.file) else {
             return Ok(None);
         };
-        let folder = folder_of(file.name);
-        let version = full_name(self.alloc, folder, name)?;
-        if !site.has_module(version.as_str()) && !site.is_symbol(version.as_str()) {
-            return Ok(Some(name));
-        }
-        let is_of_default = file.name.ends_with(".version") || folder_of(version.as_str()) != folder;
+        let version = full_name(self.alloc, folder_of(file.name), name)?;
+        let version = version.as_str();
         for word in words {
-            let Some(word) = *word else {
-                return Ok(Some(name));
-            };
-            let called = in_place(self.alloc, version.as_str(), word)?;
-            if site.has_module(called.as_str())
-                || word == "default" && is_of_default && !self.given.has_defaults
-            {
+            let word = word.unwrap_or("");
+            let called = in_place(self.alloc, version, word)?;
+            let is_taken = word != "default" || self.is_default_taken(site, file.name, version);
+            if !is_taken || site.has_module(called.as_str()) {
                 return Ok(Some(word));
             }
         }
@@ -330,7 +335,7 @@ impl<'f> Reader<'f> {
 
     /// What is written for a symbol of a default file.
     fn symbol(&self, name: &str, words: &[Option<&str>]) -> Result<Rewrite, AllocError> {
-        match self.symbol_difference(name, words)? {
+        match self.unread_symbol(name, words)? {
             Some(said) => self.left(said),
             None => Ok(Rewrite::Keep),
         }

@@ -175,12 +175,17 @@ impl Site {
                 .any(|member| member.family.as_str() == name && !member.is_sure)
     }
 
-    /// The modules that a name means there.
+    /// The modules that a name means there, with those of other directories that symbols mean.
     fn meant(&self, alloc: Global, name: &str) -> Result<Vec<String>, AllocError> {
         let mut meant = Vec::new(alloc);
         for module in &self.modules {
             if self.is_meant(name, module.as_str()) {
                 meant.push(module.clone()?)?;
+            }
+        }
+        for symbol in &self.symbols {
+            if means_there(name, symbol.name.as_str()) {
+                add_once(alloc, &mut meant, self.version_of(symbol.name.as_str()))?;
             }
         }
         Ok(meant)
@@ -191,6 +196,10 @@ impl Site {
         self.modules
             .iter()
             .all(|module| self.is_meant(name, module.as_str()) == means(name, module.as_str()))
+            && self.symbols.iter().all(|symbol| {
+                let symbol = symbol.name.as_str();
+                !means_there(name, symbol) || means(name, self.version_of(symbol))
+            })
     }
 
     /// What a word means that names modules.

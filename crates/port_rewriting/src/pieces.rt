@@ -35,6 +35,8 @@ pub(crate) struct PieceFindings {
     pub does_more: bool,
     /// Whether it looks at what another module may change.
     pub asks: bool,
+    /// Whether the file may end in it, so that what follows isn't evaluated.
+    pub may_end: bool,
     /// How it is written in another way.
     outcome: Option<Outcome>,
     /// The first part of it that isn't read here.
@@ -59,6 +61,7 @@ impl PieceFindings {
             is_replaced: false,
             does_more: false,
             asks: false,
+            may_end: false,
             outcome: None,
             left: None,
         }

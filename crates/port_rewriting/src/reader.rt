@@ -99,12 +99,11 @@ fn is_still(name: &str) -> bool {
     )
 }
 
-/// Whether a command is evaluated in each load, and so is what follows it.
-fn is_plain_command(name: &str) -> bool {
+/// Whether a file may end in a command of this name, or in what it evaluates.
+fn may_end(name: &str) -> bool {
     matches!(
         name,
-        "setenv" | "pushenv" | "unsetenv" | "append" | "lappend" | "incr" | "unset" | "prepend-path"
-            | "append-path" | "remove-path" | "global"
+        "return" | "exit" | "error" | "break" | "continue" | "eval" | "source" | "uplevel" | "throw"
     )
 }
 
@@ -393,10 +392,13 @@ impl<'f> Reader<'f> {
         let name = match words {
             [Some(name), ..] if !name.starts_with("::") => *name,
             _ => {
+                self.piece.may_end = true;
                 self.leave_command(scope, command)?;
                 return Ok(false);
             }
         };
+        let is_procedure = self.procedures.iter().any(|other| *other == name);
+        self.piece.may_end = self.piece.may_end || may_end(name) || is_procedure;
         self.piece.does_more = self.piece.does_more || scope.is_bracket && !is_pure(words);
         self.piece.asks = self.piece.asks || asks(words);
         self.note_family(scope, words)?;
@@ -691,8 +693,7 @@ impl<'f> Reader<'f> {
         };
         let is_alone = !self.piece.does_more;
         self.is_quiet = self.is_quiet && is_still(name) && is_alone && !self.piece.asks;
-        self.is_straight =
-            self.is_straight && (is_still(name) || is_plain_command(name)) && is_alone;
+        self.is_straight = self.is_straight && !self.piece.may_end;
         if is_alone {
             self.learn_words(words)
         } else {
