@@ -43,7 +43,7 @@ fn unserving(alloc: Global, why: &str) -> Result<TranslatedPiece, AllocError> {
         outcome: Outcome::Left,
     })?;
     Ok(TranslatedPiece {
-        text: String::new(alloc),
+        text: Vec::new(alloc),
         notes,
     })
 }

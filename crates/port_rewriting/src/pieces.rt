@@ -47,7 +47,7 @@ pub(crate) struct PieceFindings {
 #[derive(Debug, Drop)]
 pub struct TranslatedPiece {
     /// What is written.
-    pub text: String,
+    pub text: Vec<u8>,
     /// The notes.
     pub notes: Vec<Note>,
 }
@@ -191,26 +191,28 @@ fn edited(
     Ok(written)
 }
 
-/// What is written for the piece of a text at a place, which is in this line, by what was found in its command. A piece
+/// What is written for a piece of a text that stands at a place, in this line, by what was found in its command. A piece
 /// on which there is no note is written as it is.
 ///
 /// The error: want of memory.
 pub(crate) fn written_piece(
     alloc: Global,
     text: &str,
+    was: &[u8],
     place: ByteRange,
     line: usize,
     mut found: PieceFindings,
 ) -> Result<TranslatedPiece, AllocError> {
     let notes = notes_on(alloc, text, place.start, line, &mut found)?;
-    let written = if notes.is_empty() {
-        String::from_str(alloc, place.of(text))?
-    } else {
-        let edits = ordered(found)?;
-        edited(alloc, text, place, edits.as_slice())?
-    };
+    if notes.is_empty() {
+        return Ok(TranslatedPiece {
+            text: Vec::from_slice(alloc, was)?,
+            notes,
+        });
+    }
+    let edits = ordered(found)?;
     Ok(TranslatedPiece {
-        text: written,
+        text: edited(alloc, text, place, edits.as_slice())?.into_bytes(),
         notes,
     })
 }

@@ -62,8 +62,17 @@ impl<T: Drop> From<AllocFailed<T>> for TranslationFault {
 }
 
 /// How many lines end in a part of a text.
-fn lines_in(text: &str) -> usize {
-    text.bytes().filter(|byte| *byte == b'\n').count()
+fn lines_in(text: &[u8]) -> usize {
+    text.iter().filter(|byte| **byte == b'\n').count()
+}
+
+/// The first bytes, as many as that or all, and the others.
+fn split_within(text: &[u8], length: usize) -> (&[u8], &[u8]) {
+    if length < text.len() {
+        text.split_at(length)
+    } else {
+        (text, &[])
+    }
 }
 
 /// Whether a command is a conflict with a name.
@@ -79,15 +88,6 @@ fn conflicts(
     }
 }
 
-/// What stands before the first command.
-fn front(alloc: Global, text: &str, end: usize) -> Result<TranslatedPiece, AllocError> {
-    let before = ByteRange { start: 0, end };
-    Ok(TranslatedPiece {
-        text: String::from_str(alloc, before.of(text))?,
-        notes: Vec::new(alloc),
-    })
-}
-
 /// Adds a conflict with a name to what stands before the first command.
 fn add_conflict(
     alloc: Global,
@@ -95,8 +95,8 @@ fn add_conflict(
     name: &str,
 ) -> Result<(), AllocError> {
     let what = format!(in alloc; "conflict {name}")?;
-    piece.text.push_str(what.as_str())?;
-    piece.text.push('\n')?;
+    piece.text.extend_from_slice(what.as_bytes())?;
+    piece.text.push(b'\n')?;
     piece.notes.push(Note {
         line: None,
         what,
@@ -105,58 +105,81 @@ fn add_conflict(
     Ok(())
 }
 
-/// Where a command begins, or the end of the text behind the last.
-fn start_of(text: &str, commands: &[Command<ByteRange>]) -> usize {
-    match commands {
-        [] => text.len(),
-        [command, ..] => command.offset,
+/// Where the command of this number begins, or the end of the text behind the last.
+fn start_of(text: &str, commands: &[Command<ByteRange>], number: usize) -> usize {
+    match commands.get(number) {
+        Some(command) => command.offset,
+        None => text.len(),
     }
 }
 
-impl Reader<'_> {
-    /// The piece of the first of some commands, whose first piece begins behind that line and place.
-    fn piece(
+/// The pieces of a file so far.
+#[derive(Drop)]
+struct PiecesSoFar<'f> {
+    /// The pieces.
+    pieces: Vec<TranslatedPiece>,
+    /// What is still to be written.
+    rest: &'f [u8],
+    /// The line where that begins.
+    line: usize,
+    /// Whether the file is in conflict with its own name in each load.
+    has_conflict: bool,
+}
+
+impl<'f> PiecesSoFar<'f> {
+    /// What stands before the first command.
+    fn new(alloc: Global, text: &'f str, first: usize) -> Result<PiecesSoFar<'f>, AllocError> {
+        let (before, rest) = split_within(text.as_bytes(), first);
+        let mut pieces = Vec::new(alloc);
+        pieces.push(TranslatedPiece {
+            text: Vec::from_slice(alloc, before)?,
+            notes: Vec::new(alloc),
+        })?;
+        Ok(PiecesSoFar {
+            pieces,
+            rest,
+            line: lines_in(before).saturating_add(1),
+            has_conflict: false,
+        })
+    }
+
+    /// Adds the piece of a command, which ends there.
+    fn add(
         &mut self,
-        line: usize,
+        reader: &mut Reader<'f>,
         command: &Command<ByteRange>,
         end: usize,
-    ) -> Result<TranslatedPiece, AllocError> {
+    ) -> Result<(), AllocError> {
         let place = ByteRange {
             start: command.offset,
             end,
         };
-        let found = self.read(command)?;
-        written_piece(self.alloc, self.text, place, line, found)
-    }
-
-    /// The pieces of a file of these commands; and whether it is in conflict with its own name in each load.
-    fn pieces(
-        &mut self,
-        commands: &[Command<ByteRange>],
-    ) -> Result<(Vec<TranslatedPiece>, bool), AllocError> {
-        let mut pieces = Vec::new(self.alloc);
-        pieces.push(front(self.alloc, self.text, start_of(self.text, commands))?)?;
-        let mut has_conflict = false;
-        let mut rest = commands;
-        let mut line = 1usize;
-        let mut last = 0usize;
-        while let [command, others @ ..] = rest {
-            let between = ByteRange {
-                start: last,
-                end: command.offset,
-            };
-            line = line.saturating_add(lines_in(between.of(self.text)));
-            last = command.offset;
-            if let Some(name) = self.given.one_version {
-                let is_reached = self.is_straight;
-                has_conflict = has_conflict
-                    || is_reached && conflicts(self.alloc, self.text, command, name)?;
-            }
-            pieces.push(self.piece(line, command, start_of(self.text, others))?)?;
-            rest = others;
+        let (was, rest) = split_within(self.rest, end.saturating_sub(command.offset));
+        if let Some(name) = reader.given.one_version {
+            let is_one = conflicts(reader.alloc, reader.text, command, name)?;
+            self.has_conflict = self.has_conflict || reader.is_straight && is_one;
         }
-        Ok((pieces, has_conflict))
+        let found = reader.read(command)?;
+        let piece = written_piece(reader.alloc, reader.text, was, place, self.line, found)?;
+        self.pieces.push(piece)?;
+        self.line = self.line.saturating_add(lines_in(was));
+        self.rest = rest;
+        Ok(())
     }
+}
+
+/// The pieces of a file of these commands.
+fn pieces_of<'f>(
+    reader: &mut Reader<'f>,
+    commands: &[Command<ByteRange>],
+) -> Result<PiecesSoFar<'f>, AllocError> {
+    let text = reader.text;
+    let mut so_far = PiecesSoFar::new(reader.alloc, text, start_of(text, commands, 0))?;
+    for (number, command) in commands.iter().enumerate() {
+        let end = start_of(text, commands, number.saturating_add(1));
+        so_far.add(reader, command, end)?;
+    }
+    Ok(so_far)
 }
 
 /// The class of the worst of some pieces.
@@ -174,7 +197,7 @@ fn class_of(pieces: &[TranslatedPiece]) -> Class {
 fn text_of(alloc: Global, pieces: &[TranslatedPiece]) -> Result<Vec<u8>, AllocError> {
     let mut text = Vec::new(alloc);
     for piece in pieces {
-        text.extend_from_slice(piece.text.as_bytes())?;
+        text.extend_from_slice(piece.text.as_slice())?;
     }
     Ok(text)
 }
@@ -188,7 +211,11 @@ fn translated(
 ) -> Result<Translation, TranslationFault> {
     let mut reader = Reader::new(alloc, given, text);
     reader.find_procedures(script)?;
-    let (mut pieces, has_conflict) = reader.pieces(script.commands.as_slice())?;
+    let PiecesSoFar {
+        mut pieces,
+        has_conflict,
+        ..
+    } = pieces_of(&mut reader, script.commands.as_slice())?;
     if let (Some(name), [first, _, ..]) = (given.one_version, pieces.as_mut_slice()) {
         if !has_conflict && is_plain(name) {
             add_conflict(alloc, first, name)?;
