@@ -168,6 +168,20 @@ impl<'f> PiecesSoFar<'f> {
     }
 }
 
+impl PiecesSoFar<'_> {
+    /// Adds what is still to be written, where something is.
+    fn end(&mut self, alloc: Global) -> Result<(), AllocError> {
+        if !self.rest.is_empty() {
+            self.pieces.push(TranslatedPiece {
+                text: Vec::from_slice(alloc, self.rest)?,
+                notes: Vec::new(alloc),
+            })?;
+            self.rest = &[];
+        }
+        Ok(())
+    }
+}
+
 /// The pieces of a file of these commands.
 fn pieces_of<'f>(
     reader: &mut Reader<'f>,
@@ -179,6 +193,7 @@ fn pieces_of<'f>(
         let end = start_of(text, commands, number.saturating_add(1));
         so_far.add(reader, command, end)?;
     }
+    so_far.end(reader.alloc)?;
     Ok(so_far)
 }
 
