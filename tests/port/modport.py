@@ -312,10 +312,10 @@ WRITTEN = (
     (setting("A", "a\\;b"), "setenv A {a;b}"),
     (setting("A", "\\$x\\[y\\]"), "setenv A {$x[y]}"),
     ("unset A;", "unsetenv A"),
-    (setting("PATH", "/x:@:/usr/bin:/bin"), "prepend-path PATH /x"),
-    (setting("PATH", "/x:/y:@:/usr/bin:/bin:/z"), "prepend-path PATH /x:/y\nappend-path PATH /z"),
-    (setting("P", "@:/x"), "append-path P /x"),
-    (setting("P", "a,b,@"), "prepend-path -d {,} P a,b"),
+    (setting("PATH", "/x:modport-mark:/usr/bin:/bin"), "prepend-path PATH /x"),
+    (setting("PATH", "/x:/y:modport-mark:/usr/bin:/bin:/z"), "prepend-path PATH /x:/y\nappend-path PATH /z"),
+    (setting("P", "modport-mark:/x"), "append-path P /x"),
+    (setting("P", "a,b,modport-mark"), "prepend-path -d {,} P a,b"),
     (setting("__MODULES_LMCONFLICT", "m\\&b\\&c"), "conflict b c"),
     (setting("__MODULES_LMPREREQ", "m\\&b\\&c\\|d"), "prereq b\nprereq c d"),
     (setting("__MODULES_PUSHENV_A", "m\\&v") + "\n" + setting("A", "v"), "pushenv A v"),
@@ -324,7 +324,7 @@ WRITTEN = (
     (setting("A", "/home/men"), "setenv A /home/men"),
     (setting("A", "/x/home/me"), 'setenv A "/x/home/[getenv USER]"'),
     (setting("A", "me"), 'setenv A "[getenv USER]"'),
-    (setting("P", "/x:/home/me/me:me:@"), 'prepend-path P "/x:[getenv HOME]/[getenv USER]:[getenv USER]"'),
+    (setting("P", "/x:/home/me/me:me:modport-mark"), 'prepend-path P "/x:[getenv HOME]/[getenv USER]:[getenv USER]"'),
 )
 
 
@@ -339,7 +339,7 @@ UNSERVING = (
     ("a failure", "test 0 = 1;\n", "the load failed"),
     ("an alias", loaded_text("alias ll=ls;"), "it does something that is no variable"),
     ("other modules", setting("LOADEDMODULES", "b:m") + "\n", "it loads other modules"),
-    ("another path", loaded_text(setting("PATH", "/x:@")), "a path has other elements than were added"),
+    ("another path", loaded_text(setting("PATH", "/x:modport-mark")), "a path has other elements than were added"),
     ("a home with a tilde", loaded_text(setting("A", "~/x")), "a command of it isn't read even then"),
 )
 
@@ -989,14 +989,14 @@ ASKING = {
 }
 
 
-# What SITES has for the records of a tree: each variable that a load changes is set to `@` before, PATH has it in front.
+# What SITES has for the records of a tree: each variable that a load changes has a mark before, which PATH has in front.
 RECORDS = r"""
 cd "$1" && export MODULEPATH="$PWD" && shift
 find -L * -type f ! -name '.*' | while read -r name; do
     mkdir -p "$(dirname "$RECORDS/$name")"
-    marks=$("$@" sh load "$name" 2> /dev/null | sed -n 's/^\([A-Za-z][A-Za-z0-9_]*\)=.*; export .*/\1=@/p' |
+    marks=$("$@" sh load "$name" 2> /dev/null | sed -n 's/^\([A-Za-z][A-Za-z0-9_]*\)=.*; export .*/\1=modport-mark/p' |
         grep -v -e ^LOADEDMODULES= -e ^PATH=)
-    env PATH=@:/usr/bin:/bin $marks "$@" sh load "$name" > "$RECORDS/$name" 2> /dev/null
+    env PATH=modport-mark:/usr/bin:/bin $marks "$@" sh load "$name" > "$RECORDS/$name" 2> /dev/null
 done
 """
 

@@ -1,13 +1,13 @@
 //! The text that `load` of Environment Modules writes for sh, read: each line sets, unsets or exports a variable.
 //!
-//! Before the load each variable that it changes had the value `@`, and PATH the value `@:/usr/bin:/bin`. So what is before
-//! the mark was prepended, what is behind it appended, and a value without the mark was set.
+//! Before the load each variable that it changes had the mark as its value, and PATH the mark and `:/usr/bin:/bin`. So what
+//! is before the mark was prepended, what is behind it appended, and a value without the mark was set.
 
 use crate::records::{LoadRecords, PathEnds, VariableChange};
 use std::alloc::{AllocError, Global};
 
 /// The value that a variable had before.
-const MARK: char = '@';
+const MARK: &str = "modport-mark";
 
 /// What PATH had behind the mark.
 const PATH_END: &str = ":/usr/bin:/bin";
