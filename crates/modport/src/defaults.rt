@@ -81,7 +81,11 @@ impl NamedDefaults {
 
     /// The default of the folder of a name.
     fn of(&self, name: &str) -> Option<&str> {
-        match self.modules.iter().find(|module| folder_of(module.as_str()) == name) {
+        match self
+            .modules
+            .iter()
+            .find(|module| folder_of(module.as_str()) == name)
+        {
             Some(module) => Some(module.as_str()),
             None => None,
         }

@@ -1,7 +1,7 @@
 //! A modulefile of which something is left, written by what a load of it has done.
 
 use crate::fault::PortFault;
-use port_flatten::{LoadRecords, UserValues, Unserving, records_of, written_records};
+use port_flatten::{LoadRecords, Unserving, UserValues, records_of, written_records};
 use port_reading::places::{constant, first_line};
 use port_rewriting::{Class, Given, Note, Outcome, TranslatedPiece, Translation, translate};
 use std::alloc::{AllocError, Global};
@@ -54,7 +54,11 @@ fn lines_before(text: &str, place: usize) -> usize {
         start: 0,
         end: place,
     };
-    before.of(text).bytes().filter(|byte| *byte == b'\n').count()
+    before
+        .of(text)
+        .bytes()
+        .filter(|byte| *byte == b'\n')
+        .count()
 }
 
 /// A note on each command of a file.
@@ -82,7 +86,9 @@ fn is_of_word(byte: u8) -> bool {
 
 /// Whether a text has a word.
 fn has_word(text: &str, word: &str) -> bool {
-    text.as_bytes().split(|byte| !is_of_word(*byte)).any(|part| part == word.as_bytes())
+    text.as_bytes()
+        .split(|byte| !is_of_word(*byte))
+        .any(|part| part == word.as_bytes())
 }
 
 /// Notes on the words by which a file asks for what another load may answer otherwise.

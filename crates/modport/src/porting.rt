@@ -7,7 +7,9 @@ use crate::reporting::push_report;
 use crate::status::Status;
 use port_flatten::UserValues;
 use port_reading::file_text::{FileText, SourceEncoding};
-use port_rewriting::{Class, Given, NamedFamily, Note, Outcome, ShellScript, Translation, translate};
+use port_rewriting::{
+    Class, Given, NamedFamily, Note, Outcome, ShellScript, Translation, translate,
+};
 use std::alloc::{AllocError, Global};
 
 /// How the report is written, and what was seen of the file.
@@ -66,7 +68,11 @@ fn push_source(
         (source.mark, PieceOutcome::Translated, "byte order mark"),
         (source.latin, PieceOutcome::Translated, "Latin-1"),
         (source.returns, PieceOutcome::Translated, "CR LF"),
-        (source.lone_returns, PieceOutcome::LeftOut, "carriage return"),
+        (
+            source.lone_returns,
+            PieceOutcome::LeftOut,
+            "carriage return",
+        ),
     ];
     for (is, fate, what) in those {
         if is {

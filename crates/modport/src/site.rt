@@ -32,12 +32,7 @@ fn unless_memory(done: Result<(), PortFault>) -> Result<(), PortFault> {
 }
 
 /// Adds the version symbols that the text of a default file says, in a directory with modules of that name.
-fn add_symbols(
-    alloc: Global,
-    site: &mut Site,
-    text: &str,
-    folder: &str,
-) -> Result<(), PortFault> {
+fn add_symbols(alloc: Global, site: &mut Site, text: &str, folder: &str) -> Result<(), PortFault> {
     match symbols_said(alloc, text, folder) {
         Ok(symbols) => {
             for symbol in symbols {

@@ -201,7 +201,10 @@ impl<'r> Walk<'r> {
         let Some(records) = &self.said.records else {
             return Ok(None);
         };
-        match text_at(self.rt, joined(self.rt.alloc(), records.as_str(), below)?.as_str()) {
+        match text_at(
+            self.rt,
+            joined(self.rt.alloc(), records.as_str(), below)?.as_str(),
+        ) {
             Err(PortFault::NoFile) => Ok(None),
             text => text,
         }

@@ -42,7 +42,8 @@ fn is_plain(text: &str) -> bool {
 
 /// Whether each byte stands for itself in braces, and ends no line.
 fn fits_in_braces(text: &str) -> bool {
-    text.bytes().all(|byte| !matches!(byte, b'{' | b'}' | b'\\' | b'\n'))
+    text.bytes()
+        .all(|byte| !matches!(byte, b'{' | b'}' | b'\\' | b'\n'))
 }
 
 /// How a text is spelled in place of a part of a word.

@@ -45,7 +45,10 @@ pub(crate) fn plain_name(name: &str) -> &str {
 
 /// The value of a variable among some.
 fn value_among<'v>(variables: &'v [KnownVariable], name: &str) -> Option<&'v str> {
-    match variables.iter().find(|variable| variable.name.as_str() == name) {
+    match variables
+        .iter()
+        .find(|variable| variable.name.as_str() == name)
+    {
         Some(variable) => Some(variable.value.as_str()),
         None => None,
     }

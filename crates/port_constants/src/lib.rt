@@ -10,4 +10,4 @@ mod paths;
 mod values;
 
 pub use folding::{Computed, computed_in};
-pub use knowledge::{KnownFile, KnownVariable, Knowledge};
+pub use knowledge::{Knowledge, KnownFile, KnownVariable};

@@ -81,11 +81,7 @@ fn copied(alloc: Global, text: Option<&str>) -> Result<Option<String>, AllocErro
 }
 
 /// What was added to a path that had the mark.
-fn added(
-    alloc: Global,
-    before: &str,
-    behind: &str,
-) -> Result<Option<VariableChange>, AllocError> {
+fn added(alloc: Global, before: &str, behind: &str) -> Result<Option<VariableChange>, AllocError> {
     let (front, back) = (front_of(before), back_of(behind));
     let delimiter = match (front, back) {
         (Some((_, one)), Some((_, other))) if one != other => return Ok(None),
@@ -100,11 +96,7 @@ fn added(
 }
 
 /// What became of a variable that has this value now.
-fn change_of(
-    alloc: Global,
-    name: &str,
-    value: &str,
-) -> Result<Option<VariableChange>, AllocError> {
+fn change_of(alloc: Global, name: &str, value: &str) -> Result<Option<VariableChange>, AllocError> {
     let Some((before, behind)) = value.split_once(MARK) else {
         return Ok(Some(VariableChange::Set(String::from_str(alloc, value)?)));
     };
@@ -135,11 +127,7 @@ fn add_others(
 }
 
 /// Adds the lists of modules of which one is needed.
-fn add_needs(
-    alloc: Global,
-    needs: &mut Vec<Vec<String>>,
-    value: &str,
-) -> Result<(), AllocError> {
+fn add_needs(alloc: Global, needs: &mut Vec<Vec<String>>, value: &str) -> Result<(), AllocError> {
     let mut lists = Vec::new(alloc);
     add_others(alloc, &mut lists, value, '&')?;
     for list in &lists {
@@ -158,7 +146,8 @@ impl LoadRecords {
         let Some((_, value)) = value.split_once('&') else {
             return Ok(());
         };
-        self.variables.retain(|variable| variable.0.as_str() != name);
+        self.variables
+            .retain(|variable| variable.0.as_str() != name);
         let value = String::from_str(alloc, value)?;
         let name = String::from_str(alloc, name)?;
         self.variables.push((name, VariableChange::Pushed(value)))?;
@@ -231,10 +220,7 @@ impl LoadRecords {
 /// What a load has done, by the text that it wrote; or why that doesn't serve.
 ///
 /// The error: want of memory.
-pub fn records_of(
-    alloc: Global,
-    text: &str,
-) -> Result<Result<LoadRecords, Unserving>, AllocError> {
+pub fn records_of(alloc: Global, text: &str) -> Result<Result<LoadRecords, Unserving>, AllocError> {
     let mut records = LoadRecords {
         variables: Vec::new(alloc),
         conflicts: Vec::new(alloc),

@@ -67,11 +67,7 @@ fn accepts_host(alloc: Global, kind: FileKind, words: &[String]) -> Result<bool,
 /// Whether a command of these words is read in a file of this kind, where no procedure of the file has its name.
 ///
 /// The error: want of memory.
-pub(crate) fn is_read(
-    alloc: Global,
-    kind: FileKind,
-    words: &[String],
-) -> Result<bool, AllocError> {
+pub(crate) fn is_read(alloc: Global, kind: FileKind, words: &[String]) -> Result<bool, AllocError> {
     let [name, others @ ..] = words else {
         return Ok(true);
     };

@@ -166,20 +166,18 @@ impl<'f> Reader<'f> {
     }
 
     /// What is written for `module` with these words, in a script that stands there.
-    fn module(
-        &self,
-        scope: Scope,
-        words: &[Option<&str>],
-    ) -> Result<Option<Rewrite>, AllocError> {
+    fn module(&self, scope: Scope, words: &[Option<&str>]) -> Result<Option<Rewrite>, AllocError> {
         match words {
             [Some("load" | "add"), names @ ..] if scope.is_top => self.asking(Ask::Load, names),
             [Some("try-load"), names @ ..] if scope.is_top => self.asking(Ask::Try, names),
             [Some("use"), Some("-a" | "--append" | "-append"), those @ ..] => {
                 self.searching("append-path MODULEPATH", those)
             }
-            [Some("use"), Some("-p" | "--prepend" | "-prepend"), those @ ..] => {
-                self.searching("prepend-path MODULEPATH", those)
-            }
+            [
+                Some("use"),
+                Some("-p" | "--prepend" | "-prepend"),
+                those @ ..,
+            ] => { self.searching("prepend-path MODULEPATH", those) }
             [Some("use"), those @ ..] => self.searching("prepend-path MODULEPATH", those),
             _ => Ok(None),
         }
@@ -295,9 +293,13 @@ impl<'f> Reader<'f> {
     /// What is written for a command with an option that isn't read here, where that is the command without it.
     fn without_option(&self, words: &[Option<&str>]) -> Option<Rewrite> {
         match words {
-            [Some("prepend-path" | "append-path"), Some("--duplicates"), _, _, ..] => {
-                Some(Rewrite::WithoutOption(Some(Case::Present)))
-            }
+            [
+                Some("prepend-path" | "append-path"),
+                Some("--duplicates"),
+                _,
+                _,
+                ..
+            ] => { Some(Rewrite::WithoutOption(Some(Case::Present))) }
             [Some("unsetenv"), Some("--noop-on-unload"), _] => Some(Rewrite::WithoutOption(None)),
             _ => None,
         }
@@ -345,11 +347,10 @@ impl<'f> Reader<'f> {
     fn difference(&self, scope: Scope, words: &[Option<&str>]) -> Option<&'static str> {
         match words {
             [Some("return"), ..] if !scope.is_in_procedure => Some("return"),
-            [Some("setenv" | "pushenv" | "prepend-path" | "append-path"), others @ ..]
-                if others.iter().any(|word| has_tilde(*word)) =>
-            {
-                Some("~")
-            }
+            [
+                Some("setenv" | "pushenv" | "prepend-path" | "append-path"),
+                others @ ..,
+            ] if others.iter().any(|word| has_tilde(*word)) => { Some("~") }
             _ => None,
         }
     }
@@ -370,8 +371,7 @@ impl<'f> Reader<'f> {
     fn unread(&self, name: &str, words: &[Option<&str>]) -> Result<Rewrite, AllocError> {
         match words {
             [_, Some(option), ..]
-                if option.starts_with('-') && is_name_read(self.given.kind, name) =>
-            {
+                if option.starts_with('-') && is_name_read(self.given.kind, name) => {
                 Ok(Rewrite::Left(format!(in self.alloc; "{name} {option}")?))
             }
             _ => self.left(name),

@@ -42,7 +42,9 @@ fn count_of(names: &[&str], name: &str) -> usize {
 /// Whether these are the same names, each as often.
 fn are_same(names: &[&str], others: &[&str]) -> bool {
     names.len() == others.len()
-        && names.iter().all(|name| count_of(names, name) == count_of(others, name))
+        && names
+            .iter()
+            .all(|name| count_of(names, name) == count_of(others, name))
 }
 
 /// Whether a condition fits what a body loads: in any load, or the one module that isn't loaded.
@@ -98,9 +100,13 @@ pub(crate) fn guard_of<'t>(
 ) -> Result<Option<Vec<&'t str>>, AllocError> {
     match words {
         [Some("if"), Some(condition), Some(body)] => guard_of_body(alloc, condition, body),
-        [Some("if"), Some(condition), Some(body), Some("else"), Some(other)] => {
-            guard_of_bodies(alloc, condition, body, other)
-        }
+        [
+            Some("if"),
+            Some(condition),
+            Some(body),
+            Some("else"),
+            Some(other),
+        ] => { guard_of_bodies(alloc, condition, body, other) }
         _ => Ok(None),
     }
 }

@@ -103,7 +103,11 @@ impl Site {
 
     /// What a name is said to mean, where it is a symbol.
     fn said_of(&self, name: &str) -> Option<&str> {
-        match self.symbols.iter().find(|symbol| symbol.name.as_str() == name) {
+        match self
+            .symbols
+            .iter()
+            .find(|symbol| symbol.name.as_str() == name)
+        {
             Some(symbol) => Some(symbol.version.as_str()),
             None => None,
         }
@@ -131,9 +135,8 @@ impl Site {
 
     /// Whether a name means a module there as the name of a family.
     fn is_family_of(&self, name: &str, module: &str) -> bool {
-        self.members
-            .iter()
-            .any(|member| member.module.as_str() == module && member.family.as_str() == name)
+        self.members.iter().any(|member| member.module.as_str() == module
+            && member.family.as_str() == name)
     }
 
     /// Whether a name means a module there.
@@ -163,12 +166,18 @@ impl Site {
 
     /// Whether one of the modules is meant here by a name.
     pub(crate) fn has(&self, name: &str) -> bool {
-        self.modules.iter().any(|module| means(name, module.as_str()))
+        self.modules
+            .iter()
+            .any(|module| means(name, module.as_str()))
     }
 
     /// Whether a name may be that of a family whose members aren't all known.
     fn is_unsure(&self, name: &str) -> bool {
-        self.has_unknown_families && self.members.iter().any(|member| member.family.as_str() == name)
+        self.has_unknown_families
+            && self
+                .members
+                .iter()
+                .any(|member| member.family.as_str() == name)
             || self
                 .members
                 .iter()
@@ -193,9 +202,8 @@ impl Site {
 
     /// Whether a name means the same modules here and there.
     fn is_same(&self, name: &str) -> bool {
-        self.modules
-            .iter()
-            .all(|module| self.is_meant(name, module.as_str()) == means(name, module.as_str()))
+        self.modules.iter().all(|module| self.is_meant(name, module.as_str())
+            == means(name, module.as_str()))
             && self.symbols.iter().all(|symbol| {
                 let symbol = symbol.name.as_str();
                 !means_there(name, symbol) || means(name, self.version_of(symbol))
@@ -224,12 +232,7 @@ impl Site {
     }
 
     /// The modules that a member of a family is in conflict with: the other members, and those of the family's name.
-    fn others_of(
-        &self,
-        alloc: Global,
-        family: &str,
-        own: &str,
-    ) -> Result<Vec<String>, AllocError> {
+    fn others_of(&self, alloc: Global, family: &str, own: &str) -> Result<Vec<String>, AllocError> {
         let mut others = Vec::new(alloc);
         for module in &self.modules {
             let module = module.as_str();

@@ -92,7 +92,11 @@ impl PieceFindings {
 
 /// What stands at a place, up to a newline.
 fn line_at(text: &str, place: ByteRange) -> &str {
-    let length = place.of(text).bytes().take_while(|byte| *byte != b'\n').count();
+    let length = place
+        .of(text)
+        .bytes()
+        .take_while(|byte| *byte != b'\n')
+        .count();
     let line = ByteRange {
         start: place.start,
         end: place.start.saturating_add(length),

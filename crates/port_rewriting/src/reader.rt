@@ -74,8 +74,14 @@ pub(crate) struct Reader<'f> {
 /// Whether a command answers, and does nothing else.
 fn is_pure(words: &[Option<&str>]) -> bool {
     match words {
-        [Some("list" | "llength" | "lindex" | "lrange" | "split" | "join" | "concat"), ..] => true,
-        [Some("string" | "getenv" | "is-loaded" | "module-info" | "expr"), ..] => true,
+        [
+            Some("list" | "llength" | "lindex" | "lrange" | "split" | "join" | "concat"),
+            ..
+        ] => true,
+        [
+            Some("string" | "getenv" | "is-loaded" | "module-info" | "expr"),
+            ..
+        ] => true,
         [Some("info"), Some("exists"), ..] => true,
         _ => false,
     }
@@ -131,7 +137,9 @@ fn copied(alloc: Global, text: Option<&str>) -> Result<Option<String>, AllocErro
 
 /// Whether parts are texts and scripts in brackets alone.
 fn are_spelled(parts: &[Part<ByteRange>]) -> bool {
-    parts.iter().all(|part| matches!(part, Part::Literal(_) | Part::Bracket(_)))
+    parts
+        .iter()
+        .all(|part| matches!(part, Part::Literal(_) | Part::Bracket(_)))
 }
 
 /// Whether a procedure is called by no load.
@@ -185,14 +193,11 @@ impl<'f> Reader<'f> {
     }
 
     /// Notes the procedures that the commands of the file define.
-    pub(crate) fn find_procedures(
-        &mut self,
-        script: &Script<ByteRange>,
-    ) -> Result<(), AllocError> {
+    pub(crate) fn find_procedures(&mut self, script: &Script<ByteRange>) -> Result<(), AllocError> {
         for command in &script.commands {
             if let [first, name, ..] = command.words.as_slice() {
-                let is_definition =
-                    constant(self.text, first).is_some_and(|word| word.value == "proc");
+                let is_definition = constant(self.text, first).is_some_and(|word| word.value
+                    == "proc");
                 match constant(self.text, name) {
                     Some(name) if is_definition => self.procedures.push(name.value)?,
                     _ => {}
@@ -224,10 +229,7 @@ impl<'f> Reader<'f> {
 
     /// The values of the words of a command of the file, as far as they are known; its name has to be constant, and a
     /// condition with brackets is as it is spelled.
-    fn values_of(
-        &self,
-        command: &Command<ByteRange>,
-    ) -> Result<Vec<Option<String>>, AllocError> {
+    fn values_of(&self, command: &Command<ByteRange>) -> Result<Vec<Option<String>>, AllocError> {
         let mut values = Vec::new(self.alloc);
         let [name, others @ ..] = command.words.as_slice() else {
             return Ok(values);
@@ -253,11 +255,16 @@ impl<'f> Reader<'f> {
         let (Some(places), [_, word, ..]) = (places, command.words.as_slice()) else {
             return Ok(());
         };
-        if let (WordContent::Parts(parts), Some(place)) = (&word.content, places.as_slice().get(1))
-        {
+        if let (WordContent::Parts(parts), Some(place)) = (
+            &word.content,
+            places.as_slice().get(1),
+        ) {
             let spelled = place.of(self.text);
             let is_bare = !word.expands && !spelled.starts_with('"');
-            if let (true, Some(value)) = (is_bare && are_spelled(parts.as_slice()), values.get_mut(1)) {
+            if let (true, Some(value)) = (
+                is_bare && are_spelled(parts.as_slice()),
+                values.get_mut(1),
+            ) {
                 *value = Some(String::from_str(self.alloc, spelled)?);
             }
         }
@@ -313,10 +320,7 @@ impl<'f> Reader<'f> {
     }
 
     /// The words of a list of patterns, which is read as a script has its words; none where these aren't its elements.
-    fn pattern_words(
-        &self,
-        scope: Scope<'f>,
-    ) -> Result<Option<Vec<ConstantWord<'f>>>, TextFault> {
+    fn pattern_words(&self, scope: Scope<'f>) -> Result<Option<Vec<ConstantWord<'f>>>, TextFault> {
         let script = parse_pieces(self.alloc, &scope.text)?;
         let elements = parse_list(self.alloc, scope.text)?;
         let mut words = Vec::new(self.alloc);
@@ -347,11 +351,7 @@ impl<'f> Reader<'f> {
 
     /// Reads the commands of a script.
     #[cycle(reads)]
-    fn script(
-        &mut self,
-        scope: Scope<'f>,
-        script: &Script<ByteRange>,
-    ) -> Result<(), AllocError> {
+    fn script(&mut self, scope: Scope<'f>, script: &Script<ByteRange>) -> Result<(), AllocError> {
         for command in &script.commands {
             let mut words = Vec::new(self.alloc);
             for word in &command.words {
@@ -426,11 +426,7 @@ impl<'f> Reader<'f> {
     }
 
     /// Notes a family that a command names.
-    fn note_family(
-        &mut self,
-        scope: Scope<'f>,
-        words: &[Option<&str>],
-    ) -> Result<(), AllocError> {
+    fn note_family(&mut self, scope: Scope<'f>, words: &[Option<&str>]) -> Result<(), AllocError> {
         match words {
             [Some("family"), Some(name)] => self.families.push(NamedFamily {
                 name: Some(String::from_str(self.alloc, name)?),
@@ -573,11 +569,7 @@ impl<'f> Reader<'f> {
 
     /// Reads what is in brackets in parts of a word.
     #[cycle(reads)]
-    fn parts(
-        &mut self,
-        scope: Scope<'f>,
-        parts: &[Part<ByteRange>],
-    ) -> Result<(), AllocError> {
+    fn parts(&mut self, scope: Scope<'f>, parts: &[Part<ByteRange>]) -> Result<(), AllocError> {
         for part in parts {
             self.part(scope, part)?;
         }
@@ -602,10 +594,8 @@ impl<'f> Reader<'f> {
     /// Whether a text is put in place of what stands there.
     fn is_computed(&self, scope: Scope, start: usize) -> bool {
         let at = scope.place(start);
-        self.piece
-            .computed
-            .iter()
-            .any(|computed| computed.place.start <= at && at < computed.place.end)
+        self.piece.computed.iter().any(|computed| computed.place.start <= at
+            && at < computed.place.end)
     }
 
     /// Whether a text is put in place of a script in brackets.
@@ -718,17 +708,20 @@ impl<'f> Reader<'f> {
                 self.known.set_environment(alloc, name, Some(value))
             }
             [Some("setenv" | "pushenv" | "unsetenv"), Some(name), ..]
-            | [Some("prepend-path" | "append-path" | "remove-path"), Some(name), ..]
-                if !name.starts_with('-') =>
-            {
-                self.known.set_environment(alloc, name, None)
-            }
+            | [
+                Some("prepend-path" | "append-path" | "remove-path"),
+                Some(name),
+                ..
+            ] if !name.starts_with('-') => { self.known.set_environment(alloc, name, None) }
             [Some("setenv" | "pushenv" | "unsetenv"), ..]
             | [Some("prepend-path" | "append-path" | "remove-path"), ..] => {
                 self.known.forget_environment();
                 Ok(())
             }
-            [Some("conflict" | "prereq" | "module-whatis" | "puts" | "proc"), ..] => Ok(()),
+            [
+                Some("conflict" | "prereq" | "module-whatis" | "puts" | "proc"),
+                ..
+            ] => Ok(()),
             _ => {
                 self.known.forget();
                 Ok(())

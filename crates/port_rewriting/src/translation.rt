@@ -89,11 +89,7 @@ fn conflicts(
 }
 
 /// Adds a conflict with a name to what stands before the first command.
-fn add_conflict(
-    alloc: Global,
-    piece: &mut TranslatedPiece,
-    name: &str,
-) -> Result<(), AllocError> {
+fn add_conflict(alloc: Global, piece: &mut TranslatedPiece, name: &str) -> Result<(), AllocError> {
     let what = format!(in alloc; "conflict {name}")?;
     piece.text.extend_from_slice(what.as_bytes())?;
     piece.text.push(b'\n')?;
@@ -257,11 +253,7 @@ fn translated(
 /// What is written for a file, by what is known of it.
 ///
 /// The errors: it is no script, or what would be written is none; want of memory.
-pub fn translate(
-    alloc: Global,
-    given: Given,
-    text: &str,
-) -> Result<Translation, TranslationFault> {
+pub fn translate(alloc: Global, given: Given, text: &str) -> Result<Translation, TranslationFault> {
     match parse_pieces(alloc, &text) {
         Ok(script) => translated(alloc, given, text, &script),
         Err(fault) => Err(TranslationFault::Given(fault)),

@@ -64,7 +64,11 @@ pub fn first_line(text: &str, at: usize) -> &str {
         start: at,
         end: text.len(),
     };
-    let end = rest.of(text).bytes().take_while(|byte| *byte != b'\n' && *byte != b';').count();
+    let end = rest
+        .of(text)
+        .bytes()
+        .take_while(|byte| *byte != b'\n' && *byte != b';')
+        .count();
     let line = ByteRange {
         start: at,
         end: at.saturating_add(end),

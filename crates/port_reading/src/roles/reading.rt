@@ -30,11 +30,7 @@ fn is(word: Option<&str>, text: &str) -> bool {
 }
 
 /// Adds the roles of words, of which the last is a script with this role and the others are values.
-fn last_is(
-    roles: &mut Vec<Role>,
-    words: &[Option<&str>],
-    role: Role,
-) -> Result<(), AllocError> {
+fn last_is(roles: &mut Vec<Role>, words: &[Option<&str>], role: Role) -> Result<(), AllocError> {
     let last = words.len().saturating_sub(1);
     for (place, _) in words.iter().enumerate() {
         roles.push(if place == last { role } else { Role::Value })?;
