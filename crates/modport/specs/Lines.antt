@@ -6,10 +6,10 @@ use Rattle.json.specs.Token.{Token, begin_object, end_object, key, string, numbe
 use Rattle.tcltext.specs.chars.Bytes.{newline}
 use Rattle.tcltext.specs.chars.Runs.{Text}
 use Rattle.modport.specs.declared.report_lines.PieceOutcome.{PieceOutcome}
-use Rattle.modport.specs.declared.report_lines.PieceOutcome.TheVariants.{Translated, Dropped, Computed, Flattened, Added, Default, LeftOut}
+use Rattle.modport.specs.declared.report_lines.PieceOutcome.TheVariants.{Translated, Changed, Computed, Flattened, Added, Default, LeftOut}
 
 -- what is said of a part of a file, or, without a place, of the whole: what became of it, which it is, and what is
--- written for it, where that is said; a place is a line of the file, from 1
+-- written for it or in which case that differs, where this is said; a place is a line of the file, from 1
 pub record Line : Type 0 where
   pub place : Option ℕ
   pub fate : PieceOutcome
@@ -18,7 +18,7 @@ pub record Line : Type 0 where
 
 abbrev pub word_of : PieceOutcome → Text
 word_of Translated = codes "translated"
-word_of Dropped = codes "dropped"
+word_of Changed = codes "changed"
 word_of Computed = codes "computed"
 word_of Flattened = codes "flattened"
 word_of Added = codes "added"
