@@ -1,4 +1,7 @@
 //! The pieces of a file: what is written for each command, with what stands behind it, and the notes on it.
+ghost use Rattle.std.specs.Prelude.{IfOk};
+ghost use Rattle.port_rewriting.specs.Accounts.{Stays};
+ghost use Rattle.port_rewriting.specs.AccountViews.{piece_view};
 
 use crate::class::{Class, Note, Outcome};
 use port_constants::Computed;
@@ -195,6 +198,22 @@ fn edited(
     Ok(written)
 }
 
+/// The piece with these notes on a part of a file: the part, where there are none, and else what is written for it.
+fn noted(
+    alloc: Global,
+    part: &[u8],
+    notes: Vec<Note>,
+    written: String,
+) -> Result<TranslatedPiece, AllocError>
+    ensures { IfOk result (λ p. Stays part.now (piece_view p)) }
+{
+    let text = match notes.as_slice() {
+        [] => Vec::from_slice(alloc, part)?,
+        [_, ..] => written.into_bytes(),
+    };
+    Ok(TranslatedPiece { text, notes })
+}
+
 /// What is written for a piece of a text that stands at a place, in this line, by what was found in its command. A piece
 /// on which there is no note is written as it is.
 ///
@@ -206,17 +225,12 @@ pub(crate) fn written_piece(
     place: ByteRange,
     line: usize,
     mut found: PieceFindings,
-) -> Result<TranslatedPiece, AllocError> {
+) -> Result<TranslatedPiece, AllocError>
+    // A part of which nothing is said stays.
+    ensures { IfOk result (λ p. Stays was.now (piece_view p)) }
+{
     let notes = notes_on(alloc, text, place.start, line, &mut found)?;
-    if notes.is_empty() {
-        return Ok(TranslatedPiece {
-            text: Vec::from_slice(alloc, was)?,
-            notes,
-        });
-    }
     let edits = ordered(found)?;
-    Ok(TranslatedPiece {
-        text: edited(alloc, text, place, edits.as_slice())?.into_bytes(),
-        notes,
-    })
+    let written = edited(alloc, text, place, edits.as_slice())?;
+    noted(alloc, was, notes, written)
 }

@@ -1,9 +1,14 @@
 //! A modulefile translated, piece by piece: a script again.
+ghost use Rattle.std.specs.Prelude.{◌≡◌, [], ◌++◌, take, drop, IfOk, OnOk, string_bytes};
+ghost use Rattle.tcltext.specs.chars.Runs.{Text};
+ghost use Rattle.port_reading.specs.script_text.ScriptTexts.{Parses};
+ghost use Rattle.port_rewriting.specs.Accounts.{Accounts, written};
+ghost use Rattle.port_rewriting.specs.AccountViews.{pieces_view};
 
 use crate::aliases::ShellScript;
 use crate::class::{Class, Note, Outcome};
 use crate::names::is_plain;
-use crate::pieces::{TranslatedPiece, written_piece};
+use crate::pieces::{PieceFindings, TranslatedPiece, written_piece};
 use crate::reader::{NamedFamily, Reader};
 use crate::scopes::Given;
 use crate::symbols::constant_words;
@@ -67,7 +72,10 @@ fn lines_in(text: &[u8]) -> usize {
 }
 
 /// The first bytes, as many as that or all, and the others.
-fn split_within(text: &[u8], length: usize) -> (&[u8], &[u8]) {
+fn split_within(text: &[u8], length: usize) -> (&[u8], &[u8])
+    ensures first { result.0.now ≡ take length text.now }
+    ensures others { result.1.now ≡ drop length text.now }
+{
     if length < text.len() {
         text.split_at(length)
     } else {
@@ -88,24 +96,38 @@ fn conflicts(
     }
 }
 
-/// Adds a conflict with a name to what stands before the first command.
-fn add_conflict(alloc: Global, piece: &mut TranslatedPiece, name: &str) -> Result<(), AllocError> {
-    let what = format!(in alloc; "conflict {name}")?;
-    piece.text.extend_from_slice(what.as_bytes())?;
-    piece.text.push(b'\n')?;
-    piece.notes.push(Note {
-        line: None,
-        what,
-        outcome: Outcome::Added,
-    })?;
-    Ok(())
-}
-
 /// Where the command of this number begins, or the end of the text behind the last.
 fn start_of(text: &str, commands: &[Command<ByteRange>], number: usize) -> usize {
     match commands.get(number) {
         Some(command) => command.offset,
         None => text.len(),
+    }
+}
+
+/// What was found in the commands of a file.
+#[derive(Drop)]
+struct Findings {
+    /// What was found in each.
+    found: Vec<PieceFindings>,
+    /// Whether the file is in conflict with its own name in each load.
+    has_conflict: bool,
+}
+
+impl Reader<'_> {
+    /// Reads commands of the file.
+    fn read_all(&mut self, commands: &[Command<ByteRange>]) -> Result<Findings, AllocError> {
+        let mut findings = Findings {
+            found: Vec::new(self.alloc),
+            has_conflict: false,
+        };
+        for command in commands {
+            let is_reached = self.is_straight;
+            let name = self.given.one_version.unwrap_or("");
+            let is_conflict = conflicts(self.alloc, self.text, command, name)?;
+            findings.has_conflict = findings.has_conflict || is_reached && is_conflict;
+            findings.found.push(self.read(command)?)?;
+        }
+        Ok(findings)
     }
 }
 
@@ -118,13 +140,14 @@ struct PiecesSoFar<'f> {
     rest: &'f [u8],
     /// The line where that begins.
     line: usize,
-    /// Whether the file is in conflict with its own name in each load.
-    has_conflict: bool,
 }
 
 impl<'f> PiecesSoFar<'f> {
     /// What stands before the first command.
-    fn new(alloc: Global, text: &'f str, first: usize) -> Result<PiecesSoFar<'f>, AllocError> {
+    #[tactic(auto, using(crate::proofs::Accounting::begun))]
+    fn new(alloc: Global, text: &'f str, first: usize) -> Result<PiecesSoFar<'f>, AllocError>
+        ensures { IfOk result (λ s. Accounts text.entry.now (pieces_view s.pieces.items) s.rest.now) }
+    {
         let (before, rest) = split_within(text.as_bytes(), first);
         let mut pieces = Vec::new(alloc);
         pieces.push(TranslatedPiece {
@@ -135,62 +158,91 @@ impl<'f> PiecesSoFar<'f> {
             pieces,
             rest,
             line: lines_in(before).saturating_add(1),
-            has_conflict: false,
         })
     }
 
-    /// Adds the piece of a command, which ends there.
+    /// Adds a conflict with a name, on a line of its own.
+    #[tactic(auto, using(crate::proofs::Accounting::put_between))]
+    fn add_conflict(&mut self, alloc: Global, name: &str) -> Result<(), AllocError>
+        ensures { OnOk result ((text : Text) → Accounts text (pieces_view self.old.pieces.items) self.old.rest.now
+            → Accounts text (pieces_view self.new.pieces.items) self.new.rest.now) }
+    {
+        let what = format!(in alloc; "conflict {name}")?;
+        let mut text = Vec::from_slice(alloc, what.as_bytes())?;
+        text.push(b'\n')?;
+        let mut notes = Vec::new(alloc);
+        notes.push(Note {
+            line: None,
+            what,
+            outcome: Outcome::Added,
+        })?;
+        self.pieces.push(TranslatedPiece { text, notes })?;
+        Ok(())
+    }
+
+    /// Adds the piece of a command of a file in which this was found, and which ends there.
+    #[tactic(auto, using(crate::proofs::Accounting::cut))]
     fn add(
         &mut self,
-        reader: &mut Reader<'f>,
-        command: &Command<ByteRange>,
+        alloc: Global,
+        text: &str,
+        start: usize,
         end: usize,
-    ) -> Result<(), AllocError> {
-        let place = ByteRange {
-            start: command.offset,
-            end,
-        };
-        let (was, rest) = split_within(self.rest, end.saturating_sub(command.offset));
-        if let Some(name) = reader.given.one_version {
-            let is_one = conflicts(reader.alloc, reader.text, command, name)?;
-            self.has_conflict = self.has_conflict || reader.is_straight && is_one;
-        }
-        let found = reader.read(command)?;
-        let piece = written_piece(reader.alloc, reader.text, was, place, self.line, found)?;
+        found: PieceFindings,
+    ) -> Result<(), AllocError>
+        ensures { OnOk result ((file : Text) → Accounts file (pieces_view self.old.pieces.items) self.old.rest.now
+            → Accounts file (pieces_view self.new.pieces.items) self.new.rest.now) }
+    {
+        let place = ByteRange { start, end };
+        let (was, rest) = split_within(self.rest, end.saturating_sub(start));
+        let piece = written_piece(alloc, text, was, place, self.line, found)?;
         self.pieces.push(piece)?;
         self.line = self.line.saturating_add(lines_in(was));
         self.rest = rest;
         Ok(())
     }
-}
 
-impl PiecesSoFar<'_> {
-    /// Adds what is still to be written, where something is.
-    fn end(&mut self, alloc: Global) -> Result<(), AllocError> {
-        if !self.rest.is_empty() {
-            self.pieces.push(TranslatedPiece {
-                text: Vec::from_slice(alloc, self.rest)?,
-                notes: Vec::new(alloc),
-            })?;
-            self.rest = &[];
-        }
-        Ok(())
+    /// The pieces, with what is still to be written.
+    #[tactic(auto, using(crate::proofs::Accounting::ended))]
+    fn end(self, alloc: Global) -> Result<Vec<TranslatedPiece>, AllocError>
+        ensures { IfOk result (λ pieces. (text : Text) → Accounts text (pieces_view self.entry.pieces.items) self.entry.rest.now
+            → Accounts text (pieces_view pieces.items) []) }
+    {
+        let PiecesSoFar {
+            mut pieces,
+            rest,
+            ..
+        } = self;
+        pieces.push(TranslatedPiece {
+            text: Vec::from_slice(alloc, rest)?,
+            notes: Vec::new(alloc),
+        })?;
+        Ok(pieces)
     }
 }
 
-/// The pieces of a file of these commands.
-fn pieces_of<'f>(
-    reader: &mut Reader<'f>,
+/// The pieces of a file of these commands, in which this was found; with a conflict with a name, where one is to be
+/// added.
+fn pieces_of(
+    alloc: Global,
+    text: &str,
     commands: &[Command<ByteRange>],
-) -> Result<PiecesSoFar<'f>, AllocError> {
-    let text = reader.text;
-    let mut so_far = PiecesSoFar::new(reader.alloc, text, start_of(text, commands, 0))?;
-    for (number, command) in commands.iter().enumerate() {
-        let end = start_of(text, commands, number.saturating_add(1));
-        so_far.add(reader, command, end)?;
+    found: Vec<PieceFindings>,
+    added: Option<&str>,
+) -> Result<Vec<TranslatedPiece>, AllocError>
+    ensures { IfOk result (λ pieces. Accounts text.now (pieces_view pieces.items) []) }
+{
+    let mut so_far = PiecesSoFar::new(alloc, text, start_of(text, commands, 0))?;
+    if let Some(name) = added {
+        so_far.add_conflict(alloc, name)?;
     }
-    so_far.end(reader.alloc)?;
-    Ok(so_far)
+    let mut number = 0usize;
+    'pieces: for it in found {
+        let start = start_of(text, commands, number);
+        number = number.saturating_add(1);
+        so_far.add(alloc, text, start, start_of(text, commands, number), it)?;
+    }
+    so_far.end(alloc)
 }
 
 /// The class of the worst of some pieces.
@@ -205,12 +257,24 @@ fn class_of(pieces: &[TranslatedPiece]) -> Class {
 }
 
 /// The text of pieces.
-fn text_of(alloc: Global, pieces: &[TranslatedPiece]) -> Result<Vec<u8>, AllocError> {
+fn text_of(alloc: Global, pieces: &[TranslatedPiece]) -> Result<Vec<u8>, AllocError>
+    ensures { IfOk result (λ text. text.items ≡ written (pieces_view pieces.now)) }
+{
     let mut text = Vec::new(alloc);
     for piece in pieces {
         text.extend_from_slice(piece.text.as_slice())?;
     }
     Ok(text)
+}
+
+/// The name that a file is to be in conflict with, where it isn't yet.
+fn added_conflict<'g>(name: Option<&'g str>, findings: &Findings) -> Option<&'g str> {
+    match name {
+        Some(name) if !findings.has_conflict && is_plain(name) && !findings.found.is_empty() => {
+            Some(name)
+        }
+        _ => None,
+    }
 }
 
 /// What is written for a file of this script.
@@ -219,27 +283,23 @@ fn translated(
     given: Given,
     text: &str,
     script: &Script<ByteRange>,
-) -> Result<Translation, TranslationFault> {
+) -> Result<Translation, TranslationFault>
+    ensures accounts { IfOk result (λ t. Accounts text.now (pieces_view t.pieces.items) []) }
+    ensures joined { IfOk result (λ t. string_bytes t.text ≡ written (pieces_view t.pieces.items)) }
+    ensures parses { IfOk result (λ t. Parses (string_bytes t.text)) }
+{
     let mut reader = Reader::new(alloc, given, text);
     reader.find_procedures(script)?;
-    let PiecesSoFar {
-        mut pieces,
-        has_conflict,
-        ..
-    } = pieces_of(&mut reader, script.commands.as_slice())?;
-    if let (Some(name), [first, _, ..]) = (given.one_version, pieces.as_mut_slice()) {
-        if !has_conflict && is_plain(name) {
-            add_conflict(alloc, first, name)?;
-        }
-    }
+    let commands = script.commands.as_slice();
+    let findings = reader.read_all(commands)?;
+    let added = added_conflict(given.one_version, &findings);
+    let pieces = pieces_of(alloc, text, commands, findings.found, added)?;
     let bytes = text_of(alloc, pieces.as_slice())?;
     let Some(written) = script_text(alloc, bytes)? else {
         return Err(TranslationFault::Written);
     };
     let Reader {
-        scripts,
-        families,
-        ..
+        scripts, families, ..
     } = reader;
     Ok(Translation {
         text: written,
@@ -253,7 +313,20 @@ fn translated(
 /// What is written for a file, by what is known of it.
 ///
 /// The errors: it is no script, or what would be written is none; want of memory.
-pub fn translate(alloc: Global, given: Given, text: &str) -> Result<Translation, TranslationFault> {
+pub fn translate(
+    alloc: Global,
+    given: Given,
+    text: &str,
+) -> Result<Translation, TranslationFault>
+    // The file is cut into parts, and one on which there is no note is written as it is.
+    ensures accounts { IfOk result (λ t. Accounts text.now (pieces_view t.pieces.items) []) }
+
+    // What is written are the pieces, one behind the other.
+    ensures joined { IfOk result (λ t. string_bytes t.text ≡ written (pieces_view t.pieces.items)) }
+
+    // It is a script again.
+    ensures parses { IfOk result (λ t. Parses (string_bytes t.text)) }
+{
     match parse_pieces(alloc, &text) {
         Ok(script) => translated(alloc, given, text, &script),
         Err(fault) => Err(TranslationFault::Given(fault)),

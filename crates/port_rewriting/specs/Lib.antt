@@ -1,0 +1,2 @@
+pub mod AccountViews
+pub mod Accounts
