@@ -14,21 +14,21 @@ one_more (other ∷ parts) (q ∷ pieces) part p h k = (h.0, one_more parts piec
 -- a piece is written for the part that the rest begins with
 pub grown : (text rest part behind : Text) (pieces : List Piece) (p : Piece) → Accounts text pieces rest → part ++ behind ≡ rest → Stays part p
     → Accounts text (pieces ++ p ∷ []) behind
-grown text rest part behind pieces p h e k =
-    ( h.0 ++ part ∷ []
-    , one_more h.0 pieces part p h.1.0 k
-    , ap (λ (t : Text). t ++ behind) (sym (flat_map_more (λ (t : Text). t) [] h.0 part))
-    ∙ (append_assoc (joined h.0) part behind
-    ∙ (ap (λ (t : Text). joined h.0 ++ t) e ∙ h.1.1))
-    )
+grown text rest part behind pieces p h e k = (
+  h.0 ++ part ∷ [],
+  one_more h.0 pieces part p h.1.0 k,
+  ap (λ (t : Text). t ++ behind) (sym (flat_map_more (λ (t : Text). t) [] h.0 part))
+      ∙ (append_assoc (joined h.0) part behind
+      ∙ (ap (λ (t : Text). joined h.0 ++ t) e ∙ h.1.1)),
+)
 
 -- what stands before the first command
 pub begun : (text : Text) (first : ℕ) (p : Piece) → p.text ≡ take first text → Accounts text (p ∷ []) (drop first text)
-begun text first p e =
-    ( take first text ∷ []
-    , ((λ (unsaid : p.is_said ≡ false). e), tt)
-    , ap (λ (t : Text). t ++ drop first text) (append-nil (take first text)) ∙ take-append-drop first text
-    )
+begun text first p e = (
+  take first text ∷ [],
+  ((λ (unsaid : p.is_said ≡ false). e), tt),
+  ap (λ (t : Text). t ++ drop first text) (append-nil (take first text)) ∙ take-append-drop first text,
+)
 
 -- the piece of a command, for as many bytes of the rest
 pub cut : (rest : Text) (length : ℕ) (pieces : List Piece) (p : Piece) → Stays (take length rest) p → (text : Text) → Accounts text pieces rest

@@ -44,6 +44,11 @@ fn folder_of(module: &str) -> &str {
     }
 }
 
+/// Whether a variable is one of the environment, which no command of Tcl changes here.
+fn is_of_environment(name: &str) -> bool {
+    name == "env" || name.starts_with("env(") || name.starts_with("::env")
+}
+
 /// Whether a shell takes something in a value for a home.
 fn has_tilde(word: Option<&str>) -> bool {
     match word {
@@ -232,13 +237,12 @@ impl<'f> Reader<'f> {
         Ok(text)
     }
 
-    /// What is written for a command of this name, whose other words name modules.
+    /// What is written for a command of these words, of which the first is this name and the others name modules.
     fn naming(&self, name: &str, words: &[Option<&str>]) -> Result<Rewrite, AllocError> {
         let mut texts = Vec::new(self.alloc);
-        let mut number = 0usize;
-        for word in words {
-            number = number.saturating_add(1);
+        for (number, word) in words.iter().enumerate() {
             match *word {
+                Some(_) if number == 0 => {}
                 None if self.given.site.is_some() => return self.left(name),
                 None => {}
                 Some(word) => match meaning_in(self.alloc, self.given.site, word)? {
@@ -347,6 +351,13 @@ impl<'f> Reader<'f> {
     fn difference(&self, scope: Scope, words: &[Option<&str>]) -> Option<&'static str> {
         match words {
             [Some("return"), ..] if !scope.is_in_procedure => Some("return"),
+            [Some("set"), Some(name), _]
+            | [
+                Some("append" | "lappend" | "incr" | "unset"),
+                Some(name),
+                ..
+            ] if is_of_environment(name) => { Some("env") }
+            [Some("prepend-path" | "append-path"), .., Some(":")] => Some(":"),
             [
                 Some("setenv" | "pushenv" | "prepend-path" | "append-path"),
                 others @ ..,
@@ -393,8 +404,12 @@ impl<'f> Reader<'f> {
             if let Some(rewrite) = self.without_option(words) {
                 return Ok(rewrite);
             }
-            if let [Some("conflict" | "prereq" | "is-loaded"), others @ ..] = words {
-                return self.naming(name, others);
+            match words {
+                [Some("prereq"), ..] if scope.is_caught => return self.left(name),
+                [Some("conflict" | "prereq" | "is-loaded"), _, ..] => {
+                    return self.naming(name, words);
+                }
+                _ => {}
             }
         }
         if !self.reads(name, words, expands)? {

@@ -46,6 +46,8 @@ pub(crate) struct Scope<'f> {
     pub role: Role,
     /// Whether it is in the body of a procedure.
     pub is_in_procedure: bool,
+    /// Whether errors of it are caught.
+    pub is_caught: bool,
     /// Whether it is the file.
     pub is_top: bool,
     /// Whether it is in brackets.
@@ -60,6 +62,7 @@ impl<'f> Scope<'f> {
             base: 0,
             role: Role::Body,
             is_in_procedure: false,
+            is_caught: false,
             is_top: true,
             is_bracket: false,
         }
@@ -67,12 +70,12 @@ impl<'f> Scope<'f> {
 
     /// That of a text in it which begins there, for this role.
     pub(crate) fn inner(self, text: &'f str, start: usize, role: Role) -> Scope<'f> {
-        let is_caught = self.role == Role::Caught && role == Role::Body;
         Scope {
             text,
             base: self.base.saturating_add(start),
-            role: if is_caught { Role::Caught } else { role },
+            role,
             is_in_procedure: self.is_in_procedure || role == Role::Procedure,
+            is_caught: self.is_caught || role == Role::Caught,
             is_top: false,
             is_bracket: false,
         }
@@ -89,7 +92,7 @@ impl<'f> Scope<'f> {
 
     /// Whether its commands stand alone, and no error of them is caught.
     pub(crate) fn is_statement(self) -> bool {
-        !self.is_bracket && self.role != Role::Caught
+        !self.is_bracket && !self.is_caught
     }
 
     /// The place in the file of what begins there in it.

@@ -299,7 +299,9 @@ fn translated(
         return Err(TranslationFault::Written);
     };
     let Reader {
-        scripts, families, ..
+        scripts,
+        families,
+        ..
     } = reader;
     Ok(Translation {
         text: written,
@@ -313,11 +315,7 @@ fn translated(
 /// What is written for a file, by what is known of it.
 ///
 /// The errors: it is no script, or what would be written is none; want of memory.
-pub fn translate(
-    alloc: Global,
-    given: Given,
-    text: &str,
-) -> Result<Translation, TranslationFault>
+pub fn translate(alloc: Global, given: Given, text: &str) -> Result<Translation, TranslationFault>
     // The file is cut into parts, and one on which there is no note is written as it is.
     ensures accounts { IfOk result (λ t. Accounts text.now (pieces_view t.pieces.items) []) }
 
