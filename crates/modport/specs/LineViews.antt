@@ -1,20 +1,20 @@
 -- Values of the code as the definitions have them.
-use Rattle.std.specs.Prelude.{◌≡◌, List, ◌++◌, map, Option}
+use Rattle.std.specs.Prelude.{◌≡◌, List, ◌++◌, map, string_bytes, Option}
 use Rattle.std.specs.Option.{option_map}
 use Rattle.std.specs.Borrow.{Bor}
 use Rattle.tcltext.specs.chars.Runs.{Text}
 use Rattle.json.specs.Token.{Token}
 use Rattle.json.specs.Written.{Written}
 use Rattle.modport.specs.Lines as lines
-use Rattle.modport.specs.declared.report_lines.Line.{Line}
+use Rattle.port_rewriting.specs.declared.class.Note.{Note}
 
 abbrev pub now : Option (Bor Text) → Option Text
 now text = option_map (λ t. t.now) text
 
-abbrev pub line_view : Line → lines.Line
-line_view l = record { place = l.place; fate = l.fate; what = l.what.now; put = now l.put }
+abbrev pub line_view : Note → lines.Line
+line_view n = record { place = n.line; what = string_bytes n.what; outcome = n.outcome }
 
-abbrev pub lines_view : List Line → List lines.Line
+abbrev pub lines_view : List Note → List lines.Line
 lines_view ls = map line_view ls
 
 -- the tokens are added, and what stood before them stays

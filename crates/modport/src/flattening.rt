@@ -7,19 +7,6 @@ use port_rewriting::{Class, Given, Note, Outcome, TranslatedPiece, Translation, 
 use std::alloc::{AllocError, Global};
 use tcltext::script::{ByteRange, Script, parse_pieces};
 
-/// A file that is written by what a load of it has done.
-#[derive(Drop)]
-pub(crate) struct Flattened {
-    /// What is written: the translation of what was done.
-    pub translation: Translation,
-    /// A note on each command of the file.
-    pub notes: Vec<Note>,
-    /// Notes on what the file asks for, which was answered for good.
-    pub changes: Vec<Note>,
-    /// The class of the file.
-    pub class: Class,
-}
-
 /// The words of a file that ask for what another load may answer otherwise.
 const ASKING_WORDS: [&str; 10] = [
     "is-loaded",
@@ -34,18 +21,31 @@ const ASKING_WORDS: [&str; 10] = [
     "info",
 ];
 
-/// A note that a file isn't written so, by the reason.
-fn unserving(alloc: Global, why: &str) -> Result<TranslatedPiece, AllocError> {
+/// A piece for which nothing is written, with a note on the whole file.
+fn said_alone(
+    alloc: Global,
+    what: String,
+    outcome: Outcome,
+) -> Result<TranslatedPiece, AllocError> {
     let mut notes = Vec::new(alloc);
     notes.push(Note {
         line: None,
-        what: format!(in alloc; "not flattened, as {why}")?,
-        outcome: Outcome::Left,
+        what,
+        outcome,
     })?;
     Ok(TranslatedPiece {
         text: Vec::new(alloc),
         notes,
     })
+}
+
+/// A note that a file isn't written so, by the reason.
+fn unserving(alloc: Global, why: &str) -> Result<TranslatedPiece, AllocError> {
+    said_alone(
+        alloc,
+        format!(in alloc; "not flattened, as {why}")?,
+        Outcome::Left,
+    )
 }
 
 /// How many lines end in a text before a place.
@@ -61,22 +61,23 @@ fn lines_before(text: &str, place: usize) -> usize {
         .count()
 }
 
-/// A note on each command of a file.
-fn notes_on(
+/// Adds a note on each command of a file.
+fn push_commands(
     alloc: Global,
+    pieces: &mut Vec<TranslatedPiece>,
     text: &str,
     script: &Script<ByteRange>,
-) -> Result<Vec<Note>, AllocError> {
-    let mut notes = Vec::new(alloc);
+) -> Result<(), AllocError> {
     for command in &script.commands {
         let line = lines_before(text, command.offset).saturating_add(1);
-        notes.push(Note {
-            line: Some(line),
-            what: String::from_str(alloc, first_line(text, command.offset))?,
-            outcome: Outcome::Translated,
-        })?;
+        let what = String::from_str(alloc, first_line(text, command.offset))?;
+        let mut piece = said_alone(alloc, what, Outcome::Flattened)?;
+        for note in &mut piece.notes {
+            note.line = Some(line);
+        }
+        pieces.push(piece)?;
     }
-    Ok(notes)
+    Ok(())
 }
 
 /// Whether a byte can be part of a word that asks.
@@ -91,22 +92,20 @@ fn has_word(text: &str, word: &str) -> bool {
         .any(|part| part == word.as_bytes())
 }
 
-/// Notes on the words by which a file asks for what another load may answer otherwise.
-fn changes_in(alloc: Global, text: &str) -> Result<Vec<Note>, AllocError> {
-    let mut notes = Vec::new(alloc);
+/// Adds notes on the words by which a file asks for what another load may answer otherwise.
+fn push_changes(
+    alloc: Global,
+    pieces: &mut Vec<TranslatedPiece>,
+    text: &str,
+) -> Result<(), AllocError> {
     for word in ASKING_WORDS {
         if has_word(text, word) {
-            notes.push(Note {
-                line: None,
-                what: String::from_str(alloc, word)?,
-                outcome: Outcome::Changed(String::from_str(
-                    alloc,
-                    "what it answered in one load is written for good",
-                )?),
-            })?;
+            let case = String::from_str(alloc, "what it answered in one load is written for good")?;
+            let what = String::from_str(alloc, word)?;
+            pieces.push(said_alone(alloc, what, Outcome::Changed(case))?)?;
         }
     }
-    Ok(notes)
+    Ok(())
 }
 
 /// Whether a command of a file has this name.
@@ -117,6 +116,26 @@ fn has_command(text: &str, script: &Script<ByteRange>, name: &str) -> bool {
     })
 }
 
+/// The translation of what a load has done, with these pieces before its own, whose notes are on no line of the file.
+fn with_pieces(
+    mut translation: Translation,
+    mut pieces: Vec<TranslatedPiece>,
+) -> Result<Translation, AllocError> {
+    for piece in &pieces {
+        for note in &piece.notes {
+            translation.class = translation.class.and(note.outcome.class());
+        }
+    }
+    for piece in &mut translation.pieces {
+        for note in &mut piece.notes {
+            note.line = None;
+        }
+    }
+    pieces.append(&mut translation.pieces)?;
+    translation.pieces = pieces;
+    Ok(translation)
+}
+
 /// What is written for a file of this script, by these records.
 fn flattened_by(
     alloc: Global,
@@ -125,7 +144,7 @@ fn flattened_by(
     script: &Script<ByteRange>,
     given: Given,
     records: &LoadRecords,
-) -> Result<Result<Flattened, TranslatedPiece>, PortFault> {
+) -> Result<Result<Translation, TranslatedPiece>, PortFault> {
     if has_word(text, "remove-path") || has_command(text, script, "module") {
         let why = "it removes elements of a path, or loads modules";
         return Ok(Err(unserving(alloc, why)?));
@@ -141,18 +160,10 @@ fn flattened_by(
     if translation.class == Class::Left {
         return Ok(Err(unserving(alloc, "a command of it isn't read even then")?));
     }
-    let changes = changes_in(alloc, text)?;
-    let class = if changes.is_empty() {
-        Class::Exact
-    } else {
-        Class::Changed
-    };
-    Ok(Ok(Flattened {
-        translation,
-        notes: notes_on(alloc, text, script)?,
-        changes,
-        class,
-    }))
+    let mut pieces = Vec::new(alloc);
+    push_commands(alloc, &mut pieces, text, script)?;
+    push_changes(alloc, &mut pieces, text)?;
+    Ok(Ok(with_pieces(translation, pieces)?))
 }
 
 /// What is written for a file by what a load of it has done; or a note why nothing is.
@@ -164,7 +175,7 @@ pub(crate) fn flattened_of(
     records: &str,
     text: &str,
     given: Given,
-) -> Result<Result<Flattened, TranslatedPiece>, PortFault> {
+) -> Result<Result<Translation, TranslatedPiece>, PortFault> {
     let script = parse_pieces(alloc, &text)?;
     match records_of(alloc, records)? {
         Ok(records) => flattened_by(alloc, person, text, &script, given, &records),

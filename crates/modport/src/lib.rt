@@ -10,7 +10,6 @@ mod flattening;
 mod host_names;
 mod kept_values;
 mod porting;
-mod report_lines;
 mod reporting;
 mod script_files;
 mod site;

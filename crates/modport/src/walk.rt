@@ -4,7 +4,6 @@ use crate::arguments::{Manner, ParsedArguments, TreePaths};
 use crate::defaults::{DefaultOutcome, DefaultPlace, NamedDefaults, name_default};
 use crate::fault::PortFault;
 use crate::porting::{Sources, port_file};
-use crate::report_lines::PieceOutcome;
 use crate::reporting::{fault_line, line_on};
 use crate::script_files::{ScriptFile, ScriptPlaces};
 use crate::site::{add_tree, is_default_file};
@@ -12,7 +11,7 @@ use crate::status::Status;
 use crate::texts::{joined, kind_of, modulefile, read, text_at, write_new};
 use filetree::{DiskTree, Tree};
 use port_constants::KnownFile;
-use port_rewriting::{FileKind, Given, Site};
+use port_rewriting::{FileKind, Given, Outcome, Site};
 use process::absolute_path;
 use std::alloc::{AllocError, Global};
 use std::fs::{Metadata, Permissions};
@@ -170,15 +169,15 @@ impl<'r> Walk<'r> {
     }
 
     /// Says what became of what is at a path.
-    fn say_of(&self, path: &str, fate: PieceOutcome, what: &str) -> Result<(), PortFault> {
-        let line = line_on(self.rt.alloc(), self.manner.json, path, fate, what)?;
+    fn say_of(&self, path: &str, outcome: Outcome, what: &str) -> Result<(), PortFault> {
+        let line = line_on(self.rt.alloc(), self.manner.json, path, outcome, what)?;
         self.say(line.as_slice())
     }
 
     /// Says what is left out of a path.
     fn leave(&mut self, path: &str, what: &str) -> Result<(), PortFault> {
         self.status = self.status.and(Status::Left);
-        self.say_of(path, PieceOutcome::LeftOut, what)
+        self.say_of(path, Outcome::Left, what)
     }
 
     /// Goes on behind a fault at a path, which is said, unless memory ran out or the report can't be written.
@@ -222,7 +221,7 @@ impl<'r> Walk<'r> {
     fn file(&mut self, at: FileAt, found: &Metadata) -> Result<(), PortFault> {
         let alloc = self.rt.alloc();
         let Some(file) = modulefile(alloc, read(self.rt, at.from)?.as_slice())? else {
-            return self.say_of(at.from, PieceOutcome::LeftOut, "no modulefile");
+            return self.say_of(at.from, Outcome::Left, "no modulefile");
         };
         let records = self.records_of(at.below)?;
         let sources = Sources {
@@ -294,7 +293,7 @@ impl<'r> Walk<'r> {
         let what = format!(in self.rt.alloc(); "link to {target}")?;
         match fs::metadata(self.rt, at.from) {
             Ok(found) if self.is_modulefile(at.from, &found)? => {
-                self.say_of(at.from, PieceOutcome::Translated, what.as_str())?;
+                self.say_of(at.from, Outcome::Translated, what.as_str())?;
                 return self.file(at, &found);
             }
             Ok(_) if stays(target) => {}
@@ -395,9 +394,7 @@ impl<'r> Walk<'r> {
     ) -> Result<(), PortFault> {
         match name_default(self.rt, defaults, place)? {
             DefaultOutcome::Same => Ok(()),
-            DefaultOutcome::Named(name) => {
-                self.say_of(path, PieceOutcome::Default, name.as_str())
-            }
+            DefaultOutcome::Named(name) => { self.say_of(path, Outcome::Default, name.as_str()) }
             DefaultOutcome::Unnamed => self.leave(path, "default"),
         }
     }

@@ -47,13 +47,21 @@ pub enum Outcome {
     Left,
     /// It was added.
     Added,
+    /// What a load of its file has done is written.
+    Flattened,
+    /// The default of a folder is named, which it wasn't.
+    Default,
 }
 
 impl Outcome {
     /// The class of the command that the note is on.
     pub fn class(&self) -> Class {
         match self {
-            Outcome::Translated | Outcome::Computed(_) | Outcome::Added => Class::Exact,
+            Outcome::Translated
+            | Outcome::Computed(_)
+            | Outcome::Added
+            | Outcome::Flattened
+            | Outcome::Default => Class::Exact,
             Outcome::Changed(_) => Class::Changed,
             Outcome::Left => Class::Left,
         }
