@@ -144,7 +144,7 @@ fn write_members(
 {
     write_bytes(alloc, writer, "file", path.as_bytes())?;
     write_place(writer, line.line)?;
-    write_bytes(alloc, writer, "what", line.what.as_bytes().as_bytes())?;
+    write_bytes(alloc, writer, "what", line.what.as_bytes())?;
     write_bytes(alloc, writer, "why", word_of(&line.outcome).as_bytes())?;
     write_put(alloc, writer, put_of(&line.outcome))
 }
