@@ -3,7 +3,6 @@
 use crate::fault::PortFault;
 use crate::host_names::HostNames;
 use crate::kept_values::KeptValues;
-use port_defaults::Program;
 use std::alloc::Global;
 
 /// What is translated, and where it is written.
@@ -15,32 +14,41 @@ pub(crate) enum PortTarget {
     Stdin,
     /// The file at this path, to standard output.
     File(String),
-    /// The files below a path.
-    Tree(WalkedFiles),
+    /// The files below these paths.
+    Trees(Vec<TreePaths>),
 }
 
-/// Files below a path.
+/// A directory whose files are translated.
 #[derive(Debug, Drop)]
-pub(crate) struct WalkedFiles {
-    /// The path.
+pub(crate) struct TreePaths {
+    /// Its path.
     pub from: String,
     /// The path that they are written below; none where nothing is written but the report.
     pub to: Option<String>,
-    /// Whether each modulefile is to be in conflict with its own name.
-    pub one_version: bool,
-    /// The program whose default of each folder is to be named, where there is one.
-    pub like: Option<Program>,
 }
 
 /// What is asked for.
 #[derive(Debug, Drop)]
 pub(crate) struct PortArguments {
     /// What is translated, and where it is written.
-    pub job: PortTarget,
-    /// Whether each line of the report is JSON.
-    pub json: bool,
+    pub target: PortTarget,
+    /// How it is translated.
+    pub manner: Manner,
     /// What is said besides.
     pub said: ParsedArguments,
+}
+
+/// How modulefiles are translated.
+#[derive(Clone, Copy, Debug)]
+pub(crate) struct Manner {
+    /// Whether each line of the report is JSON.
+    pub json: bool,
+    /// Whether each modulefile is to be in conflict with its own name.
+    pub one_version: bool,
+    /// Whether scripts are written for aliases.
+    pub alias_scripts: bool,
+    /// Whether a command is left where something would differ.
+    pub strict: bool,
 }
 
 /// What the words behind options say.
@@ -48,15 +56,25 @@ pub(crate) struct PortArguments {
 pub(crate) struct ParsedArguments {
     /// Of the host that the modulefiles are for.
     pub host: HostNames,
-    /// Of whose environment modulefiles were shown in.
+    /// Of whose environment modulefiles were loaded in.
     pub kept: KeptValues,
-    /// The path of what was shown.
-    pub shown: Option<String>,
-    /// The program whose default of each folder is to be named.
-    pub like: Option<Program>,
+    /// The path of what was loaded.
+    pub records: Option<String>,
+    /// The path of a list of defaults.
+    pub defaults: Option<String>,
 }
 
 impl ParsedArguments {
+    /// One in which nothing is said.
+    fn new(alloc: Global) -> ParsedArguments {
+        ParsedArguments {
+            host: HostNames::new(alloc),
+            kept: KeptValues::new(),
+            records: None,
+            defaults: None,
+        }
+    }
+
     /// Adds what a word says behind an option.
     ///
     /// The errors: want of memory; it says nothing, or what is said already.
@@ -64,25 +82,16 @@ impl ParsedArguments {
         match option {
             OptionWithValue::HostNames => self.host.add(alloc, word),
             OptionWithValue::KeptValues => self.kept.add(alloc, word),
-            OptionWithValue::Shown if self.shown.is_none() => {
-                self.shown = Some(String::from_str(alloc, word)?);
+            OptionWithValue::Records if self.records.is_none() => {
+                self.records = Some(String::from_str(alloc, word)?);
                 Ok(())
             }
-            OptionWithValue::Like if self.like.is_none() => {
-                self.like = Some(program_of(word)?);
+            OptionWithValue::Defaults if self.defaults.is_none() => {
+                self.defaults = Some(String::from_str(alloc, word)?);
                 Ok(())
             }
-            OptionWithValue::Shown | OptionWithValue::Like => Err(PortFault::Usage),
+            OptionWithValue::Records | OptionWithValue::Defaults => Err(PortFault::Usage),
         }
-    }
-}
-
-/// The program that a word names.
-fn program_of(word: &str) -> Result<Program, PortFault> {
-    match word {
-        "em" => Ok(Program::EnvironmentModules),
-        "lmod" => Ok(Program::Lmod),
-        _ => Err(PortFault::Usage),
     }
 }
 
@@ -94,9 +103,9 @@ enum OptionWithValue {
     /// `--kept`
     KeptValues,
     /// `--flatten`
-    Shown,
-    /// `--like`
-    Like,
+    Records,
+    /// `--defaults`
+    Defaults,
 }
 
 /// Which options stand before the paths.
@@ -105,8 +114,7 @@ struct Options {
     help: bool,
     stdin: bool,
     check: bool,
-    json: bool,
-    one_version: bool,
+    manner: Manner,
     /// The last word, where one stands behind it that says something.
     telling: Option<OptionWithValue>,
     /// Whether a word was `--`, behind which no word is an option.
@@ -114,6 +122,23 @@ struct Options {
 }
 
 impl Options {
+    /// Those of a command line without options.
+    fn new() -> Options {
+        Options {
+            help: false,
+            stdin: false,
+            check: false,
+            manner: Manner {
+                json: false,
+                one_version: false,
+                alias_scripts: false,
+                strict: false,
+            },
+            telling: None,
+            ended: false,
+        }
+    }
+
     /// Whether the word is an option, which is noted.
     ///
     /// The error: it begins as one, and is none.
@@ -125,12 +150,14 @@ impl Options {
             "--help" => self.help = true,
             "--stdin" => self.stdin = true,
             "--check" => self.check = true,
-            "--json" => self.json = true,
-            "--one-version" => self.one_version = true,
+            "--json" => self.manner.json = true,
+            "--one-version" => self.manner.one_version = true,
+            "--alias-scripts" => self.manner.alias_scripts = true,
+            "--strict" => self.manner.strict = true,
             "--host" => self.telling = Some(OptionWithValue::HostNames),
             "--kept" => self.telling = Some(OptionWithValue::KeptValues),
-            "--flatten" => self.telling = Some(OptionWithValue::Shown),
-            "--like" => self.telling = Some(OptionWithValue::Like),
+            "--flatten" => self.telling = Some(OptionWithValue::Records),
+            "--defaults" => self.telling = Some(OptionWithValue::Defaults),
             "--" => self.ended = true,
             _ => return Err(PortFault::Usage),
         }
@@ -154,73 +181,72 @@ impl Options {
         Ok(true)
     }
 
-    /// What is asked for, with these paths and this program.
-    fn job(self, like: Option<Program>, mut paths: Vec<String>) -> Result<PortTarget, PortFault> {
+    /// What is translated, with these paths.
+    fn target(
+        self,
+        alloc: Global,
+        has_defaults: bool,
+        mut paths: Vec<String>,
+    ) -> Result<PortTarget, PortFault> {
         if self.telling.is_some() {
             return Err(PortFault::Usage);
         }
         if self.help {
             return Ok(PortTarget::Help);
         }
-        let last = paths.pop();
-        let first = paths.pop();
-        if !paths.is_empty() {
-            return Err(PortFault::Usage);
-        }
-        let is_of_trees = self.one_version || like.is_some();
-        match (self.stdin, self.check, first, last) {
-            (true, false, None, None) if !is_of_trees => Ok(PortTarget::Stdin),
-            (false, false, None, Some(file)) if !is_of_trees => Ok(PortTarget::File(file)),
-            (false, true, None, Some(from)) => Ok(self.tree(like, from, None)),
-            (false, true, Some(from), Some(_to)) => Ok(self.tree(like, from, None)),
-            (false, false, Some(from), Some(to)) => Ok(self.tree(like, from, Some(to))),
+        let is_of_trees = self.manner.one_version || self.manner.alias_scripts || has_defaults;
+        match (self.stdin, self.check, paths.len()) {
+            (true, false, 0) if !is_of_trees => Ok(PortTarget::Stdin),
+            (false, false, 1) if !is_of_trees => match paths.pop() {
+                Some(path) => Ok(PortTarget::File(path)),
+                None => Err(PortFault::Usage),
+            },
+            (false, true, 1) => trees(alloc, paths, true),
+            (false, check, count) if count > 0 && count % 2 == 0 => trees(alloc, paths, check),
             _ => Err(PortFault::Usage),
         }
     }
+}
 
-    /// The files below a path.
-    fn tree(self, like: Option<Program>, from: String, to: Option<String>) -> PortTarget {
-        PortTarget::Tree(WalkedFiles {
-            from,
-            to,
-            one_version: self.one_version,
-            like,
-        })
+/// The trees of paths that are read and written in turn, or are only read.
+fn trees(alloc: Global, paths: Vec<String>, is_check: bool) -> Result<PortTarget, PortFault> {
+    let mut trees = Vec::new(alloc);
+    let mut before = None;
+    for path in paths {
+        match before {
+            None => before = Some(path),
+            Some(from) => {
+                let to = if is_check { None } else { Some(path) };
+                trees.push(TreePaths { from, to })?;
+                before = None;
+            }
+        }
     }
+    if let Some(from) = before {
+        trees.push(TreePaths { from, to: None })?;
+    }
+    Ok(PortTarget::Trees(trees))
 }
 
 /// What the words of a command line ask for.
 ///
 /// The errors: want of memory; they ask for nothing that the program does.
 pub(crate) fn asked_for(alloc: Global, words: Vec<String>) -> Result<PortArguments, PortFault> {
-    let mut options = Options {
-        help: false,
-        stdin: false,
-        check: false,
-        json: false,
-        one_version: false,
-        telling: None,
-        ended: false,
-    };
-    let mut said = ParsedArguments {
-        host: HostNames::new(alloc),
-        kept: KeptValues::new(),
-        shown: None,
-        like: None,
-    };
+    let mut options = Options::new();
+    let mut said = ParsedArguments::new(alloc);
     let mut paths = Vec::new(alloc);
     for word in words {
         if !options.tells(alloc, &mut said, word.as_str())? && !options.take(word.as_str())? {
             paths.push(word)?;
         }
     }
-    if said.shown.is_none() && !said.kept.is_empty() {
+    if said.records.is_none() && !said.kept.is_empty() {
         return Err(PortFault::Usage);
     }
-    let job = options.job(said.like, paths)?;
+    let target = options.target(alloc, said.defaults.is_some(), paths)?;
     Ok(PortArguments {
-        job,
-        json: options.json,
+        target,
+        manner: options.manner,
         said,
     })
 }

@@ -2,27 +2,18 @@
 
 use crate::fault::PortFault;
 use port_constants::KnownVariable;
-use std::alloc::{AllocError, Global};
+use std::alloc::Global;
 
 /// The names that `uname` of modulefile(5) has.
 const NAMES: [&str; 6] = [
     "sysname", "nodename", "domain", "release", "version", "machine",
 ];
 
-/// What `uname` says by one name.
-#[derive(Debug, Drop)]
-pub(crate) struct HostName {
-    /// The name.
-    name: String,
-    /// What it says.
-    value: String,
-}
-
 /// What is said of a host.
 #[derive(Debug, Drop)]
 pub(crate) struct HostNames {
     /// What is said by each name, each of which is there once.
-    said: Vec<HostName>,
+    pub said: Vec<KnownVariable>,
 }
 
 impl HostNames {
@@ -48,28 +39,10 @@ impl HostNames {
         if value.is_empty() || !NAMES.contains(&name) || self.has(name) {
             return Err(PortFault::Usage);
         }
-        self.said.push(HostName {
+        self.said.push(KnownVariable {
             name: String::from_str(alloc, name)?,
             value: String::from_str(alloc, value)?,
         })?;
         Ok(())
-    }
-
-    /// What is said, by each name; `node` is another one for `nodename`.
-    pub fn bindings(&self, alloc: Global) -> Result<Vec<KnownVariable<'_>>, AllocError> {
-        let mut bindings = Vec::new(alloc);
-        for said in &self.said {
-            if said.name.as_str() == "nodename" {
-                bindings.push(KnownVariable {
-                    name: b"node",
-                    value: Vec::from_slice(alloc, said.value.as_bytes())?,
-                })?;
-            }
-            bindings.push(KnownVariable {
-                name: said.name.as_bytes(),
-                value: Vec::from_slice(alloc, said.value.as_bytes())?,
-            })?;
-        }
-        Ok(bindings)
     }
 }

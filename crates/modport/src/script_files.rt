@@ -2,14 +2,14 @@
 
 use crate::fault::PortFault;
 use crate::texts::joined;
-use port_rewriting::aliases::ShellScript;
+use port_rewriting::ShellScript;
 use process::absolute_path;
 use std::alloc::Global;
 use std::env::VarError;
 use std::fs::OpenOptions;
 use std::io::{ErrorKind, Write};
 use std::os::unix::fs::{MetadataExt, OpenOptionsExt};
-use std::{env, fs, str};
+use std::{env, fs};
 
 /// The name of the directory that they are written below.
 const SCRIPTS: &str = "bin";
@@ -25,7 +25,7 @@ pub(crate) struct ScriptFile {
     /// Its path.
     pub path: String,
     /// Its text.
-    text: Vec<u8>,
+    text: String,
 }
 
 /// The directories that the scripts of a tree are below.
@@ -138,7 +138,7 @@ impl ScriptPlaces {
 
     /// Adds the scripts of the file of this name to those that are to be written, where they are.
     ///
-    /// The errors: want of memory; a name isn't UTF-8.
+    /// The error: want of memory.
     pub fn add(
         &self,
         alloc: Global,
@@ -151,11 +151,8 @@ impl ScriptPlaces {
         };
         for script in scripts {
             let folder = joined(alloc, to.as_str(), name)?;
-            let Ok(name) = str::from_utf8(script.name.as_slice()) else {
-                return Err(PortFault::NotUtf8);
-            };
             files.push(ScriptFile {
-                path: joined(alloc, folder.as_str(), name)?,
+                path: joined(alloc, folder.as_str(), script.name.as_str())?,
                 folder,
                 text: script.text,
             })?;
@@ -177,7 +174,7 @@ impl ScriptFile {
         let (Ok(()), Ok(mut file)) = (made, how.open(rt, path)) else {
             return Err(PortFault::Unwritable);
         };
-        if file.write_all(self.text.as_slice()).is_err() {
+        if file.write_all(self.text.as_bytes()).is_err() {
             let _ = fs::remove_file(rt, path);
             return Err(PortFault::Unwritable);
         }

@@ -8,7 +8,7 @@ use std::fs::Metadata;
 use std::io::{ErrorKind, Read, Write};
 
 /// The first bytes of each modulefile (modulefile(5)).
-const COOKIE: &[u8] = b"#%Module";
+const COOKIE: &str = "#%Module";
 
 /// The path of a name in a directory.
 pub(crate) fn joined(alloc: Global, dir: &str, name: &str) -> Result<String, AllocError> {
@@ -21,7 +21,7 @@ pub(crate) fn joined(alloc: Global, dir: &str, name: &str) -> Result<String, All
 /// The modulefile of these bytes, and how it was written; none where they don't begin as one.
 pub(crate) fn modulefile(alloc: Global, bytes: &[u8]) -> Result<Option<FileText>, PortFault> {
     let file = file_text(alloc, bytes)?;
-    if file.text.as_slice().starts_with(COOKIE) {
+    if file.text.starts_with(COOKIE) {
         Ok(Some(file))
     } else {
         Ok(None)
@@ -54,10 +54,10 @@ pub(crate) fn read(rt: &HostRuntime, path: &str) -> Result<Vec<u8>, PortFault> {
     }
 }
 
-/// The text that was shown, in the file at the path; none where it isn't UTF-8.
+/// The text of the file at the path; none where it isn't UTF-8.
 ///
 /// The errors: no file is there; it can't be read.
-pub(crate) fn shown_text(rt: &HostRuntime, path: &str) -> Result<Option<String>, PortFault> {
+pub(crate) fn text_at(rt: &HostRuntime, path: &str) -> Result<Option<String>, PortFault> {
     match String::from_utf8(read(rt, path)?) {
         Ok(text) => Ok(Some(text)),
         Err(_) => Ok(None),

@@ -1,12 +1,2 @@
-pub mod families
-pub mod aliases
-pub mod one_version
-pub mod Aliasing
-pub mod AliasingViews
-pub mod Notes
-pub mod OptionViews
-pub mod Options
-pub mod Places
-pub mod TranslationViews
-pub mod Translations
-pub mod Writing
+pub mod AccountViews
+pub mod Accounts

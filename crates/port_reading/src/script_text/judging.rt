@@ -5,13 +5,13 @@ ghost use Rattle.tcltext.specs.script.Text.{script_of};
 ghost use Rattle.port_reading.specs.script_text.ScriptTexts as spec;
 ghost use Rattle.port_reading.specs.script_text.ScriptTexts.{Parses};
 
-use crate::forms::judged;
+use crate::script_text::reading_faults::judged;
 use std::alloc::{AllocError, Global};
 use std::str;
 use tcltext::script::parse_script;
 
 /// Whether the text is a script.
-#[tactic(auto, using(crate::proofs::forms::Refused::refused))]
+#[tactic(auto, using(crate::proofs::script_text::Refused::refused))]
 fn is_read(alloc: Global, text: &str) -> Result<bool, AllocError>
     ensures { IfOk result (λ read. read ≡ is_ok (script_of text.now)) }
 {

@@ -1,0 +1,332 @@
+//! A modulefile translated, piece by piece: a script again.
+ghost use Rattle.std.specs.Prelude.{◌≡◌, [], ◌++◌, take, drop, IfOk, OnOk, string_bytes};
+ghost use Rattle.tcltext.specs.chars.Runs.{Text};
+ghost use Rattle.port_reading.specs.script_text.ScriptTexts.{Parses};
+ghost use Rattle.port_rewriting.specs.Accounts.{Accounts, written};
+ghost use Rattle.port_rewriting.specs.AccountViews.{pieces_view};
+
+use crate::aliases::ShellScript;
+use crate::class::{Class, Note, Outcome};
+use crate::names::is_plain;
+use crate::pieces::{PieceFindings, TranslatedPiece, written_piece};
+use crate::reader::{NamedFamily, Reader};
+use crate::scopes::Given;
+use crate::symbols::constant_words;
+use port_reading::script_text::script_text;
+use std::alloc::{AllocError, AllocFailed, Global};
+use std::error::Error;
+use std::fmt;
+use tcltext::chars::TextFault;
+use tcltext::script::{ByteRange, Command, Script, parse_pieces};
+
+/// What is written for a modulefile, and what is said of it.
+#[derive(Debug, Drop)]
+pub struct Translation {
+    /// What is written: a script.
+    pub text: String,
+    /// Its pieces, with the notes on them: what stands before the first command, and then a piece for each command.
+    pub pieces: Vec<TranslatedPiece>,
+    /// The scripts of its aliases.
+    pub scripts: Vec<ShellScript>,
+    /// The families that it names.
+    pub families: Vec<NamedFamily>,
+    /// The class of the worst of its commands.
+    pub class: Class,
+}
+
+/// Why a modulefile isn't translated.
+#[derive(Debug, Drop)]
+pub enum TranslationFault {
+    /// It is no script, or memory ran out.
+    Given(TextFault),
+    /// What would be written is no script.
+    Written,
+}
+
+impl fmt::Display for TranslationFault {
+    fn fmt<W: fmt::Write>(&self, f: &mut fmt::Formatter<W>) -> fmt::Result {
+        match self {
+            TranslationFault::Given(fault) => fault.fmt(f),
+            TranslationFault::Written => f.write_str("No script would be written"),
+        }
+    }
+}
+
+impl Error for TranslationFault {}
+
+impl From<AllocError> for TranslationFault {
+    fn from(_refused: AllocError) -> TranslationFault {
+        TranslationFault::Given(TextFault::OutOfMemory)
+    }
+}
+
+impl<T: Drop> From<AllocFailed<T>> for TranslationFault {
+    fn from(_refused: AllocFailed<T>) -> TranslationFault {
+        TranslationFault::Given(TextFault::OutOfMemory)
+    }
+}
+
+/// How many lines end in a part of a text.
+fn lines_in(text: &[u8]) -> usize {
+    text.iter().filter(|byte| **byte == b'\n').count()
+}
+
+/// The first bytes, as many as that or all, and the others.
+fn split_within(text: &[u8], length: usize) -> (&[u8], &[u8])
+    ensures first { result.0.now ≡ take length text.now }
+    ensures others { result.1.now ≡ drop length text.now }
+{
+    if length < text.len() {
+        text.split_at(length)
+    } else {
+        (text, &[])
+    }
+}
+
+/// Whether a command is a conflict with a name.
+fn conflicts(
+    alloc: Global,
+    text: &str,
+    command: &Command<ByteRange>,
+    name: &str,
+) -> Result<bool, AllocError> {
+    match constant_words(alloc, text, command)?.as_slice() {
+        ["conflict", names @ ..] => Ok(names.iter().any(|other| *other == name)),
+        _ => Ok(false),
+    }
+}
+
+/// Where the command of this number begins, or the end of the text behind the last.
+fn start_of(text: &str, commands: &[Command<ByteRange>], number: usize) -> usize {
+    match commands.get(number) {
+        Some(command) => command.offset,
+        None => text.len(),
+    }
+}
+
+/// What was found in the commands of a file.
+#[derive(Drop)]
+struct Findings {
+    /// What was found in each.
+    found: Vec<PieceFindings>,
+    /// Whether the file is in conflict with its own name in each load.
+    has_conflict: bool,
+}
+
+impl Reader<'_> {
+    /// Reads commands of the file.
+    fn read_all(&mut self, commands: &[Command<ByteRange>]) -> Result<Findings, AllocError> {
+        let mut findings = Findings {
+            found: Vec::new(self.alloc),
+            has_conflict: false,
+        };
+        for command in commands {
+            let is_reached = self.is_straight;
+            let name = self.given.one_version.unwrap_or("");
+            let is_conflict = conflicts(self.alloc, self.text, command, name)?;
+            findings.has_conflict = findings.has_conflict || is_reached && is_conflict;
+            findings.found.push(self.read(command)?)?;
+        }
+        Ok(findings)
+    }
+}
+
+/// The pieces of a file so far.
+#[derive(Drop)]
+struct PiecesSoFar<'f> {
+    /// The pieces.
+    pieces: Vec<TranslatedPiece>,
+    /// What is still to be written.
+    rest: &'f [u8],
+    /// The line where that begins.
+    line: usize,
+}
+
+impl<'f> PiecesSoFar<'f> {
+    /// What stands before the first command.
+    #[tactic(auto, using(crate::proofs::Accounting::begun))]
+    fn new(alloc: Global, text: &'f str, first: usize) -> Result<PiecesSoFar<'f>, AllocError>
+        ensures { IfOk result (λ s. Accounts text.entry.now (pieces_view s.pieces.items) s.rest.now) }
+    {
+        let (before, rest) = split_within(text.as_bytes(), first);
+        let mut pieces = Vec::new(alloc);
+        pieces.push(TranslatedPiece {
+            text: Vec::from_slice(alloc, before)?,
+            notes: Vec::new(alloc),
+        })?;
+        Ok(PiecesSoFar {
+            pieces,
+            rest,
+            line: lines_in(before).saturating_add(1),
+        })
+    }
+
+    /// Adds a conflict with a name, on a line of its own.
+    #[tactic(auto, using(crate::proofs::Accounting::put_between))]
+    fn add_conflict(&mut self, alloc: Global, name: &str) -> Result<(), AllocError>
+        ensures { OnOk result ((text : Text) → Accounts text (pieces_view self.old.pieces.items) self.old.rest.now
+            → Accounts text (pieces_view self.new.pieces.items) self.new.rest.now) }
+    {
+        let what = format!(in alloc; "conflict {name}")?;
+        let mut text = Vec::from_slice(alloc, what.as_bytes())?;
+        text.push(b'\n')?;
+        let mut notes = Vec::new(alloc);
+        notes.push(Note {
+            line: None,
+            what,
+            outcome: Outcome::Added,
+        })?;
+        self.pieces.push(TranslatedPiece { text, notes })?;
+        Ok(())
+    }
+
+    /// Adds the piece of a command of a file in which this was found, and which ends there.
+    #[tactic(auto, using(crate::proofs::Accounting::cut))]
+    fn add(
+        &mut self,
+        alloc: Global,
+        text: &str,
+        start: usize,
+        end: usize,
+        found: PieceFindings,
+    ) -> Result<(), AllocError>
+        ensures { OnOk result ((file : Text) → Accounts file (pieces_view self.old.pieces.items) self.old.rest.now
+            → Accounts file (pieces_view self.new.pieces.items) self.new.rest.now) }
+    {
+        let place = ByteRange { start, end };
+        let (was, rest) = split_within(self.rest, end.saturating_sub(start));
+        let piece = written_piece(alloc, text, was, place, self.line, found)?;
+        self.pieces.push(piece)?;
+        self.line = self.line.saturating_add(lines_in(was));
+        self.rest = rest;
+        Ok(())
+    }
+
+    /// The pieces, with what is still to be written.
+    #[tactic(auto, using(crate::proofs::Accounting::ended))]
+    fn end(self, alloc: Global) -> Result<Vec<TranslatedPiece>, AllocError>
+        ensures { IfOk result (λ pieces. (text : Text) → Accounts text (pieces_view self.entry.pieces.items) self.entry.rest.now
+            → Accounts text (pieces_view pieces.items) []) }
+    {
+        let PiecesSoFar {
+            mut pieces,
+            rest,
+            ..
+        } = self;
+        pieces.push(TranslatedPiece {
+            text: Vec::from_slice(alloc, rest)?,
+            notes: Vec::new(alloc),
+        })?;
+        Ok(pieces)
+    }
+}
+
+/// The pieces of a file of these commands, in which this was found; with a conflict with a name, where one is to be
+/// added.
+fn pieces_of(
+    alloc: Global,
+    text: &str,
+    commands: &[Command<ByteRange>],
+    found: Vec<PieceFindings>,
+    added: Option<&str>,
+) -> Result<Vec<TranslatedPiece>, AllocError>
+    ensures { IfOk result (λ pieces. Accounts text.now (pieces_view pieces.items) []) }
+{
+    let mut so_far = PiecesSoFar::new(alloc, text, start_of(text, commands, 0))?;
+    if let Some(name) = added {
+        so_far.add_conflict(alloc, name)?;
+    }
+    let mut number = 0usize;
+    'pieces: for it in found {
+        let start = start_of(text, commands, number);
+        number = number.saturating_add(1);
+        so_far.add(alloc, text, start, start_of(text, commands, number), it)?;
+    }
+    so_far.end(alloc)
+}
+
+/// The class of the worst of some pieces.
+fn class_of(pieces: &[TranslatedPiece]) -> Class {
+    let mut class = Class::Same;
+    for piece in pieces {
+        for note in &piece.notes {
+            class = class.and(note.outcome.class());
+        }
+    }
+    class
+}
+
+/// The text of pieces.
+fn text_of(alloc: Global, pieces: &[TranslatedPiece]) -> Result<Vec<u8>, AllocError>
+    ensures { IfOk result (λ text. text.items ≡ written (pieces_view pieces.now)) }
+{
+    let mut text = Vec::new(alloc);
+    for piece in pieces {
+        text.extend_from_slice(piece.text.as_slice())?;
+    }
+    Ok(text)
+}
+
+/// The name that a file is to be in conflict with, where it isn't yet.
+fn added_conflict<'g>(name: Option<&'g str>, findings: &Findings) -> Option<&'g str> {
+    match name {
+        Some(name) if !findings.has_conflict && is_plain(name) && !findings.found.is_empty() => {
+            Some(name)
+        }
+        _ => None,
+    }
+}
+
+/// What is written for a file of this script.
+fn translated(
+    alloc: Global,
+    given: Given,
+    text: &str,
+    script: &Script<ByteRange>,
+) -> Result<Translation, TranslationFault>
+    ensures accounts { IfOk result (λ t. Accounts text.now (pieces_view t.pieces.items) []) }
+    ensures joined { IfOk result (λ t. string_bytes t.text ≡ written (pieces_view t.pieces.items)) }
+    ensures parses { IfOk result (λ t. Parses (string_bytes t.text)) }
+{
+    let mut reader = Reader::new(alloc, given, text);
+    reader.find_procedures(script)?;
+    let commands = script.commands.as_slice();
+    let findings = reader.read_all(commands)?;
+    let added = added_conflict(given.one_version, &findings);
+    let pieces = pieces_of(alloc, text, commands, findings.found, added)?;
+    let bytes = text_of(alloc, pieces.as_slice())?;
+    let Some(written) = script_text(alloc, bytes)? else {
+        return Err(TranslationFault::Written);
+    };
+    let Reader {
+        scripts,
+        families,
+        ..
+    } = reader;
+    Ok(Translation {
+        text: written,
+        class: class_of(pieces.as_slice()),
+        pieces,
+        scripts,
+        families,
+    })
+}
+
+/// What is written for a file, by what is known of it.
+///
+/// The errors: it is no script, or what would be written is none; want of memory.
+pub fn translate(alloc: Global, given: Given, text: &str) -> Result<Translation, TranslationFault>
+    // The file is cut into parts, and one on which there is no note is written as it is.
+    ensures accounts { IfOk result (λ t. Accounts text.now (pieces_view t.pieces.items) []) }
+
+    // What is written are the pieces, one behind the other.
+    ensures joined { IfOk result (λ t. string_bytes t.text ≡ written (pieces_view t.pieces.items)) }
+
+    // It is a script again.
+    ensures parses { IfOk result (λ t. Parses (string_bytes t.text)) }
+{
+    match parse_pieces(alloc, &text) {
+        Ok(script) => translated(alloc, given, text, &script),
+        Err(fault) => Err(TranslationFault::Given(fault)),
+    }
+}
