@@ -1,8 +1,7 @@
 //! What the words of a command line ask for.
 
 use crate::fault::PortFault;
-use crate::host_names::HostNames;
-use crate::kept_values::KeptValues;
+use crate::named_values::{Named, NamedValues};
 use std::alloc::Global;
 
 /// What is translated, and where it is written.
@@ -55,44 +54,13 @@ pub(crate) struct Manner {
 #[derive(Debug, Drop)]
 pub(crate) struct ParsedArguments {
     /// Of the host that the modulefiles are for.
-    pub host: HostNames,
-    /// Of whose environment modulefiles were loaded in.
-    pub kept: KeptValues,
+    pub host: NamedValues,
+    /// Of the person in whose environment modulefiles were loaded.
+    pub kept: NamedValues,
     /// The path of what was loaded.
     pub records: Option<String>,
     /// The path of a list of defaults.
     pub defaults: Option<String>,
-}
-
-impl ParsedArguments {
-    /// One in which nothing is said.
-    fn new(alloc: Global) -> ParsedArguments {
-        ParsedArguments {
-            host: HostNames::new(alloc),
-            kept: KeptValues::new(),
-            records: None,
-            defaults: None,
-        }
-    }
-
-    /// Adds what a word says behind an option.
-    ///
-    /// The errors: want of memory; it says nothing, or what is said already.
-    fn add(&mut self, alloc: Global, option: OptionWithValue, word: &str) -> Result<(), PortFault> {
-        match option {
-            OptionWithValue::HostNames => self.host.add(alloc, word),
-            OptionWithValue::KeptValues => self.kept.add(alloc, word),
-            OptionWithValue::Records if self.records.is_none() => {
-                self.records = Some(String::from_str(alloc, word)?);
-                Ok(())
-            }
-            OptionWithValue::Defaults if self.defaults.is_none() => {
-                self.defaults = Some(String::from_str(alloc, word)?);
-                Ok(())
-            }
-            OptionWithValue::Records | OptionWithValue::Defaults => Err(PortFault::Usage),
-        }
-    }
 }
 
 /// An option behind which a word says something.
@@ -106,6 +74,31 @@ enum OptionWithValue {
     Records,
     /// `--defaults`
     Defaults,
+}
+
+/// Sets a path that isn't there yet.
+///
+/// The errors: want of memory; one is there.
+fn set_once(alloc: Global, path: &mut Option<String>, word: &str) -> Result<(), PortFault> {
+    if path.is_some() {
+        return Err(PortFault::Usage);
+    }
+    *path = Some(String::from_str(alloc, word)?);
+    Ok(())
+}
+
+impl ParsedArguments {
+    /// Adds what a word says behind an option.
+    ///
+    /// The errors: want of memory; it says nothing, or what is said already.
+    fn add(&mut self, alloc: Global, option: OptionWithValue, word: &str) -> Result<(), PortFault> {
+        match option {
+            OptionWithValue::HostNames => self.host.add(alloc, Named::Host, word),
+            OptionWithValue::KeptValues => self.kept.add(alloc, Named::Person, word),
+            OptionWithValue::Records => set_once(alloc, &mut self.records, word),
+            OptionWithValue::Defaults => set_once(alloc, &mut self.defaults, word),
+        }
+    }
 }
 
 /// Which options stand before the paths.
@@ -122,23 +115,6 @@ struct Options {
 }
 
 impl Options {
-    /// Those of a command line without options.
-    fn new() -> Options {
-        Options {
-            help: false,
-            stdin: false,
-            check: false,
-            manner: Manner {
-                json: false,
-                one_version: false,
-                alias_scripts: false,
-                strict: false,
-            },
-            telling: None,
-            ended: false,
-        }
-    }
-
     /// Whether the word is an option, which is noted.
     ///
     /// The error: it begins as one, and is none.
@@ -161,23 +137,6 @@ impl Options {
             "--" => self.ended = true,
             _ => return Err(PortFault::Usage),
         }
-        Ok(true)
-    }
-
-    /// Whether the word is one that says something behind an option, which is added.
-    ///
-    /// The errors: want of memory; it says nothing.
-    fn tells(
-        &mut self,
-        alloc: Global,
-        said: &mut ParsedArguments,
-        word: &str,
-    ) -> Result<bool, PortFault> {
-        let Some(option) = self.telling else {
-            return Ok(false);
-        };
-        self.telling = None;
-        said.add(alloc, option, word)?;
         Ok(true)
     }
 
@@ -232,15 +191,34 @@ fn trees(alloc: Global, paths: Vec<String>, is_check: bool) -> Result<PortTarget
 ///
 /// The errors: want of memory; they ask for nothing that the program does.
 pub(crate) fn asked_for(alloc: Global, words: Vec<String>) -> Result<PortArguments, PortFault> {
-    let mut options = Options::new();
-    let mut said = ParsedArguments::new(alloc);
+    let mut options = Options {
+        help: false,
+        stdin: false,
+        check: false,
+        manner: Manner {
+            json: false,
+            one_version: false,
+            alias_scripts: false,
+            strict: false,
+        },
+        telling: None,
+        ended: false,
+    };
+    let mut said = ParsedArguments {
+        host: NamedValues::new(alloc),
+        kept: NamedValues::new(alloc),
+        records: None,
+        defaults: None,
+    };
     let mut paths = Vec::new(alloc);
     for word in words {
-        if !options.tells(alloc, &mut said, word.as_str())? && !options.take(word.as_str())? {
+        if let Some(option) = options.telling.take() {
+            said.add(alloc, option, word.as_str())?;
+        } else if !options.take(word.as_str())? {
             paths.push(word)?;
         }
     }
-    if said.records.is_none() && !said.kept.is_empty() {
+    if said.records.is_none() && !said.kept.said.is_empty() {
         return Err(PortFault::Usage);
     }
     let target = options.target(alloc, said.defaults.is_some(), paths)?;

@@ -2,6 +2,7 @@
 
 use crate::fault::PortFault;
 use crate::texts::{joined, read, text_at, write_new};
+use crate::tree::folder_of;
 use filetree::DiskTree;
 use lookup::locate;
 use port_reading::file_text::file_text;
@@ -52,14 +53,6 @@ fn module_of(line: &str) -> &str {
     }
 }
 
-/// The folder of a module.
-fn folder_of(module: &str) -> &str {
-    match module.rsplit_once('/') {
-        Some((folder, _)) => folder,
-        None => "",
-    }
-}
-
 impl NamedDefaults {
     /// Those of the list at a path: a module a line, with its version. Lines that end in a colon name directories.
     ///
@@ -81,14 +74,10 @@ impl NamedDefaults {
 
     /// The default of the folder of a name.
     fn of(&self, name: &str) -> Option<&str> {
-        match self
-            .modules
+        self.modules
             .iter()
             .find(|module| folder_of(module.as_str()) == name)
-        {
-            Some(module) => Some(module.as_str()),
-            None => None,
-        }
+            .map(|module| module.as_str())
     }
 }
 

@@ -8,28 +8,19 @@ use std::alloc::{AllocError, Global};
 use tcltext::script::{ByteRange, Script, parse_pieces};
 
 /// The words of a file that ask for what another load may answer otherwise.
-const ASKING_WORDS: [&str; 10] = [
-    "is-loaded",
-    "is-avail",
-    "module-info",
-    "getenv",
-    "env",
-    "USER",
-    "whoami",
-    "id",
-    "tcl_platform",
-    "info",
-];
+const ASKING_WORDS: &str =
+    "is-loaded is-avail module-info getenv env USER whoami id tcl_platform info";
 
-/// A piece for which nothing is written, with a note on the whole file.
+/// A piece for which nothing is written, with a note on a line of the file, or on the whole of it.
 fn said_alone(
     alloc: Global,
+    line: Option<usize>,
     what: String,
     outcome: Outcome,
 ) -> Result<TranslatedPiece, AllocError> {
     let mut notes = Vec::new(alloc);
     notes.push(Note {
-        line: None,
+        line,
         what,
         outcome,
     })?;
@@ -41,11 +32,8 @@ fn said_alone(
 
 /// A note that a file isn't written so, by the reason.
 fn unserving(alloc: Global, why: &str) -> Result<TranslatedPiece, AllocError> {
-    said_alone(
-        alloc,
-        format!(in alloc; "not flattened, as {why}")?,
-        Outcome::Left,
-    )
+    let what = format!(in alloc; "not flattened, as {why}")?;
+    said_alone(alloc, None, what, Outcome::Left)
 }
 
 /// How many lines end in a text before a place.
@@ -71,11 +59,7 @@ fn push_commands(
     for command in &script.commands {
         let line = lines_before(text, command.offset).saturating_add(1);
         let what = String::from_str(alloc, first_line(text, command.offset))?;
-        let mut piece = said_alone(alloc, what, Outcome::Flattened)?;
-        for note in &mut piece.notes {
-            note.line = Some(line);
-        }
-        pieces.push(piece)?;
+        pieces.push(said_alone(alloc, Some(line), what, Outcome::Flattened)?)?;
     }
     Ok(())
 }
@@ -98,11 +82,11 @@ fn push_changes(
     pieces: &mut Vec<TranslatedPiece>,
     text: &str,
 ) -> Result<(), AllocError> {
-    for word in ASKING_WORDS {
+    for word in ASKING_WORDS.split(' ') {
         if has_word(text, word) {
             let case = String::from_str(alloc, "what it answered in one load is written for good")?;
             let what = String::from_str(alloc, word)?;
-            pieces.push(said_alone(alloc, what, Outcome::Changed(case))?)?;
+            pieces.push(said_alone(alloc, None, what, Outcome::Changed(case))?)?;
         }
     }
     Ok(())
@@ -122,9 +106,7 @@ fn with_pieces(
     mut pieces: Vec<TranslatedPiece>,
 ) -> Result<Translation, AllocError> {
     for piece in &pieces {
-        for note in &piece.notes {
-            translation.class = translation.class.and(note.outcome.class());
-        }
+        translation.class = translation.class.with(piece.notes.as_slice());
     }
     for piece in &mut translation.pieces {
         for note in &mut piece.notes {
@@ -154,8 +136,7 @@ fn flattened_by(
         [] => text.len(),
     };
     let head = ByteRange { start: 0, end };
-    let mut flat = String::from_str(alloc, head.of(text))?;
-    written_records(alloc, &mut flat, person, records)?;
+    let flat = written_records(alloc, head.of(text), person, records)?;
     let translation = translate(alloc, given, flat.as_str())?;
     if translation.class == Class::Left {
         return Ok(Err(unserving(alloc, "a command of it isn't read even then")?));

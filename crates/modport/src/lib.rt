@@ -7,14 +7,14 @@ mod arguments;
 mod defaults;
 mod fault;
 mod flattening;
-mod host_names;
-mod kept_values;
+mod named_values;
 mod porting;
 mod reporting;
 mod script_files;
 mod site;
 mod status;
 mod texts;
+mod tree;
 mod walk;
 
 use arguments::{Manner, ParsedArguments, PortArguments, PortTarget, asked_for};
@@ -41,14 +41,9 @@ fn print(
 ) -> Result<Status, PortFault> {
     let file = file_text(rt.alloc(), bytes)?;
     let given = Given {
-        kind: FileKind::Modulefile,
-        site: None,
-        file: None,
         host,
-        scripts_folder: None,
-        one_version: None,
-        has_defaults: false,
         is_strict: manner.strict,
+        ..Given::of_kind(FileKind::Modulefile)
     };
     let TranslatedFile {
         text,

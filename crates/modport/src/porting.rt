@@ -33,65 +33,30 @@ pub struct TranslatedFile {
     pub scripts: Vec<ShellScript>,
 }
 
-/// Adds a note on how a file was written, where it was so.
-fn push_source(
-    alloc: Global,
-    notes: &mut Vec<Note>,
-    is: bool,
-    what: &str,
-    outcome: Outcome,
-) -> Result<(), AllocError> {
-    if is {
-        notes.push(Note {
-            line: Some(1),
-            what: String::from_str(alloc, what)?,
-            outcome,
-        })?;
-    }
-    Ok(())
-}
-
 /// The notes on how a file was written.
 fn notes_on(alloc: Global, source: SourceEncoding) -> Result<Vec<Note>, AllocError> {
+    let seen = [
+        (source.mark, "byte order mark"),
+        (source.latin, "Latin-1"),
+        (source.returns, "CR LF"),
+        (source.lone_returns, "carriage return"),
+    ];
     let mut notes = Vec::new(alloc);
-    push_source(
-        alloc,
-        &mut notes,
-        source.mark,
-        "byte order mark",
-        Outcome::Translated,
-    )?;
-    push_source(
-        alloc,
-        &mut notes,
-        source.latin,
-        "Latin-1",
-        Outcome::Translated,
-    )?;
-    push_source(
-        alloc,
-        &mut notes,
-        source.returns,
-        "CR LF",
-        Outcome::Translated,
-    )?;
-    push_source(
-        alloc,
-        &mut notes,
-        source.lone_returns,
-        "carriage return",
-        Outcome::Left,
-    )?;
-    Ok(notes)
-}
-
-/// The class of a file by how it was written.
-fn class_of(source: SourceEncoding) -> Class {
-    if source.lone_returns {
-        Class::Left
-    } else {
-        Class::Same
+    for (is_so, what) in seen {
+        if is_so {
+            let is_left = what == "carriage return";
+            notes.push(Note {
+                line: Some(1),
+                what: String::from_str(alloc, what)?,
+                outcome: if is_left {
+                    Outcome::Left
+                } else {
+                    Outcome::Translated
+                },
+            })?;
+        }
     }
+    Ok(notes)
 }
 
 /// The translation of a modulefile, or what a load of it has done, where something of it is left, that is known, and
@@ -133,18 +98,13 @@ pub fn port_file(
     let notes = notes_on(alloc, file.source)?;
     push_report(alloc, &mut report, sources.json, path, notes.as_slice())?;
     for piece in &pieces {
-        push_report(
-            alloc,
-            &mut report,
-            sources.json,
-            path,
-            piece.notes.as_slice(),
-        )?;
+        let notes = piece.notes.as_slice();
+        push_report(alloc, &mut report, sources.json, path, notes)?;
     }
     Ok(TranslatedFile {
         text,
         report,
-        status: Status::of(class.and(class_of(file.source))),
+        status: Status::of(class.with(notes.as_slice())),
         scripts,
     })
 }

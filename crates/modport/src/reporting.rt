@@ -179,8 +179,6 @@ fn push_line(
 }
 
 /// Adds the report of these lines on the file of this path, where each line is JSON or is for people.
-///
-/// The error: want of memory.
 pub(crate) fn push_report(
     alloc: Global,
     report: &mut Vec<u8>,
@@ -198,8 +196,6 @@ pub(crate) fn push_report(
 }
 
 /// A line on the whole of what is at this path.
-///
-/// The error: want of memory.
 pub(crate) fn line_on(
     alloc: Global,
     json: bool,

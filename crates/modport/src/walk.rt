@@ -6,33 +6,17 @@ use crate::fault::PortFault;
 use crate::porting::{Sources, port_file};
 use crate::reporting::{fault_line, line_on};
 use crate::script_files::{ScriptFile, ScriptPlaces};
-use crate::site::{add_tree, is_default_file};
+use crate::site::{add_tree, is_default_file, last_part};
 use crate::status::Status;
-use crate::texts::{joined, kind_of, modulefile, read, text_at, write_new};
-use filetree::{DiskTree, Tree};
+use crate::texts::{absolute, joined, modulefile, read, text_at, write_new};
+use crate::tree::{TreeEntry, entries_below, folder_of, names_in};
 use port_constants::KnownFile;
 use port_rewriting::{FileKind, Given, Outcome, Site};
-use process::absolute_path;
-use std::alloc::{AllocError, Global};
 use std::fs::{Metadata, Permissions};
 use std::io::Write;
 use std::os::unix::fs::symlink;
 use std::path::Path;
-use std::{env, fs, mem};
-
-/// The most directories that are walked.
-pub(crate) const MOST_DIRECTORIES: usize = 1_000_000;
-
-/// A directory that is still to be walked.
-#[derive(Debug, Drop)]
-struct Folder {
-    /// Its path.
-    from: String,
-    /// The path that it is written to.
-    to: Option<String>,
-    /// The name of its modules, which is empty at the top.
-    name: String,
-}
+use std::{fs, mem};
 
 /// A file that is translated.
 #[derive(Clone, Copy)]
@@ -43,8 +27,6 @@ struct FileAt<'p> {
     to: Option<&'p str>,
     /// Its name below the tree.
     below: &'p str,
-    /// The name of the modules of its folder, which is empty at the top.
-    folder: &'p str,
 }
 
 /// A walk over the files below a directory.
@@ -67,46 +49,16 @@ struct Walk<'r> {
     scripts: Vec<ScriptFile>,
     /// How far what was read so far is translated.
     status: Status,
-    /// The directories that are still to be walked.
-    folders: Vec<Folder>,
     /// The names of the folders that were walked.
     names: Vec<String>,
     /// The directories that were made, with the permissions that they get in the end.
     made: Vec<(String, Permissions)>,
 }
 
-/// The names in a directory, in their order.
-pub(crate) fn names_in(rt: &HostRuntime, path: &str) -> Result<Vec<String>, PortFault> {
-    let Ok(disk) = rt.clone() else {
-        return Err(PortFault::OutOfMemory);
-    };
-    let Some(mut names) = DiskTree::new(disk).entries(path)? else {
-        return Err(PortFault::NoDirectory);
-    };
-    names.sort()?;
-    Ok(names)
-}
-
 /// Whether a link of this target still leads to the same place of the tree that is written: it is relative, and leads
 /// to nothing above its directory.
 fn stays(target: &str) -> bool {
     !target.starts_with('/') && target.split('/').all(|part| part != "..")
-}
-
-/// The same path once more, where there is one.
-fn copy_of(path: &Option<String>) -> Result<Option<String>, AllocError> {
-    match path {
-        Some(path) => Ok(Some(path.clone()?)),
-        None => Ok(None),
-    }
-}
-
-/// The name of the modules of a directory of this name, in one with modules of that name.
-pub(crate) fn name_below(alloc: Global, above: &str, name: &str) -> Result<String, AllocError> {
-    if above.is_empty() {
-        return String::from_str(alloc, name);
-    }
-    joined(alloc, above, name)
 }
 
 /// Whether a path leads into the directory that is read: the first one that is there of it and of those above it does.
@@ -143,19 +95,6 @@ fn begin(rt: &HostRuntime, from: &str, to: &str) -> Result<(), PortFault> {
         Err(PortFault::Inside)
     } else {
         Ok(())
-    }
-}
-
-/// The absolute path of a directory, or it where the system says no working directory.
-fn absolute(rt: &HostRuntime, path: &str) -> Result<String, PortFault> {
-    let alloc = rt.alloc();
-    let working = match env::current_dir(rt) {
-        Ok(place) => Some(place.into_string()),
-        Err(_) => None,
-    };
-    match absolute_path(alloc, working.as_deref(), path)? {
-        Some(path) => Ok(path),
-        None => Ok(String::from_str(alloc, path)?),
     }
 }
 
@@ -249,13 +188,10 @@ impl<'r> Walk<'r> {
         path: &'g str,
         scripts_folder: Option<&'g str>,
     ) -> Given<'g> {
-        let name = match at.below.rsplit_once('/') {
-            Some((_, name)) => name,
-            None => at.below,
-        };
-        let is_own = self.manner.one_version && !at.folder.is_empty() && !name.starts_with('.');
+        let folder = folder_of(at.below);
+        let is_module = !folder.is_empty() && !last_part(at.below).starts_with('.');
         Given {
-            kind: if is_default_file(name) {
+            kind: if is_default_file(at.below) {
                 FileKind::Defaults
             } else {
                 FileKind::Modulefile
@@ -267,7 +203,11 @@ impl<'r> Walk<'r> {
             }),
             host: self.said.host.said.as_slice(),
             scripts_folder,
-            one_version: if is_own { Some(at.folder) } else { None },
+            one_version: if self.manner.one_version && is_module {
+                Some(folder)
+            } else {
+                None
+            },
             has_defaults: self.defaults.is_some(),
             is_strict: self.manner.strict,
         }
@@ -305,46 +245,41 @@ impl<'r> Walk<'r> {
         }
     }
 
-    /// Makes a directory, whose files are still to be translated.
-    fn folder(
-        &mut self,
-        from: String,
-        to: Option<String>,
-        found: &Metadata,
-        name: String,
-    ) -> Result<(), PortFault> {
-        if let Some(to) = &to {
-            if fs::create_dir(self.rt, to.as_str()).is_err() {
+    /// Makes a directory.
+    fn folder(&mut self, at: FileAt, found: &Metadata) -> Result<(), PortFault> {
+        let alloc = self.rt.alloc();
+        if let Some(to) = at.to {
+            if fs::create_dir(self.rt, to).is_err() {
                 return Err(PortFault::Unwritable);
             }
-            self.made.push((to.clone()?, found.permissions()))?;
+            let made = (String::from_str(alloc, to)?, found.permissions());
+            self.made.push(made)?;
         }
-        self.names.push(name.clone()?)?;
-        self.folders.push(Folder { from, to, name })?;
+        self.names.push(String::from_str(alloc, at.below)?)?;
         Ok(())
     }
 
-    /// Does what is to be done for a path of this name in a directory, by what is there.
+    /// Does what is to be done for what is at a path below a tree.
     fn entry(
         &mut self,
-        from: String,
-        to: Option<String>,
-        folder: &Folder,
-        name: &str,
+        tree: &TreePaths,
+        path: &str,
+        below: &str,
+        found: &Metadata,
     ) -> Result<(), PortFault> {
-        let found = kind_of(self.rt, from.as_str())?;
-        let below = name_below(self.rt.alloc(), folder.name.as_str(), name)?;
-        if found.is_dir() {
-            return self.folder(from, to, &found, below);
-        }
-        let at = FileAt {
-            from: from.as_str(),
-            to: to.as_deref(),
-            below: below.as_str(),
-            folder: folder.name.as_str(),
+        let to = match &tree.to {
+            Some(to) => Some(joined(self.rt.alloc(), to.as_str(), below)?),
+            None => None,
         };
-        if found.is_file() {
-            self.file(at, &found)
+        let at = FileAt {
+            from: path,
+            to: to.as_deref(),
+            below,
+        };
+        if found.is_dir() {
+            self.folder(at, found)
+        } else if found.is_file() {
+            self.file(at, found)
         } else if found.is_symlink() {
             self.link(at)
         } else {
@@ -352,35 +287,23 @@ impl<'r> Walk<'r> {
         }
     }
 
-    /// Does what is to be done for a name in a directory.
-    fn name(&mut self, folder: &Folder, name: &str) -> Result<(), PortFault> {
-        let alloc = self.rt.alloc();
-        let from = joined(alloc, folder.from.as_str(), name)?;
-        let path = from.clone()?;
-        let to = match &folder.to {
-            Some(to) => Some(joined(alloc, to.as_str(), name)?),
-            None => None,
-        };
-        let done = self.entry(from, to, folder, name);
-        self.go_on(path.as_str(), done)
-    }
-
-    /// Does what is to be done for the names in a directory.
-    fn names_of(&mut self, folder: &Folder) -> Result<(), PortFault> {
-        for name in names_in(self.rt, folder.from.as_str())? {
-            self.name(folder, name.as_str())?;
-        }
-        Ok(())
-    }
-
-    /// Walks the directories that are left, and those below them.
-    fn go(&mut self) -> Result<(), PortFault> {
-        for _ in 0..MOST_DIRECTORIES {
-            let Some(folder) = self.folders.pop() else {
-                break;
-            };
-            let done = self.names_of(&folder);
-            self.go_on(folder.from.as_str(), done)?;
+    /// Walks what is below a tree.
+    fn go(&mut self, tree: &TreePaths, entries: Vec<TreeEntry>) -> Result<(), PortFault> {
+        for entry in entries {
+            let TreeEntry {
+                path,
+                below,
+                found,
+                is_linked,
+                ..
+            } = entry;
+            if !is_linked {
+                let done = match found {
+                    Ok(found) => self.entry(tree, path.as_str(), below.as_str(), &found),
+                    Err(fault) => Err(fault),
+                };
+                self.go_on(path.as_str(), done)?;
+            }
         }
         Ok(())
     }
@@ -453,6 +376,7 @@ fn walk_tree(
     site: &Site,
     defaults: Option<&NamedDefaults>,
     tree: &TreePaths,
+    entries: Vec<TreeEntry>,
 ) -> Result<Status, PortFault> {
     let mut walk = Walk {
         rt,
@@ -460,20 +384,17 @@ fn walk_tree(
         said,
         site,
         defaults,
-        top: absolute(rt, tree.from.as_str())?,
+        top: match absolute(rt, tree.from.as_str())? {
+            Some(path) => path,
+            None => tree.from.clone()?,
+        },
         script_places: ScriptPlaces::new(rt, tree.from.as_str(), tree.to.as_deref())?,
         scripts: Vec::new(rt.alloc()),
         status: Status::Within,
-        folders: Vec::new(rt.alloc()),
         names: Vec::new(rt.alloc()),
         made: Vec::new(rt.alloc()),
     };
-    walk.folders.push(Folder {
-        from: tree.from.clone()?,
-        to: copy_of(&tree.to)?,
-        name: String::new(rt.alloc()),
-    })?;
-    walk.go()?;
+    walk.go(tree, entries)?;
     walk.write_scripts()?;
     walk.name_defaults(tree)?;
     walk.finish()?;
@@ -496,16 +417,18 @@ pub(crate) fn walk_trees(
         None => None,
     };
     let mut site = Site::new(rt.alloc());
+    let mut listed = Vec::new(rt.alloc());
     for tree in trees {
-        names_in(rt, tree.from.as_str())?;
+        let entries = entries_below(rt, tree.from.as_str())?;
         if let Some(to) = &tree.to {
             begin(rt, tree.from.as_str(), to.as_str())?;
         }
-        add_tree(rt, &mut site, tree.from.as_str())?;
+        add_tree(rt, &mut site, entries.as_slice())?;
+        listed.push(entries)?;
     }
     let mut status = Status::Within;
-    for tree in trees {
-        let done = walk_tree(rt, manner, said, &site, defaults.as_ref(), tree)?;
+    for (tree, entries) in trees.iter().zip(listed) {
+        let done = walk_tree(rt, manner, said, &site, defaults.as_ref(), tree, entries)?;
         status = status.and(done);
     }
     Ok(status)

@@ -10,7 +10,7 @@ use tclvalue::value_command;
 const MOST_BYTES: usize = 65_536;
 
 /// A copy of a text, where there is one.
-pub(crate) fn copied(alloc: Global, text: Option<&str>) -> Result<Option<String>, AllocError> {
+pub fn copied(alloc: Global, text: Option<&str>) -> Result<Option<String>, AllocError> {
     match text {
         Some(text) => Ok(Some(String::from_str(alloc, text)?)),
         None => Ok(None),

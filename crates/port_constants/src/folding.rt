@@ -186,8 +186,6 @@ impl<'k, 't> Folding<'k, 't> {
 }
 
 /// What is computed in the words of a command of a text, by what is known, in the order of the text.
-///
-/// The error: want of memory.
 pub fn computed_in(
     alloc: Global,
     known: &Knowledge,

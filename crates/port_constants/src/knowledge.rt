@@ -45,13 +45,10 @@ pub(crate) fn plain_name(name: &str) -> &str {
 
 /// The value of a variable among some.
 fn value_among<'v>(variables: &'v [KnownVariable], name: &str) -> Option<&'v str> {
-    match variables
+    variables
         .iter()
         .find(|variable| variable.name.as_str() == name)
-    {
-        Some(variable) => Some(variable.value.as_str()),
-        None => None,
-    }
+        .map(|variable| variable.value.as_str())
 }
 
 /// Sets a variable among some, or forgets it.
@@ -111,18 +108,12 @@ impl<'k> Knowledge<'k> {
 
     /// The path of the file.
     fn path(&self) -> Option<&str> {
-        match self.file {
-            Some(file) => Some(file.path),
-            None => None,
-        }
+        self.file.map(|file| file.path)
     }
 
     /// The name of the module of the file.
     pub(crate) fn name(&self) -> Option<&str> {
-        match self.file {
-            Some(file) => Some(file.name),
-            None => None,
-        }
+        self.file.map(|file| file.name)
     }
 
     /// Whether commands and what Tcl knows of the host are as they were.
@@ -131,8 +122,6 @@ impl<'k> Knowledge<'k> {
     }
 
     /// A variable of the file is set to a value, which is known or not.
-    ///
-    /// The error: want of memory.
     pub fn set(
         &mut self,
         alloc: Global,
@@ -155,8 +144,6 @@ impl<'k> Knowledge<'k> {
     }
 
     /// A variable of the environment is set to a value, which is known or not.
-    ///
-    /// The error: want of memory.
     pub fn set_environment(
         &mut self,
         alloc: Global,

@@ -9,5 +9,6 @@ mod knowledge;
 mod paths;
 mod values;
 
+pub use answers::copied;
 pub use folding::{Computed, computed_in};
 pub use knowledge::{Knowledge, KnownFile, KnownVariable};

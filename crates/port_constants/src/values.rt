@@ -98,8 +98,6 @@ impl Knowledge<'_> {
     }
 
     /// The value of a word of a text, where all in it is known.
-    ///
-    /// The error: want of memory.
     #[cycle(values)]
     pub fn value_of_word(
         &self,

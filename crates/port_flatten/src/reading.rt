@@ -176,29 +176,21 @@ impl LoadRecords {
         })
     }
 
-    /// Adds what a line says; why it doesn't serve, where it doesn't.
-    fn add(&mut self, alloc: Global, line: &str) -> Result<Option<Unserving>, AllocError> {
-        if line.is_empty() || line == "test 0;" || line == "true;" {
-            return Ok(None);
-        }
-        if line.starts_with("test 0 = 1") || line == "false;" {
-            return Ok(Some(Unserving("the load failed")));
-        }
-        if let Some(name) = line.strip_prefix("unset ") {
-            let Some(name) = name.strip_suffix(';') else {
-                return Ok(Some(Unserving("a line of its records isn't read")));
-            };
-            let name = String::from_str(alloc, name)?;
-            self.variables.push((name, VariableChange::Unset))?;
-            return Ok(None);
-        }
-        let Some(Setting { name, value }) = setting(alloc, line)? else {
-            return Ok(Some(Unserving("it does something that is no variable")));
-        };
+    /// Adds that a variable is unset.
+    fn unset(&mut self, alloc: Global, name: &str) -> Result<(), AllocError> {
+        let name = String::from_str(alloc, name)?;
+        self.variables.push((name, VariableChange::Unset))?;
+        Ok(())
+    }
+
+    /// Adds what a line says that sets a variable; why it doesn't serve, where it doesn't.
+    fn set(&mut self, alloc: Global, setting: Setting) -> Result<Option<Unserving>, AllocError> {
+        let Setting { name, value } = setting;
         let is_own = name.starts_with("__MODULES_")
             || matches!(name.as_str(), "_LMFILES_" | "LOADEDMODULES");
         if is_own {
-            return Ok(if self.add_own(alloc, name.as_str(), value.as_str())? {
+            let is_alone = self.add_own(alloc, name.as_str(), value.as_str())?;
+            return Ok(if is_alone {
                 None
             } else {
                 Some(Unserving("it loads other modules"))
@@ -207,19 +199,38 @@ impl LoadRecords {
         if self.is_pushed(name.as_str()) {
             return Ok(None);
         }
-        match change_of(alloc, name.as_str(), value.as_str())? {
-            Some(change) => {
-                self.variables.push((name, change))?;
-                Ok(None)
-            }
-            None => Ok(Some(Unserving("a path has other elements than were added"))),
+        let Some(change) = change_of(alloc, name.as_str(), value.as_str())? else {
+            return Ok(Some(Unserving("a path has other elements than were added")));
+        };
+        self.variables.push((name, change))?;
+        Ok(None)
+    }
+
+    /// Adds what a line says; why it doesn't serve, where it doesn't.
+    fn add(&mut self, alloc: Global, line: &str) -> Result<Option<Unserving>, AllocError> {
+        if line.is_empty() || line == "test 0;" || line == "true;" {
+            return Ok(None);
+        }
+        if line.starts_with("test 0 = 1") || line == "false;" {
+            return Ok(Some(Unserving("the load failed")));
+        }
+        if let Some(rest) = line.strip_prefix("unset ") {
+            return match rest.strip_suffix(';') {
+                Some(name) => {
+                    self.unset(alloc, name)?;
+                    Ok(None)
+                }
+                None => Ok(Some(Unserving("a line of its records isn't read"))),
+            };
+        }
+        match setting(alloc, line)? {
+            Some(setting) => self.set(alloc, setting),
+            None => Ok(Some(Unserving("it does something that is no variable"))),
         }
     }
 }
 
 /// What a load has done, by the text that it wrote; or why that doesn't serve.
-///
-/// The error: want of memory.
 pub fn records_of(alloc: Global, text: &str) -> Result<Result<LoadRecords, Unserving>, AllocError> {
     let mut records = LoadRecords {
         variables: Vec::new(alloc),

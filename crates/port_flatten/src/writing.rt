@@ -5,9 +5,14 @@ use crate::values::UserValues;
 use std::alloc::{AllocError, Global};
 use tcltext::list::write_list;
 
-/// Adds a word, spelled as the element of a list.
-fn push_word(alloc: Global, text: &mut String, word: &str) -> Result<(), AllocError> {
-    text.push_str(write_list(alloc, &[word])?.as_str())
+/// A modulefile that is being written.
+#[derive(Drop)]
+struct Writing<'p> {
+    alloc: Global,
+    /// What is written so far.
+    text: String,
+    /// Whose values are asked for.
+    person: UserValues<'p>,
 }
 
 /// Whether a text means itself in quotes.
@@ -15,119 +20,95 @@ fn is_plain(text: &str) -> bool {
     text.bytes().all(|byte| !matches!(byte, b'"' | b'\\' | b'$' | b'[' | b']' | b'\n'))
 }
 
-/// Adds a value, which asks for the person's home directory and name where these stand in it.
-fn push_value(
-    alloc: Global,
-    text: &mut String,
-    person: UserValues,
-    value: &str,
-) -> Result<(), AllocError> {
-    match person.asking(alloc, value)? {
-        Some(asking) if is_plain(value) => {
-            text.push('"')?;
-            text.push_str(asking.as_str())?;
-            text.push('"')
+impl Writing<'_> {
+    /// Adds a word behind a space, spelled as the element of a list.
+    fn push_word(&mut self, word: &str) -> Result<(), AllocError> {
+        let spelled = write_list(self.alloc, &[word])?;
+        self.text.push(' ')?;
+        self.text.push_str(spelled.as_str())
+    }
+
+    /// Adds a value, which asks for the person's home directory and name where these stand in it.
+    fn push_value(&mut self, value: &str) -> Result<(), AllocError> {
+        match self.person.asking(self.alloc, value)? {
+            Some(asking) if is_plain(value) => {
+                self.text.push_str(" \"")?;
+                self.text.push_str(asking.as_str())?;
+                self.text.push('"')
+            }
+            _ => self.push_word(value),
         }
-        _ => push_word(alloc, text, value),
+    }
+
+    /// Adds a command on a variable and a value.
+    fn push_command(&mut self, command: &str, name: &str, value: &str) -> Result<(), AllocError> {
+        self.text.push_str(command)?;
+        self.push_word(name)?;
+        self.push_value(value)?;
+        self.text.push('\n')
+    }
+
+    /// Adds the commands that add to a path.
+    fn push_path(&mut self, name: &str, ends: &PathEnds) -> Result<(), AllocError> {
+        let delimiter = ends.delimiter;
+        for (command, added) in [("prepend-path", &ends.front), ("append-path", &ends.back)] {
+            if let Some(added) = added {
+                let command = if delimiter == ':' {
+                    String::from_str(self.alloc, command)?
+                } else {
+                    format!(in self.alloc; "{command} -d {{{delimiter}}}")?
+                };
+                self.push_command(command.as_str(), name, added.as_str())?;
+            }
+        }
+        Ok(())
+    }
+
+    /// Adds a command with these words, where there are some.
+    fn push_words(&mut self, command: &str, words: &[String]) -> Result<(), AllocError> {
+        if words.is_empty() {
+            return Ok(());
+        }
+        self.text.push_str(command)?;
+        for word in words {
+            self.push_word(word.as_str())?;
+        }
+        self.text.push('\n')
+    }
+
+    /// Adds the commands for what became of a variable.
+    fn push_change(&mut self, name: &str, change: &VariableChange) -> Result<(), AllocError> {
+        match change {
+            VariableChange::Set(value) => self.push_command("setenv", name, value.as_str()),
+            VariableChange::Pushed(value) => self.push_command("pushenv", name, value.as_str()),
+            VariableChange::Unset => {
+                self.text.push_str("unsetenv")?;
+                self.push_word(name)?;
+                self.text.push('\n')
+            }
+            VariableChange::Added(ends) => self.push_path(name, ends),
+        }
     }
 }
 
-/// Adds a command on a variable and a value.
-fn push_command(
-    alloc: Global,
-    text: &mut String,
-    person: UserValues,
-    command: &str,
-    name: &str,
-    value: &str,
-) -> Result<(), AllocError> {
-    text.push_str(command)?;
-    text.push(' ')?;
-    push_word(alloc, text, name)?;
-    text.push(' ')?;
-    push_value(alloc, text, person, value)?;
-    text.push('\n')
-}
-
-/// Adds the commands that add to a path.
-fn push_path(
-    alloc: Global,
-    text: &mut String,
-    person: UserValues,
-    name: &str,
-    ends: &PathEnds,
-) -> Result<(), AllocError> {
-    let delimiter = ends.delimiter;
-    for (command, added) in [("prepend-path", &ends.front), ("append-path", &ends.back)] {
-        if let Some(added) = added {
-            let command = if delimiter == ':' {
-                String::from_str(alloc, command)?
-            } else {
-                format!(in alloc; "{command} -d {{{delimiter}}}")?
-            };
-            push_command(alloc, text, person, command.as_str(), name, added.as_str())?;
-        }
-    }
-    Ok(())
-}
-
-/// Adds the commands for what became of a variable.
-fn push_change(
-    alloc: Global,
-    text: &mut String,
-    person: UserValues,
-    name: &str,
-    change: &VariableChange,
-) -> Result<(), AllocError> {
-    match change {
-        VariableChange::Set(value) => {
-            push_command(alloc, text, person, "setenv", name, value.as_str())
-        }
-        VariableChange::Pushed(value) => {
-            push_command(alloc, text, person, "pushenv", name, value.as_str())
-        }
-        VariableChange::Unset => {
-            text.push_str("unsetenv ")?;
-            push_word(alloc, text, name)?;
-            text.push('\n')
-        }
-        VariableChange::Added(ends) => push_path(alloc, text, person, name, ends),
-    }
-}
-
-/// Adds a command with these words.
-fn push_words(
-    alloc: Global,
-    text: &mut String,
-    command: &str,
-    words: &[String],
-) -> Result<(), AllocError> {
-    if words.is_empty() {
-        return Ok(());
-    }
-    text.push_str(command)?;
-    for word in words {
-        text.push(' ')?;
-        push_word(alloc, text, word.as_str())?;
-    }
-    text.push('\n')
-}
-
-/// Adds the commands that do what a load has done, to a text that ends in a newline.
-///
-/// The error: want of memory.
+/// Commands that do what a load has done, behind a text that ends in a newline.
 pub fn written_records(
     alloc: Global,
-    text: &mut String,
+    head: &str,
     person: UserValues,
     records: &LoadRecords,
-) -> Result<(), AllocError> {
-    push_words(alloc, text, "conflict", records.conflicts.as_slice())?;
+) -> Result<String, AllocError> {
+    let mut writing = Writing {
+        alloc,
+        text: String::from_str(alloc, head)?,
+        person,
+    };
+    writing.push_words("conflict", records.conflicts.as_slice())?;
     for names in &records.needs {
-        push_words(alloc, text, "prereq", names.as_slice())?;
+        writing.push_words("prereq", names.as_slice())?;
     }
     for (name, change) in &records.variables {
-        push_change(alloc, text, person, name.as_str(), change)?;
+        writing.push_change(name.as_str(), change)?;
     }
-    Ok(())
+    Ok(writing.text)
 }

@@ -14,8 +14,6 @@ const MOST_BYTES: usize = 65_536;
 const SOME_WORD: &str = "0";
 
 /// The words with some word for each that isn't known.
-///
-/// The error: want of memory.
 pub(crate) fn filled(alloc: Global, words: &[Option<&str>]) -> Result<Vec<String>, AllocError> {
     let mut all = Vec::new(alloc);
     for word in words {
@@ -65,8 +63,6 @@ fn accepts_host(alloc: Global, kind: FileKind, words: &[String]) -> Result<bool,
 }
 
 /// Whether a command of these words is read in a file of this kind, where no procedure of the file has its name.
-///
-/// The error: want of memory.
 pub(crate) fn is_read(alloc: Global, kind: FileKind, words: &[String]) -> Result<bool, AllocError> {
     let [name, others @ ..] = words else {
         return Ok(true);

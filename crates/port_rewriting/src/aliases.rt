@@ -5,163 +5,20 @@ use tcltext::chars::is_name;
 
 /// What a shell does itself, or reads in another way, so that no program of this name does the same: reserved words,
 /// utilities that act on the shell (POSIX), and those of bash, zsh, ksh, tcsh and of the modules' own functions.
-const OF_SHELLS: [&str; 149] = [
-    ".",
-    ":",
-    "alias",
-    "aliases",
-    "autoload",
-    "bg",
-    "bind",
-    "bindkey",
-    "bindtc",
-    "break",
-    "builtin",
-    "builtins",
-    "bye",
-    "caller",
-    "cap",
-    "case",
-    "cd",
-    "chdir",
-    "clone",
-    "command",
-    "compadd",
-    "comparguments",
-    "compcall",
-    "compctl",
-    "compgen",
-    "complete",
-    "compopt",
-    "continue",
-    "coproc",
-    "declare",
-    "default",
-    "dirs",
-    "disable",
-    "disown",
-    "do",
-    "done",
-    "echotc",
-    "elif",
-    "else",
-    "emulate",
-    "enable",
-    "end",
-    "endif",
-    "endsw",
-    "esac",
-    "eval",
-    "exec",
-    "exit",
-    "export",
-    "fc",
-    "fg",
-    "fi",
-    "filetest",
-    "float",
-    "for",
-    "foreach",
-    "function",
-    "functions",
-    "getcap",
-    "getopts",
-    "glob",
-    "goto",
-    "hash",
-    "hashinfo",
-    "hashstat",
-    "help",
-    "hist",
-    "history",
-    "hup",
-    "if",
-    "in",
-    "inlib",
-    "integer",
-    "jobs",
-    "kill",
-    "let",
-    "limit",
-    "local",
-    "log",
-    "logout",
-    "mapfile",
-    "ml",
-    "module",
-    "nameref",
-    "namespace",
-    "noglob",
-    "notify",
-    "onintr",
-    "popd",
-    "print",
-    "pushd",
-    "pushln",
-    "r",
-    "read",
-    "readarray",
-    "readonly",
-    "redirect",
-    "rehash",
-    "repeat",
-    "return",
-    "sched",
-    "select",
-    "set",
-    "setenv",
-    "setopt",
-    "setpath",
-    "settc",
-    "setty",
-    "shift",
-    "shopt",
-    "source",
-    "stop",
-    "suspend",
-    "switch",
-    "telltc",
-    "then",
-    "time",
-    "times",
-    "trap",
-    "ttyctl",
-    "type",
-    "typeset",
-    "ulimit",
-    "umask",
-    "unalias",
-    "uncomplete",
-    "unfunction",
-    "unhash",
-    "unlimit",
-    "unset",
-    "unsetenv",
-    "unsetopt",
-    "until",
-    "vared",
-    "ver",
-    "vpath",
-    "wait",
-    "watchlog",
-    "whence",
-    "where",
-    "which",
-    "while",
-    "zcompile",
-    "zformat",
-    "zle",
-    "zmodload",
-    "zparseopts",
-    "zregexparse",
-    "zstyle",
-];
+const OF_SHELLS: &str = "\
+     . : alias aliases autoload bg bind bindkey bindtc break builtin builtins bye caller cap case cd chdir clone command \
+     compadd comparguments compcall compctl compgen complete compopt continue coproc declare default dirs disable disown do \
+     done echotc elif else emulate enable end endif endsw esac eval exec exit export fc fg fi filetest float for foreach \
+     function functions getcap getopts glob goto hash hashinfo hashstat help hist history hup if in inlib integer jobs kill \
+     let limit local log logout mapfile ml module nameref namespace noglob notify onintr popd print pushd pushln r read \
+     readarray readonly redirect rehash repeat return sched select set setenv setopt setpath settc setty shift shopt source \
+     stop suspend switch telltc then time times trap ttyctl type typeset ulimit umask unalias uncomplete unfunction unhash \
+     unlimit unset unsetenv unsetopt until vared ver vpath wait watchlog whence where which while zcompile zformat zle \
+     zmodload zparseopts zregexparse zstyle";
 
 /// What a shell does before it looks for a program, which would do the same.
-const DOUBLED: [&str; 17] = [
-    "[", "cat", "echo", "false", "getconf", "login", "newgrp", "nice", "nohup", "printenv",
-    "printf", "pwd", "sleep", "stat", "test", "true", "uname",
-];
+const DOUBLED: &str =
+    "[ cat echo false getconf login newgrp nice nohup printenv printf pwd sleep stat test true uname";
 
 /// The script of an alias.
 #[derive(Debug, Drop)]
@@ -173,8 +30,8 @@ pub struct ShellScript {
 }
 
 /// Whether the word is one of the names.
-fn is_in(names: &[&str], word: &str) -> bool {
-    names.iter().any(|name| *name == word)
+fn is_in(names: &str, word: &str) -> bool {
+    names.split(' ').any(|name| name == word)
 }
 
 /// Whether the byte stands for itself in each shell.
@@ -204,8 +61,8 @@ fn begins_name(word: &str) -> bool {
 fn is_program(name: &str) -> bool {
     begins_name(name)
         && name.bytes().all(|byte| is_literal(byte) && byte != b'/')
-        && !is_in(&OF_SHELLS, name)
-        && !is_in(&DOUBLED, name)
+        && !is_in(OF_SHELLS, name)
+        && !is_in(DOUBLED, name)
 }
 
 /// The first word of a text.
@@ -229,7 +86,7 @@ fn is_command(name: &str, text: &str) -> bool {
     };
     begins
         && first != name
-        && !is_in(&OF_SHELLS, first)
+        && !is_in(OF_SHELLS, first)
         && text.bytes().all(|byte| is_literal(byte) || is_blank(byte))
 }
 
@@ -239,8 +96,6 @@ pub(crate) fn is_folder(folder: &str) -> bool {
 }
 
 /// The script of an alias of this name for a text, where that is one command.
-///
-/// The error: want of memory.
 pub(crate) fn script_of(
     alloc: Global,
     name: &str,

@@ -78,3 +78,14 @@ pub struct Note {
     /// What became of it.
     pub outcome: Outcome,
 }
+
+impl Class {
+    /// The worst of it and those of some notes.
+    pub fn with(self, notes: &[Note]) -> Class {
+        let mut class = self;
+        for note in notes {
+            class = class.and(note.outcome.class());
+        }
+        class
+    }
+}

@@ -4,11 +4,13 @@ use crate::acceptance::{filled, is_name_read, is_read};
 use crate::aliases::{is_folder, script_of};
 use crate::class::Class;
 use crate::guards::guard_of;
+use crate::meanings::{added, any_needed, each_needed, in_family};
 use crate::names::{Meaning, Site, is_plain, meaning_in};
 use crate::reader::Reader;
 use crate::rewrite::{Case, Rewrite, WordText};
 use crate::scopes::{FileKind, Scope};
 use crate::symbols::{full_name, in_place};
+use modulefile::PathEdit;
 use std::alloc::AllocError;
 use tcltext::chars::is_name;
 
@@ -111,48 +113,47 @@ impl<'f> Reader<'f> {
         }
     }
 
-    /// What is written where each of some modules is asked for.
-    fn asking(&self, ask: Ask, names: &[Option<&str>]) -> Result<Option<Rewrite>, AllocError> {
-        let mut needs = Vec::new(self.alloc);
+    /// For each of some names the modules of which one is asked for; none where that can't be written.
+    fn all_asked(
+        &self,
+        ask: Ask,
+        names: &[Option<&str>],
+    ) -> Result<Option<Vec<Vec<String>>>, AllocError> {
+        let mut lists = Vec::new(self.alloc);
         for name in names {
             let Some(name) = *name else {
                 return Ok(None);
             };
             match self.asked(name)? {
-                Some(modules) if !self.is_missing(ask, name)? => needs.push(modules)?,
+                Some(modules) if !self.is_missing(ask, name)? => lists.push(modules)?,
                 _ => return Ok(None),
             }
         }
-        if needs.is_empty() {
+        Ok(if lists.is_empty() { None } else { Some(lists) })
+    }
+
+    /// What is written where each of some modules is asked for.
+    fn asking(&self, ask: Ask, names: &[Option<&str>]) -> Result<Option<Rewrite>, AllocError> {
+        let Some(lists) = self.all_asked(ask, names)? else {
             return Ok(None);
-        }
-        Ok(Some(Rewrite::Needs(needs, self.case_of(ask))))
+        };
+        let records = each_needed(self.alloc, lists)?;
+        Ok(Some(Rewrite::Records(records, self.case_of(ask))))
     }
 
     /// What is written where one of some modules is asked for.
     fn asking_one(&self, names: &[Option<&str>]) -> Result<Option<Rewrite>, AllocError> {
-        let mut all = Vec::new(self.alloc);
-        for name in names {
-            let Some(name) = *name else {
-                return Ok(None);
-            };
-            match self.asked(name)? {
-                Some(mut modules) => all.append(&mut modules)?,
-                None => return Ok(None),
-            }
-        }
-        if all.is_empty() {
+        let Some(lists) = self.all_asked(Ask::Need, names)? else {
             return Ok(None);
-        }
-        let mut needs = Vec::new(self.alloc);
-        needs.push(all)?;
-        Ok(Some(Rewrite::Needs(needs, None)))
+        };
+        let records = any_needed(self.alloc, lists)?;
+        Ok(Some(Rewrite::Records(records, None)))
     }
 
     /// What is written where directories are searched.
     fn searching(
         &self,
-        command: &'static str,
+        edit: PathEdit,
         words: &[Option<&str>],
     ) -> Result<Option<Rewrite>, AllocError> {
         let mut directories = Vec::new(self.alloc);
@@ -167,7 +168,8 @@ impl<'f> Reader<'f> {
         if directories.is_empty() {
             return Ok(None);
         }
-        Ok(Some(Rewrite::Searches(command, directories)))
+        let records = added(self.alloc, edit, "MODULEPATH", directories)?;
+        Ok(Some(Rewrite::Records(records, None)))
     }
 
     /// What is written for `module` with these words, in a script that stands there.
@@ -176,14 +178,14 @@ impl<'f> Reader<'f> {
             [Some("load" | "add"), names @ ..] if scope.is_top => self.asking(Ask::Load, names),
             [Some("try-load"), names @ ..] if scope.is_top => self.asking(Ask::Try, names),
             [Some("use"), Some("-a" | "--append" | "-append"), those @ ..] => {
-                self.searching("append-path MODULEPATH", those)
+                self.searching(PathEdit::Back, those)
             }
             [
                 Some("use"),
                 Some("-p" | "--prepend" | "-prepend"),
                 those @ ..,
-            ] => { self.searching("prepend-path MODULEPATH", those) }
-            [Some("use"), those @ ..] => self.searching("prepend-path MODULEPATH", those),
+            ]
+            | [Some("use"), those @ ..] => self.searching(PathEdit::Front, those),
             _ => Ok(None),
         }
     }
@@ -198,16 +200,12 @@ impl<'f> Reader<'f> {
             folder => folder,
         };
         let is_family = !name.is_empty() && name.bytes().all(|byte| is_name(byte));
-        if !is_family || !is_plain(module) {
-            return Ok(None);
-        }
         match site.conflicts_of(self.alloc, name, file.name)? {
-            Some(conflicts) => Ok(Some(Rewrite::Family(
-                String::from_str(self.alloc, name)?,
-                String::from_str(self.alloc, module)?,
-                conflicts,
-            ))),
-            None => Ok(None),
+            Some(conflicts) if is_family && is_plain(module) => {
+                let records = in_family(self.alloc, name, module, conflicts)?;
+                Ok(Some(Rewrite::Records(records, None)))
+            }
+            _ => Ok(None),
         }
     }
 
@@ -219,7 +217,10 @@ impl<'f> Reader<'f> {
         match script_of(self.alloc, name, text)? {
             Some(script) if is_folder(folder) && !self.given.is_strict => {
                 self.scripts.push(script)?;
-                Ok(Some(Rewrite::Script(String::from_str(self.alloc, folder)?)))
+                let mut folders = Vec::new(self.alloc);
+                folders.push(String::from_str(self.alloc, folder)?)?;
+                let records = added(self.alloc, PathEdit::Front, "PATH", folders)?;
+                Ok(Some(Rewrite::Records(records, Some(Case::Script))))
             }
             _ => Ok(None),
         }
@@ -425,8 +426,6 @@ impl<'f> Reader<'f> {
     }
 
     /// What is written for a command of this name and these words, in a script that stands there.
-    ///
-    /// The error: want of memory.
     pub(crate) fn classify(
         &mut self,
         scope: Scope,

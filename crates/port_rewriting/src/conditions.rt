@@ -11,6 +11,8 @@ use tcltext::script::ByteRange;
 pub(crate) enum Condition<'t> {
     /// Whether the file is evaluated for a load.
     Loading,
+    /// Whether the file is evaluated for an unload.
+    Unloading,
     /// Whether this module isn't loaded.
     Unloaded(&'t str),
     /// Whether a variable is there, or isn't.
@@ -32,42 +34,21 @@ fn words_of<'t>(
     }
 }
 
-/// What an expression without operators asks.
+/// What an expression without operators asks, or the one behind `!`.
 fn question<'t>(
     alloc: Global,
     text: &'t str,
     expression: &Expr<ByteRange>,
+    is_negated: bool,
 ) -> Result<Option<Condition<'t>>, AllocError> {
-    match words_of(alloc, text, expression)?.as_slice() {
-        ["module-info", "mode", "load"] => Ok(Some(Condition::Loading)),
-        ["info", "exists", _] => Ok(Some(Condition::Exists)),
-        _ => Ok(None),
-    }
-}
-
-/// What an expression behind `!` asks.
-fn negated<'t>(
-    alloc: Global,
-    text: &'t str,
-    expression: &Expr<ByteRange>,
-) -> Result<Option<Condition<'t>>, AllocError> {
-    match words_of(alloc, text, expression)?.as_slice() {
-        ["is-loaded", name] => Ok(Some(Condition::Unloaded(*name))),
-        ["info", "exists", _] => Ok(Some(Condition::Exists)),
-        _ => Ok(None),
-    }
-}
-
-/// Whether an expression asks whether the file is evaluated for an unload.
-fn asks_unload(
-    alloc: Global,
-    text: &str,
-    expression: &Expr<ByteRange>,
-) -> Result<bool, AllocError> {
-    match words_of(alloc, text, expression)?.as_slice() {
-        ["module-info", "mode", mode] => Ok(*mode == "remove"),
-        _ => Ok(false),
-    }
+    let words = words_of(alloc, text, expression)?;
+    Ok(match (words.as_slice(), is_negated) {
+        (["module-info", "mode", "load"], false) => Some(Condition::Loading),
+        (["module-info", "mode", "remove"], false) => Some(Condition::Unloading),
+        (["is-loaded", name], true) => Some(Condition::Unloaded(*name)),
+        (["info", "exists", _], _) => Some(Condition::Exists),
+        _ => None,
+    })
 }
 
 /// What an expression asks.
@@ -77,11 +58,11 @@ fn condition_in<'t>(
     expression: &Expr<ByteRange>,
 ) -> Result<Option<Condition<'t>>, AllocError> {
     match expression {
-        Expr::Operand(_) => question(alloc, text, expression),
-        Expr::Unary(UnaryOperator::Not, inner) => negated(alloc, text, inner),
-        Expr::Or(left, right) => match &**right {
-            Expr::Unary(UnaryOperator::Not, inner) if asks_unload(alloc, text, left)? => {
-                negated(alloc, text, inner)
+        Expr::Operand(_) => question(alloc, text, expression, false),
+        Expr::Unary(UnaryOperator::Not, inner) => question(alloc, text, inner, true),
+        Expr::Or(left, right) => match (question(alloc, text, left, false)?, &**right) {
+            (Some(Condition::Unloading), Expr::Unary(UnaryOperator::Not, inner)) => {
+                question(alloc, text, inner, true)
             }
             _ => Ok(None),
         },
@@ -90,8 +71,6 @@ fn condition_in<'t>(
 }
 
 /// What an expression that is a text asks.
-///
-/// The error: want of memory.
 pub(crate) fn condition_of<'t>(
     alloc: Global,
     text: &'t str,

@@ -25,7 +25,7 @@ fn loads_of_script<'t>(
     Ok(Some(loads))
 }
 
-/// The same of a body that is a text.
+/// The modules that a body which is a text loads, where it does nothing else but write messages.
 fn loads_of<'t>(alloc: Global, body: &'t str) -> Result<Option<Vec<&'t str>>, AllocError> {
     match parse_pieces(alloc, &body) {
         Ok(script) => loads_of_script(alloc, body, &script),
@@ -34,79 +34,53 @@ fn loads_of<'t>(alloc: Global, body: &'t str) -> Result<Option<Vec<&'t str>>, Al
     }
 }
 
-/// How often a name is among some.
-fn count_of(names: &[&str], name: &str) -> usize {
-    names.iter().filter(|other| **other == name).count()
-}
-
-/// Whether these are the same names, each as often.
-fn are_same(names: &[&str], others: &[&str]) -> bool {
-    names.len() == others.len()
-        && names
-            .iter()
-            .all(|name| count_of(names, name) == count_of(others, name))
-}
-
-/// Whether a condition fits what a body loads: in any load, or the one module that isn't loaded.
-fn fits(condition: Condition, loads: &[&str]) -> bool {
-    match (condition, loads) {
-        (Condition::Loading, [_, ..]) => true,
-        (Condition::Unloaded(name), [other]) => name == *other,
+/// Whether a condition fits what the bodies behind it load: in any load, or the one module that isn't loaded; of two,
+/// both load the same.
+fn fits(condition: Condition, loads: &[&str], others: Option<&[&str]>) -> bool {
+    match (condition, loads, others) {
+        (Condition::Loading, [_, ..], None) => true,
+        (Condition::Unloaded(name), [other], None) => name == *other,
+        (Condition::Exists, [_, ..], Some(others)) => loads == others,
         _ => false,
     }
 }
 
-/// The modules that an `if` of this condition and body loads, where it does nothing else.
-fn guard_of_body<'t>(
-    alloc: Global,
-    condition: &'t str,
-    body: &'t str,
-) -> Result<Option<Vec<&'t str>>, AllocError> {
-    let Some(condition) = condition_of(alloc, condition)? else {
-        return Ok(None);
-    };
-    match loads_of(alloc, body)? {
-        Some(loads) if fits(condition, loads.as_slice()) => Ok(Some(loads)),
-        _ => Ok(None),
-    }
-}
-
-/// The modules that an `if` with two bodies loads, where both load the same, and do nothing else.
+/// The modules that an `if` of this condition and these bodies loads, where it does nothing else.
 fn guard_of_bodies<'t>(
     alloc: Global,
     condition: &'t str,
     body: &'t str,
-    other: &'t str,
+    other: Option<&'t str>,
 ) -> Result<Option<Vec<&'t str>>, AllocError> {
-    let Some(Condition::Exists) = condition_of(alloc, condition)? else {
+    let condition = condition_of(alloc, condition)?;
+    let (Some(condition), Some(loads)) = (condition, loads_of(alloc, body)?) else {
         return Ok(None);
     };
-    let (Some(loads), Some(others)) = (loads_of(alloc, body)?, loads_of(alloc, other)?) else {
-        return Ok(None);
+    let others = match other {
+        Some(other) => match loads_of(alloc, other)? {
+            Some(others) => Some(others),
+            None => return Ok(None),
+        },
+        None => None,
     };
-    if !loads.is_empty() && are_same(loads.as_slice(), others.as_slice()) {
-        Ok(Some(loads))
-    } else {
-        Ok(None)
-    }
+    let is_guard = fits(condition, loads.as_slice(), others.as_deref());
+    Ok(if is_guard { Some(loads) } else { None })
 }
 
 /// The modules that the command `if` of these words loads, where it does nothing else.
-///
-/// The error: want of memory.
 pub(crate) fn guard_of<'t>(
     alloc: Global,
     words: &[Option<&'t str>],
 ) -> Result<Option<Vec<&'t str>>, AllocError> {
     match words {
-        [Some("if"), Some(condition), Some(body)] => guard_of_body(alloc, condition, body),
+        [Some("if"), Some(condition), Some(body)] => guard_of_bodies(alloc, condition, body, None),
         [
             Some("if"),
             Some(condition),
             Some(body),
             Some("else"),
             Some(other),
-        ] => { guard_of_bodies(alloc, condition, body, other) }
+        ] => { guard_of_bodies(alloc, condition, body, Some(*other)) }
         _ => Ok(None),
     }
 }

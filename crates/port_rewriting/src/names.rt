@@ -103,14 +103,10 @@ impl Site {
 
     /// What a name is said to mean, where it is a symbol.
     fn said_of(&self, name: &str) -> Option<&str> {
-        match self
-            .symbols
+        self.symbols
             .iter()
             .find(|symbol| symbol.name.as_str() == name)
-        {
-            Some(symbol) => Some(symbol.version.as_str()),
-            None => None,
-        }
+            .map(|symbol| symbol.version.as_str())
     }
 
     /// What a symbol means, maybe by other symbols.
@@ -173,15 +169,8 @@ impl Site {
 
     /// Whether a name may be that of a family whose members aren't all known.
     fn is_unsure(&self, name: &str) -> bool {
-        self.has_unknown_families
-            && self
-                .members
-                .iter()
-                .any(|member| member.family.as_str() == name)
-            || self
-                .members
-                .iter()
-                .any(|member| member.family.as_str() == name && !member.is_sure)
+        self.members.iter().any(|member| member.family.as_str() == name
+            && (self.has_unknown_families || !member.is_sure))
     }
 
     /// The modules that a name means there, with those of other directories that symbols mean.
@@ -252,8 +241,6 @@ impl Site {
     }
 
     /// The names that a member of a family is in conflict with; none where not all is known.
-    ///
-    /// The error: want of memory.
     pub(crate) fn conflicts_of(
         &self,
         alloc: Global,
@@ -280,8 +267,6 @@ impl Site {
 }
 
 /// What a word means that names modules, in a site where one is known.
-///
-/// The error: want of memory.
 pub(crate) fn meaning_in(
     alloc: Global,
     site: Option<&Site>,

@@ -18,6 +18,16 @@ pub(crate) struct Edit {
     pub text: String,
 }
 
+impl Edit {
+    /// That of a text for what stands between two places.
+    pub(crate) fn between(start: usize, end: usize, text: String) -> Edit {
+        Edit {
+            place: ByteRange { start, end },
+            text,
+        }
+    }
+}
+
 /// What is left in a command, and where it stands.
 #[derive(Debug, Drop)]
 struct LeftPart {
@@ -100,58 +110,46 @@ fn line_at(text: &str, place: ByteRange) -> &str {
         .bytes()
         .take_while(|byte| *byte != b'\n')
         .count();
-    let line = ByteRange {
-        start: place.start,
-        end: place.start.saturating_add(length),
-    };
-    line.of(text)
+    let (start, end) = (place.start, place.start.saturating_add(length));
+    ByteRange { start, end }.of(text)
 }
 
-/// Adds notes on what is computed in a command of a text, which is in this line.
-fn add_computed(
-    alloc: Global,
-    notes: &mut Vec<Note>,
-    text: &str,
-    line: usize,
-    computed: &[Computed],
-) -> Result<(), AllocError> {
-    for it in computed {
-        notes.push(Note {
-            line: Some(line),
-            what: String::from_str(alloc, line_at(text, it.place))?,
-            outcome: Outcome::Computed(it.text.clone()?),
-        })?;
-    }
-    Ok(())
+/// A part of a text, and the line where it begins.
+#[derive(Clone, Copy)]
+pub(crate) struct TextPart<'t> {
+    pub text: &'t str,
+    pub place: ByteRange,
+    pub line: usize,
 }
 
-/// The notes on a command of a text, which begins at this place, in this line.
-fn notes_on(
-    alloc: Global,
-    text: &str,
-    start: usize,
-    line: usize,
-    found: &mut PieceFindings,
-) -> Result<Vec<Note>, AllocError> {
-    let mut notes = Vec::new(alloc);
-    if !found.is_replaced {
-        add_computed(alloc, &mut notes, text, line, found.computed.as_slice())?;
-    }
-    if let Some(outcome) = found.outcome.take() {
-        notes.push(Note {
-            line: Some(line),
-            what: String::from_str(alloc, first_line(text, start))?,
+impl TextPart<'_> {
+    /// A note on it.
+    fn note(self, alloc: Global, what: &str, outcome: Outcome) -> Result<Note, AllocError> {
+        Ok(Note {
+            line: Some(self.line),
+            what: String::from_str(alloc, what)?,
             outcome,
-        })?;
+        })
     }
-    if let Some(left) = found.left.take() {
-        notes.push(Note {
-            line: Some(line),
-            what: left.said,
-            outcome: Outcome::Left,
-        })?;
+
+    /// The notes on the command that begins there.
+    fn notes(self, alloc: Global, found: &mut PieceFindings) -> Result<Vec<Note>, AllocError> {
+        let mut notes = Vec::new(alloc);
+        if !found.is_replaced {
+            for it in &found.computed {
+                let outcome = Outcome::Computed(it.text.clone()?);
+                notes.push(self.note(alloc, line_at(self.text, it.place), outcome)?)?;
+            }
+        }
+        if let Some(outcome) = found.outcome.take() {
+            let what = first_line(self.text, self.place.start);
+            notes.push(self.note(alloc, what, outcome)?)?;
+        }
+        if let Some(left) = found.left.take() {
+            notes.push(self.note(alloc, left.said.as_str(), Outcome::Left)?)?;
+        }
+        Ok(notes)
     }
-    Ok(notes)
 }
 
 /// The edits of a command in their order, with those of what Tcl computes where it isn't written anew as a whole.
@@ -182,19 +180,13 @@ fn edited(
     let mut written = String::new(alloc);
     let mut start = place.start;
     for edit in edits {
-        let before = ByteRange {
-            start,
-            end: edit.place.start,
-        };
-        written.push_str(before.of(text))?;
+        let end = edit.place.start;
+        written.push_str(ByteRange { start, end }.of(text))?;
         written.push_str(edit.text.as_str())?;
         start = edit.place.end;
     }
-    let behind = ByteRange {
-        start,
-        end: place.end,
-    };
-    written.push_str(behind.of(text))?;
+    let end = place.end;
+    written.push_str(ByteRange { start, end }.of(text))?;
     Ok(written)
 }
 
@@ -214,23 +206,19 @@ fn noted(
     Ok(TranslatedPiece { text, notes })
 }
 
-/// What is written for a piece of a text that stands at a place, in this line, by what was found in its command. A piece
-/// on which there is no note is written as it is.
-///
-/// The error: want of memory.
+/// What is written for a part of a text of these bytes, by what was found in its command. A part on which there is no note
+/// is written as it is.
 pub(crate) fn written_piece(
     alloc: Global,
-    text: &str,
+    part: TextPart,
     was: &[u8],
-    place: ByteRange,
-    line: usize,
     mut found: PieceFindings,
 ) -> Result<TranslatedPiece, AllocError>
     // A part of which nothing is said stays.
     ensures { IfOk result (λ p. Stays was.now (piece_view p)) }
 {
-    let notes = notes_on(alloc, text, place.start, line, &mut found)?;
+    let notes = part.notes(alloc, &mut found)?;
     let edits = ordered(found)?;
-    let written = edited(alloc, text, place, edits.as_slice())?;
+    let written = edited(alloc, part.text, part.place, edits.as_slice())?;
     noted(alloc, was, notes, written)
 }

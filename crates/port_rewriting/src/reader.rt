@@ -2,9 +2,10 @@
 
 use crate::aliases::ShellScript;
 use crate::pieces::{Edit, PieceFindings};
-use crate::rewrite::{Rewrite, WordText};
+use crate::rewrite::Rewrite;
 use crate::scopes::{Given, Scope};
-use port_constants::{Knowledge, computed_in};
+use modulefile::Record;
+use port_constants::{Knowledge, computed_in, copied};
 use port_reading::places::{ConstantWord, constant, first_line, places_of_words};
 use port_reading::roles::{Role, roles_of};
 use std::alloc::{AllocError, Global};
@@ -18,22 +19,9 @@ use tcltext::script::{ByteRange, Command, Part, Script, WordContent, parse_piece
 const MOST_BODIES: usize = 1_000_000;
 
 /// Variables that Tcl has, and this evaluator hasn't.
-const FOREIGN_VARIABLES: [&str; 14] = [
-    "argc",
-    "argv",
-    "argv0",
-    "auto_path",
-    "errorCode",
-    "errorInfo",
-    "tcl_interactive",
-    "tcl_library",
-    "tcl_patchLevel",
-    "tcl_pkgPath",
-    "tcl_platform",
-    "tcl_precision",
-    "tcl_rcFileName",
-    "tcl_version",
-];
+const FOREIGN_VARIABLES: &str =
+    "argc argv argv0 auto_path errorCode errorInfo tcl_interactive tcl_library \
+     tcl_patchLevel tcl_pkgPath tcl_platform tcl_precision tcl_rcFileName tcl_version";
 
 /// A family that a file names.
 #[derive(Debug, Drop)]
@@ -63,6 +51,8 @@ pub(crate) struct Reader<'f> {
     pub(crate) is_straight: bool,
     /// Whether a directory was added that modules are searched in.
     pub(crate) has_search: bool,
+    /// Whether the file is in conflict with its own name in each load.
+    pub(crate) has_conflict: bool,
     /// What is known of variables.
     known: Knowledge<'f>,
     /// What is still to be read of the command at hand.
@@ -127,12 +117,12 @@ fn is_fraction(number: &str) -> bool {
     number.contains('.') || !is_hexadecimal && (number.contains('e') || number.contains('E'))
 }
 
-/// A copy of a text, where there is one.
-fn copied(alloc: Global, text: Option<&str>) -> Result<Option<String>, AllocError> {
-    match text {
-        Some(text) => Ok(Some(String::from_str(alloc, text)?)),
-        None => Ok(None),
-    }
+/// Whether one of the records adds a directory that modules are searched in.
+fn adds_search(records: &[Record]) -> bool {
+    records.iter().any(|record| match record.added_elements() {
+        Some((var, _)) => var == "MODULEPATH",
+        None => false,
+    })
 }
 
 /// Whether parts are texts and scripts in brackets alone.
@@ -186,6 +176,7 @@ impl<'f> Reader<'f> {
             is_quiet: true,
             is_straight: true,
             has_search: false,
+            has_conflict: false,
             known: Knowledge::new(alloc, given.host, given.file),
             queue: Vec::new(alloc),
             piece: PieceFindings::new(alloc),
@@ -208,8 +199,6 @@ impl<'f> Reader<'f> {
     }
 
     /// Reads a command of the file, and gives what was found in it.
-    ///
-    /// The error: want of memory.
     pub(crate) fn read(
         &mut self,
         command: &Command<ByteRange>,
@@ -219,12 +208,24 @@ impl<'f> Reader<'f> {
         for value in &values {
             words.push(value.as_deref())?;
         }
+        self.has_conflict = self.has_conflict
+            || self.is_straight && self.is_own_conflict(words.as_slice());
         self.piece.computed = computed_in(self.alloc, &self.known, self.text, command)?;
         self.command(Scope::of_file(self.text), command, words.as_slice())?;
         self.read_bodies()?;
         self.learn(words.as_slice())?;
         let next = PieceFindings::new(self.alloc);
         Ok(replace(&mut self.piece, next))
+    }
+
+    /// Whether a command of these words is the conflict of the file with its own name.
+    fn is_own_conflict(&self, words: &[Option<&str>]) -> bool {
+        match words {
+            [Some("conflict"), names @ ..] => names
+                .iter()
+                .any(|name| *name == self.given.one_version),
+            _ => false,
+        }
     }
 
     /// The values of the words of a command of the file, as far as they are known; its name has to be constant, and a
@@ -407,19 +408,8 @@ impl<'f> Reader<'f> {
         }
         let expands = command.words.iter().any(|word| word.expands);
         let rewrite = self.classify(scope, name, words, expands)?;
-        match &rewrite {
-            Rewrite::Keep => {}
-            Rewrite::Left(said) => {
-                self.piece.does_more = true;
-                self.leave(scope.place(command.source.start), said.as_str())?;
-                return Ok(false);
-            }
-            Rewrite::Words(texts) => self.put_words(scope, command, texts.as_slice(), &rewrite)?,
-            Rewrite::WithoutOption(_) => self.put_without_option(scope, command, &rewrite)?,
-            _ => {
-                self.put_command(scope, command, &rewrite)?;
-                return Ok(false);
-            }
+        if !self.write(scope, command, &rewrite)? {
+            return Ok(false);
         }
         self.bodies(scope, command, words)?;
         Ok(true)
@@ -441,89 +431,54 @@ impl<'f> Reader<'f> {
         Ok(())
     }
 
-    /// Notes what is written in another way.
-    fn note(&mut self, rewrite: &Rewrite) -> Result<(), AllocError> {
+    /// Puts what is written for a command in its place; false where it can't be written.
+    fn put(
+        &mut self,
+        scope: Scope<'f>,
+        command: &Command<ByteRange>,
+        rewrite: &Rewrite,
+    ) -> Result<bool, AllocError> {
+        let edits = match places_of_words(self.alloc, scope.text, command)? {
+            Some(places) => rewrite.edits(self.alloc, places.as_slice())?,
+            None => None,
+        };
+        let Some(edits) = edits else {
+            self.leave_command(scope, command)?;
+            return Ok(false);
+        };
+        for edit in edits {
+            let Edit { place, text } = edit;
+            let place = scope.range(place);
+            self.piece.edits.push(Edit { place, text })?;
+        }
         let outcome = rewrite.outcome(self.alloc)?;
         self.piece.rewrite(outcome);
-        Ok(())
+        Ok(true)
     }
 
-    /// Puts commands in place of one.
-    fn put_command(
+    /// Writes a command as it is classified; false where nothing in it is still to be read.
+    fn write(
         &mut self,
         scope: Scope<'f>,
         command: &Command<ByteRange>,
         rewrite: &Rewrite,
-    ) -> Result<(), AllocError> {
-        let places = places_of_words(self.alloc, scope.text, command)?;
-        let end = match &places {
-            Some(places) => places.as_slice().last().map(|place| place.end),
-            None => None,
-        };
-        let (Some(end), Some(text)) = (end, rewrite.text(self.alloc)?) else {
-            return self.leave_command(scope, command);
-        };
-        let place = ByteRange {
-            start: command.source.start,
-            end,
-        };
-        self.piece.is_replaced = scope.is_top;
-        self.has_search = self.has_search || matches!(rewrite, Rewrite::Searches(_, _));
-        self.piece.edits.push(Edit {
-            place: scope.range(place),
-            text,
-        })?;
-        self.note(rewrite)
-    }
-
-    /// Puts texts in place of words of a command.
-    fn put_words(
-        &mut self,
-        scope: Scope<'f>,
-        command: &Command<ByteRange>,
-        texts: &[WordText],
-        rewrite: &Rewrite,
-    ) -> Result<(), AllocError> {
-        let Some(places) = places_of_words(self.alloc, scope.text, command)? else {
-            return self.leave_command(scope, command);
-        };
-        for put in texts {
-            if let Some(place) = places.as_slice().get(put.word) {
-                self.piece.edits.push(Edit {
-                    place: scope.range(*place),
-                    text: put.text.clone()?,
-                })?;
+    ) -> Result<bool, AllocError> {
+        match rewrite {
+            Rewrite::Keep => Ok(true),
+            Rewrite::Left(said) => {
+                self.piece.does_more = true;
+                self.leave(scope.place(command.source.start), said.as_str())?;
+                Ok(false)
             }
+            Rewrite::Records(records, _) => {
+                if self.put(scope, command, rewrite)? {
+                    self.piece.is_replaced = scope.is_top;
+                    self.has_search = self.has_search || adds_search(records.as_slice());
+                }
+                Ok(false)
+            }
+            Rewrite::Words(_) | Rewrite::WithoutOption(_) => self.put(scope, command, rewrite),
         }
-        self.note(rewrite)
-    }
-
-    /// Drops the second word of a command.
-    fn put_without_option(
-        &mut self,
-        scope: Scope<'f>,
-        command: &Command<ByteRange>,
-        rewrite: &Rewrite,
-    ) -> Result<(), AllocError> {
-        let places = places_of_words(self.alloc, scope.text, command)?;
-        let place = match &places {
-            Some(places) => match places.as_slice() {
-                [name, option, ..] => Some(ByteRange {
-                    start: name.end,
-                    end: option.end,
-                }),
-                _ => None,
-            },
-            None => None,
-        };
-        let Some(place) = place else {
-            return self.leave_command(scope, command);
-        };
-        self.piece.edits.push(Edit {
-            place: scope.range(place),
-            text: String::new(self.alloc),
-        })?;
-        self.note(rewrite)
     }
 
     /// Has a word of a command read later that is a script or an expression.
@@ -610,7 +565,7 @@ impl<'f> Reader<'f> {
     fn variable(&mut self, scope: Scope<'f>, name: ByteRange) -> Result<(), AllocError> {
         let word = plain_variable(name.of(scope.text));
         self.piece.asks = self.piece.asks || word == "env";
-        let is_foreign = FOREIGN_VARIABLES.iter().any(|other| *other == word);
+        let is_foreign = FOREIGN_VARIABLES.split(' ').any(|other| other == word);
         if is_foreign && !self.is_computed(scope, name.start) {
             self.leave(scope.place(name.start), word)?;
         }
@@ -697,10 +652,7 @@ impl<'f> Reader<'f> {
         let alloc = self.alloc;
         match words {
             [Some("set"), Some(name), value] => {
-                let value = match *value {
-                    Some(value) => Some(String::from_str(alloc, value)?),
-                    None => None,
-                };
+                let value = copied(alloc, *value)?;
                 self.known.set(alloc, name, value)
             }
             [Some("setenv"), Some(name), Some(value)] => {

@@ -1,7 +1,11 @@
 //! What is written for a command, and what is said of that.
 
 use crate::class::{Class, Outcome};
+use crate::pieces::Edit;
+use crate::records::written;
+use modulefile::Record;
 use std::alloc::{AllocError, Global};
+use tcltext::script::ByteRange;
 
 /// A case in which what is written for a command does something else.
 #[derive(Clone, Copy, Debug, PartialEq, Eq)]
@@ -44,15 +48,8 @@ pub(crate) struct WordText {
 pub(crate) enum Rewrite {
     /// The command.
     Keep,
-    /// That of each of some lists one module is needed; and what differs.
-    Needs(Vec<Vec<String>>, Option<Case>),
-    /// By this command, that directories are searched.
-    Searches(&'static str, Vec<String>),
-    /// That a module is in a family: the family, the module without its version, and the names that it is in conflict
-    /// with.
-    Family(String, String, Vec<String>),
-    /// This folder of scripts, for an alias.
-    Script(String),
+    /// Commands that leave these records; and what differs.
+    Records(Vec<Record>, Option<Case>),
     /// The command with other words.
     Words(Vec<WordText>),
     /// The command without the option that is its second word; and what differs.
@@ -61,58 +58,11 @@ pub(crate) enum Rewrite {
     Left(String),
 }
 
-/// Adds words, each behind a space.
-fn push_words(text: &mut String, words: &[String]) -> Result<(), AllocError> {
-    for word in words {
-        text.push(' ')?;
-        text.push_str(word.as_str())?;
-    }
-    Ok(())
-}
-
-/// Adds a command of a front and words, on a line of its own where another is before it.
-fn push_command(text: &mut String, front: &str, words: &[String]) -> Result<(), AllocError> {
-    if !text.is_empty() {
-        text.push('\n')?;
-    }
-    text.push_str(front)?;
-    push_words(text, words)
-}
-
-/// Adds the commands by which one module of each list is needed.
-fn push_needs(text: &mut String, needs: &[Vec<String>]) -> Result<(), AllocError> {
-    for names in needs {
-        push_command(text, "prereq", names.as_slice())?;
-    }
-    Ok(())
-}
-
-/// Adds the commands by which a module is in a family.
-fn push_family(
-    alloc: Global,
-    text: &mut String,
-    family: &str,
-    module: &str,
-    conflicts: &[String],
-) -> Result<(), AllocError> {
-    if !conflicts.is_empty() {
-        push_command(text, "conflict", conflicts)?;
-    }
-    let mut name = String::from_str(alloc, family)?;
-    name.make_ascii_uppercase();
-    for front in ["setenv MODULES_FAMILY_", "setenv LMOD_FAMILY_"] {
-        let command = format!(in alloc; "{front}{name} {module}")?;
-        push_command(text, command.as_str(), &[])?;
-    }
-    Ok(())
-}
-
 impl Rewrite {
     /// What differs in what is written.
     fn case(&self) -> Option<Case> {
         match self {
-            Rewrite::Needs(_, case) | Rewrite::WithoutOption(case) => *case,
-            Rewrite::Script(_) => Some(Case::Script),
+            Rewrite::Records(_, case) | Rewrite::WithoutOption(case) => *case,
             _ => None,
         }
     }
@@ -137,29 +87,32 @@ impl Rewrite {
         }
     }
 
-    /// The commands that are written in place of the whole command, where they are others.
-    pub(crate) fn text(&self, alloc: Global) -> Result<Option<String>, AllocError> {
-        let mut text = String::new(alloc);
-        match self {
-            Rewrite::Needs(needs, _) => push_needs(&mut text, needs.as_slice())?,
-            Rewrite::Searches(command, directories) => {
-                push_command(&mut text, command, directories.as_slice())?;
+    /// The texts that are written for a command whose words stand at these places; none where it can't be written.
+    pub(crate) fn edits(
+        &self,
+        alloc: Global,
+        places: &[ByteRange],
+    ) -> Result<Option<Vec<Edit>>, AllocError> {
+        let mut edits = Vec::new(alloc);
+        match (self, places, places.last()) {
+            (Rewrite::Records(records, _), [first, ..], Some(last)) => {
+                let Some(text) = written(alloc, records.as_slice())? else {
+                    return Ok(None);
+                };
+                edits.push(Edit::between(first.start, last.end, text))?;
             }
-            Rewrite::Family(family, module, conflicts) => {
-                push_family(
-                    alloc,
-                    &mut text,
-                    family.as_str(),
-                    module.as_str(),
-                    conflicts.as_slice(),
-                )?;
+            (Rewrite::WithoutOption(_), [name, option, ..], _) => {
+                edits.push(Edit::between(name.end, option.end, String::new(alloc)))?;
             }
-            Rewrite::Script(folder) => {
-                push_command(&mut text, "prepend-path PATH ", &[])?;
-                text.push_str(folder.as_str())?;
+            (Rewrite::Words(texts), _, _) => {
+                for put in texts {
+                    if let Some(place) = places.get(put.word) {
+                        edits.push(Edit::between(place.start, place.end, put.text.clone()?))?;
+                    }
+                }
             }
             _ => return Ok(None),
         }
-        Ok(Some(text))
+        Ok(Some(edits))
     }
 }

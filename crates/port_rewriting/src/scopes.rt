@@ -35,6 +35,22 @@ pub struct Given<'g> {
     pub is_strict: bool,
 }
 
+impl Given<'_> {
+    /// What is known of a file of this kind of which nothing is said.
+    pub fn of_kind(kind: FileKind) -> Given<'static> {
+        Given {
+            kind,
+            site: None,
+            file: None,
+            host: &[],
+            scripts_folder: None,
+            one_version: None,
+            has_defaults: false,
+            is_strict: false,
+        }
+    }
+}
+
 /// Where a script stands in a file.
 #[derive(Clone, Copy, Debug)]
 pub(crate) struct Scope<'f> {

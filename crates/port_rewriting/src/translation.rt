@@ -8,10 +8,9 @@ ghost use Rattle.port_rewriting.specs.AccountViews.{pieces_view};
 use crate::aliases::ShellScript;
 use crate::class::{Class, Note, Outcome};
 use crate::names::is_plain;
-use crate::pieces::{PieceFindings, TranslatedPiece, written_piece};
+use crate::pieces::{PieceFindings, TextPart, TranslatedPiece, written_piece};
 use crate::reader::{NamedFamily, Reader};
 use crate::scopes::Given;
-use crate::symbols::constant_words;
 use port_reading::script_text::script_text;
 use std::alloc::{AllocError, AllocFailed, Global};
 use std::error::Error;
@@ -83,19 +82,6 @@ fn split_within(text: &[u8], length: usize) -> (&[u8], &[u8])
     }
 }
 
-/// Whether a command is a conflict with a name.
-fn conflicts(
-    alloc: Global,
-    text: &str,
-    command: &Command<ByteRange>,
-    name: &str,
-) -> Result<bool, AllocError> {
-    match constant_words(alloc, text, command)?.as_slice() {
-        ["conflict", names @ ..] => Ok(names.iter().any(|other| *other == name)),
-        _ => Ok(false),
-    }
-}
-
 /// Where the command of this number begins, or the end of the text behind the last.
 fn start_of(text: &str, commands: &[Command<ByteRange>], number: usize) -> usize {
     match commands.get(number) {
@@ -104,30 +90,25 @@ fn start_of(text: &str, commands: &[Command<ByteRange>], number: usize) -> usize
     }
 }
 
-/// What was found in the commands of a file.
-#[derive(Drop)]
-struct Findings {
-    /// What was found in each.
-    found: Vec<PieceFindings>,
-    /// Whether the file is in conflict with its own name in each load.
-    has_conflict: bool,
-}
-
 impl Reader<'_> {
-    /// Reads commands of the file.
-    fn read_all(&mut self, commands: &[Command<ByteRange>]) -> Result<Findings, AllocError> {
-        let mut findings = Findings {
-            found: Vec::new(self.alloc),
-            has_conflict: false,
-        };
+    /// Reads commands of the file, and gives what was found in each.
+    fn read_all(
+        &mut self,
+        commands: &[Command<ByteRange>],
+    ) -> Result<Vec<PieceFindings>, AllocError> {
+        let mut found = Vec::new(self.alloc);
         for command in commands {
-            let is_reached = self.is_straight;
-            let name = self.given.one_version.unwrap_or("");
-            let is_conflict = conflicts(self.alloc, self.text, command, name)?;
-            findings.has_conflict = findings.has_conflict || is_reached && is_conflict;
-            findings.found.push(self.read(command)?)?;
+            found.push(self.read(command)?)?;
         }
-        Ok(findings)
+        Ok(found)
+    }
+
+    /// The name that the file is to be in conflict with, where it isn't yet.
+    fn added_conflict(&self) -> Option<&str> {
+        match self.given.one_version {
+            Some(name) if !self.has_conflict && is_plain(name) => Some(name),
+            _ => None,
+        }
     }
 }
 
@@ -193,10 +174,13 @@ impl<'f> PiecesSoFar<'f> {
         ensures { OnOk result ((file : Text) → Accounts file (pieces_view self.old.pieces.items) self.old.rest.now
             → Accounts file (pieces_view self.new.pieces.items) self.new.rest.now) }
     {
-        let place = ByteRange { start, end };
         let (was, rest) = split_within(self.rest, end.saturating_sub(start));
-        let piece = written_piece(alloc, text, was, place, self.line, found)?;
-        self.pieces.push(piece)?;
+        let part = TextPart {
+            text,
+            place: ByteRange { start, end },
+            line: self.line,
+        };
+        self.pieces.push(written_piece(alloc, part, was, found)?)?;
         self.line = self.line.saturating_add(lines_in(was));
         self.rest = rest;
         Ok(())
@@ -249,9 +233,7 @@ fn pieces_of(
 fn class_of(pieces: &[TranslatedPiece]) -> Class {
     let mut class = Class::Same;
     for piece in pieces {
-        for note in &piece.notes {
-            class = class.and(note.outcome.class());
-        }
+        class = class.with(piece.notes.as_slice());
     }
     class
 }
@@ -265,16 +247,6 @@ fn text_of(alloc: Global, pieces: &[TranslatedPiece]) -> Result<Vec<u8>, AllocEr
         text.extend_from_slice(piece.text.as_slice())?;
     }
     Ok(text)
-}
-
-/// The name that a file is to be in conflict with, where it isn't yet.
-fn added_conflict<'g>(name: Option<&'g str>, findings: &Findings) -> Option<&'g str> {
-    match name {
-        Some(name) if !findings.has_conflict && is_plain(name) && !findings.found.is_empty() => {
-            Some(name)
-        }
-        _ => None,
-    }
 }
 
 /// What is written for a file of this script.
@@ -291,9 +263,13 @@ fn translated(
     let mut reader = Reader::new(alloc, given, text);
     reader.find_procedures(script)?;
     let commands = script.commands.as_slice();
-    let findings = reader.read_all(commands)?;
-    let added = added_conflict(given.one_version, &findings);
-    let pieces = pieces_of(alloc, text, commands, findings.found, added)?;
+    let found = reader.read_all(commands)?;
+    let added = if commands.is_empty() {
+        None
+    } else {
+        reader.added_conflict()
+    };
+    let pieces = pieces_of(alloc, text, commands, found, added)?;
     let bytes = text_of(alloc, pieces.as_slice())?;
     let Some(written) = script_text(alloc, bytes)? else {
         return Err(TranslationFault::Written);

@@ -93,8 +93,6 @@ fn with_newlines(alloc: Global, text: &str) -> Result<String, AllocError> {
 }
 
 /// The text of a file of these bytes, and how it was written.
-///
-/// The error: want of memory.
 pub fn file_text(alloc: Global, bytes: &[u8]) -> Result<FileText, AllocError> {
     let rest = unmarked(bytes);
     let whole = in_utf8(alloc, rest)?;

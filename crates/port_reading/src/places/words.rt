@@ -38,8 +38,6 @@ pub fn constant<'t>(text: &'t str, word: &Word<ByteRange>) -> Option<ConstantWor
 }
 
 /// Where the words of a command stand, with their braces and quotes; none where one stands elsewhere than the tree has it.
-///
-/// The error: want of memory.
 pub fn places_of_words(
     alloc: Global,
     text: &str,

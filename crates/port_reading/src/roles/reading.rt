@@ -146,8 +146,6 @@ fn roles_behind(
 }
 
 /// The roles of the words of a command, of which the first names it, where they are known.
-///
-/// The error: want of memory.
 pub fn roles_of(alloc: Global, words: &[Option<&str>]) -> Result<Vec<Role>, AllocError> {
     let mut roles = Vec::new(alloc);
     if let [first, others @ ..] = words {

@@ -47,8 +47,6 @@ fn text_of(bytes: Vec<u8>) -> Option<String>
 }
 
 /// These bytes as text, where they are a script.
-///
-/// The error: want of memory.
 #[tactic(auto, using(crate::proofs::script_text::Scripts::no_script, crate::proofs::script_text::Scripts::parsed))]
 pub fn script_text(alloc: Global, bytes: Vec<u8>) -> Result<Option<String>, AllocError>
     // The bytes are handed back as they are, or they are no script.
