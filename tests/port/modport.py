@@ -412,8 +412,8 @@ def test_tree(folder):
     ends(
         folder,
         [old, new],
-        f"{at}/zlib/README: left out: no modulefile\n{at}/zlib/new: translated: link to 1\n"
-        f"{at}/gcc/12:2: translated: module load zlib\n",
+        f"{at}/gcc/12:2: translated: module load zlib\n{at}/zlib/README: left out: no modulefile\n"
+        f"{at}/zlib/new: translated: link to 1\n",
         "",
         0,
     )

@@ -1,1 +1,2 @@
+pub mod file_text
 pub mod script_text

@@ -2,7 +2,7 @@
 use Rattle.std.proofs.Common.{◌≡◌, ℕ, Bool, true, false, List, [], ◌∷◌, ◌++◌, take, drop, refl, sym, ap, ◌∙◌, append_assoc, append-nil}
 use Rattle.std.proofs.lemmas.List.{flat_map_more, take-append-drop}
 use Rattle.tcltext.specs.chars.Runs.{Text}
-use Rattle.port_rewriting.specs.Accounts.{Accounts, AreFor, Piece, Stays, joined}
+use Rattle.port_rewriting.specs.Accounts.{Accounts, AreFor, AreUnsaid, Piece, Stays, joined, written}
 
 pub one_more : (parts : List Text) (pieces : List Piece) (part : Text) (p : Piece) → AreFor parts pieces → Stays part p
     → AreFor (parts ++ part ∷ []) (pieces ++ p ∷ [])
@@ -44,3 +44,14 @@ put_between pieces p rest e text h = grown text rest [] rest pieces p h refl (λ
 pub ended : (rest : Text) (pieces : List Piece) (p : Piece) → p.text ≡ rest → (text : Text) → Accounts text pieces rest
     → Accounts text (pieces ++ p ∷ []) []
 ended rest pieces p e text h = grown text rest rest [] pieces p h (append-nil rest) (λ (unsaid : p.is_said ≡ false). e)
+
+same : (parts : List Text) (pieces : List Piece) → AreFor parts pieces → AreUnsaid pieces → written pieces ≡ joined parts
+same [] [] h u = refl
+same [] (q ∷ pieces) h u = absurd h
+same (part ∷ parts) [] h u = absurd h
+same (part ∷ parts) (p ∷ pieces) h u =
+    ap (λ (t : Text). t ++ written pieces) (h.0 u.0) ∙ ap (λ (t : Text). part ++ t) (same parts pieces h.1 u.1)
+
+-- a text of which nothing is said stays
+pub unsaid : (text : Text) (pieces : List Piece) → Accounts text pieces [] → AreUnsaid pieces → written pieces ≡ text
+unsaid text pieces h u = same h.0 pieces h.1.0 u ∙ (sym (append-nil (joined h.0)) ∙ h.1.1)

@@ -26,6 +26,11 @@ joined parts = flat_map (λ part. part) parts
 abbrev pub Accounts : Text → List Piece → Text → Type 0
 Accounts text pieces rest = (parts : List Text) × AreFor parts pieces × (joined parts ++ rest ≡ text)
 
+-- nothing is said of any part
+abbrev pub AreUnsaid : List Piece → Type 0
+AreUnsaid [] = Unit {0}
+AreUnsaid (p ∷ pieces) = (p.is_said ≡ false) × AreUnsaid pieces
+
 -- what is written
 abbrev pub written : List Piece → Text
 written pieces = flat_map (λ p. p.text) pieces

@@ -1,2 +1,9 @@
 pub mod AccountViews
 pub mod Accounts
+pub mod Classes
+pub mod Families
+pub mod FamilyViews
+pub mod Leaving
+pub mod LookingInto
+pub mod Meanings
+pub mod RecordViews

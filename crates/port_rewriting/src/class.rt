@@ -1,4 +1,6 @@
 //! What becomes of the commands of a file, and what is said of them.
+ghost use Rattle.std.specs.Prelude.{◌≡◌};
+ghost use Rattle.port_rewriting.specs.Classes.{told, worse, worst};
 
 /// How a command is written, from the best to the worst.
 #[derive(Clone, Copy, Debug, PartialEq, Eq)]
@@ -14,22 +16,15 @@ pub enum Class {
 }
 
 impl Class {
-    /// The rank of the class: the worse it is, the greater.
-    fn rank(self) -> u8 {
-        match self {
-            Class::Same => 0,
-            Class::Exact => 1,
-            Class::Changed => 2,
-            Class::Left => 3,
-        }
-    }
-
     /// The worse of two.
-    pub fn and(self, other: Class) -> Class {
-        if self.rank() < other.rank() {
-            other
-        } else {
-            self
+    pub fn and(self, other: Class) -> Class
+        ensures { result ≡ worse self other }
+    {
+        match (self, other) {
+            (Class::Left, _) | (_, Class::Left) => Class::Left,
+            (Class::Changed, _) | (_, Class::Changed) => Class::Changed,
+            (Class::Exact, _) | (_, Class::Exact) => Class::Exact,
+            _ => Class::Same,
         }
     }
 }
@@ -55,7 +50,9 @@ pub enum Outcome {
 
 impl Outcome {
     /// The class of the command that the note is on.
-    pub fn class(&self) -> Class {
+    pub fn class(&self) -> Class
+        ensures { result ≡ told self.now }
+    {
         match self {
             Outcome::Translated
             | Outcome::Computed(_)
@@ -81,7 +78,9 @@ pub struct Note {
 
 impl Class {
     /// The worst of it and those of some notes.
-    pub fn with(self, notes: &[Note]) -> Class {
+    pub fn with(self, notes: &[Note]) -> Class
+        ensures { result ≡ worst self notes.now }
+    {
         let mut class = self;
         for note in notes {
             class = class.and(note.outcome.class());

@@ -137,7 +137,7 @@ impl<'f> Reader<'f> {
         let Some(lists) = self.all_asked(ask, names)? else {
             return Ok(None);
         };
-        let records = each_needed(self.alloc, lists)?;
+        let records = each_needed(self.alloc, lists.as_slice())?;
         Ok(Some(Rewrite::Records(records, self.case_of(ask))))
     }
 
@@ -146,7 +146,7 @@ impl<'f> Reader<'f> {
         let Some(lists) = self.all_asked(Ask::Need, names)? else {
             return Ok(None);
         };
-        let records = any_needed(self.alloc, lists)?;
+        let records = any_needed(self.alloc, lists.as_slice())?;
         Ok(Some(Rewrite::Records(records, None)))
     }
 

@@ -1,4 +1,6 @@
 //! Guards: an `if` that does nothing but load modules and write messages, and the modules that it loads.
+ghost use Rattle.std.specs.Prelude.{◌≡◌, IfSome, IsTrue, map};
+ghost use Rattle.port_rewriting.specs.RecordViews.{shown};
 
 use crate::conditions::{Condition, condition_of};
 use crate::symbols::constant_words;
@@ -34,9 +36,11 @@ fn loads_of<'t>(alloc: Global, body: &'t str) -> Result<Option<Vec<&'t str>>, Al
     }
 }
 
-/// Whether a condition fits what the bodies behind it load: in any load, or the one module that isn't loaded; of two,
-/// both load the same.
-fn fits(condition: Condition, loads: &[&str], others: Option<&[&str]>) -> bool {
+/// Whether a condition fits what the bodies behind it load: in any load, or the one module that isn't loaded.
+fn fits(condition: Condition, loads: &[&str], others: Option<&[&str]>) -> bool
+    // Of two bodies both load the same.
+    ensures { IsTrue result → IfSome others.entry (λ o. map shown loads.now ≡ map shown o.now) }
+{
     match (condition, loads, others) {
         (Condition::Loading, [_, ..], None) => true,
         (Condition::Unloaded(name), [other], None) => name == *other,

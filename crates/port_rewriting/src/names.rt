@@ -1,4 +1,9 @@
 //! What names mean among the modules of a site: there, by versions, symbols and families; and here.
+ghost use Rattle.std.specs.Prelude.{◌≡◌, ◌≢◌, IfOk, IfSome, IsTrue, true, map, string_bytes};
+ghost use Rattle.port_rewriting.specs.Families as spec;
+ghost use Rattle.port_rewriting.specs.Families.{is_member, ExcludesOthers};
+ghost use Rattle.port_rewriting.specs.FamilyViews.{members_view};
+ghost use Rattle.port_rewriting.specs.RecordViews.{texts_in};
 
 use crate::symbols::VersionSymbol;
 use modulename::means;
@@ -82,6 +87,13 @@ pub(crate) fn is_among(texts: &[String], text: &str) -> bool {
     texts.iter().any(|other| other.as_str() == text)
 }
 
+/// Whether one of the names means a module.
+fn is_excluded(names: &[String], module: &str) -> bool
+    ensures { result ≡ spec.is_excluded (map string_bytes names.now) module.now }
+{
+    names.iter().any(|name| means(name.as_str(), module))
+}
+
 /// Adds a name, unless it is there.
 fn add_once(alloc: Global, names: &mut Vec<String>, name: &str) -> Result<(), AllocError> {
     if !is_among(names.as_slice(), name) {
@@ -130,7 +142,9 @@ impl Site {
     }
 
     /// Whether a name means a module there as the name of a family.
-    fn is_family_of(&self, name: &str, module: &str) -> bool {
+    fn is_family_of(&self, name: &str, module: &str) -> bool
+        ensures { result ≡ is_member (members_view self.now.members.items) name.now module.now }
+    {
         self.members.iter().any(|member| member.module.as_str() == module
             && member.family.as_str() == name)
     }
@@ -220,24 +234,29 @@ impl Site {
         }
     }
 
-    /// The modules that a member of a family is in conflict with: the other members, and those of the family's name.
-    fn others_of(&self, alloc: Global, family: &str, own: &str) -> Result<Vec<String>, AllocError> {
-        let mut others = Vec::new(alloc);
-        for module in &self.modules {
-            let module = module.as_str();
-            if module != own && (means(family, module) || self.is_family_of(family, module)) {
-                add_once(alloc, &mut others, module)?;
-            }
-        }
-        Ok(others)
+    /// Whether a member of a family is in conflict with a module: another member, or one of the family's name.
+    fn is_rival(&self, family: &str, own: &str, rival: &str) -> bool
+        ensures { rival.now ≢ own.now → is_member (members_view self.now.members.items) family.now rival.now ≡ true
+            → IsTrue result }
+    {
+        rival != own && (means(family, rival) || self.is_family_of(family, rival))
     }
 
-    /// Whether each module below a name, but for one's own, is among some.
-    fn is_all_among(&self, name: &str, own: &str, some: &[String]) -> bool {
+    /// Whether all that is below a folder, but for a member of a family, are its rivals.
+    fn are_rivals(&self, family: &str, own: &str, folder: &str) -> bool {
         self.modules.iter().all(|module| {
             let module = module.as_str();
-            !means(name, module) || module == own || is_among(some, module)
+            !means(folder, module) || module == own || self.is_rival(family, own, module)
         })
+    }
+
+    /// The name by which a rival of a member of a family is excluded: that of its folder, where all below that are rivals,
+    /// or its own.
+    fn rival_name<'m>(&self, family: &str, own: &str, rival: &'m str) -> &'m str {
+        match rival.rsplit_once('/') {
+            Some((folder, _)) if self.are_rivals(family, own, folder) => folder,
+            _ => rival,
+        }
     }
 
     /// The names that a member of a family is in conflict with; none where not all is known.
@@ -246,21 +265,24 @@ impl Site {
         alloc: Global,
         family: &str,
         own: &str,
-    ) -> Result<Option<Vec<String>>, AllocError> {
+    ) -> Result<Option<Vec<String>>, AllocError>
+        // Each other member is excluded by one of them.
+        ensures { IfOk result (λ found. IfSome found (λ names. ExcludesOthers (members_view self.now.members.items)
+            (texts_in self.now.modules) family.now own.now (texts_in names))) }
+    {
+        let mut names = Vec::new(alloc);
         if self.is_unsure(family) {
             return Ok(None);
         }
-        let others = self.others_of(alloc, family, own)?;
-        let mut names = Vec::new(alloc);
-        for other in &others {
-            let name = match other.as_str().rsplit_once('/') {
-                Some((folder, _)) if self.is_all_among(folder, own, others.as_slice()) => folder,
-                _ => other.as_str(),
-            };
-            if !is_plain(name) {
-                return Ok(None);
+        for module in &self.modules {
+            let module = module.as_str();
+            if self.is_rival(family, own, module) && !is_excluded(names.as_slice(), module) {
+                let name = self.rival_name(family, own, module);
+                if !is_plain(name) || !means(name, module) {
+                    return Ok(None);
+                }
+                names.push(String::from_str(alloc, name)?)?;
             }
-            add_once(alloc, &mut names, name)?;
         }
         Ok(Some(names))
     }

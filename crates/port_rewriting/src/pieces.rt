@@ -1,5 +1,5 @@
 //! The pieces of a file: what is written for each command, with what stands behind it, and the notes on it.
-ghost use Rattle.std.specs.Prelude.{IfOk};
+ghost use Rattle.std.specs.Prelude.{IfOk, IsSome};
 ghost use Rattle.port_rewriting.specs.Accounts.{Stays};
 ghost use Rattle.port_rewriting.specs.AccountViews.{piece_view};
 
@@ -92,7 +92,9 @@ impl PieceFindings {
     }
 
     /// Notes that what stands at a place isn't read here; the first counts.
-    pub(crate) fn leave(&mut self, place: usize, said: String) {
+    pub(crate) fn leave(&mut self, place: usize, said: String)
+        ensures { IsSome self.new.left }
+    {
         let is_first = match &self.left {
             Some(left) => place < left.place,
             None => true,

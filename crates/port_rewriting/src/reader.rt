@@ -1,4 +1,6 @@
 //! The reading of a file: each command once, wherever a script can begin.
+ghost use Rattle.std.specs.Prelude.{IsSome, OnOk};
+ghost use Rattle.port_rewriting.specs.LookingInto.{IsLookedInto};
 
 use crate::aliases::ShellScript;
 use crate::pieces::{Edit, PieceFindings};
@@ -288,7 +290,9 @@ impl<'f> Reader<'f> {
     }
 
     /// Notes that something at a place isn't read here, by what is said of it.
-    fn leave(&mut self, place: usize, said: &str) -> Result<(), AllocError> {
+    fn leave(&mut self, place: usize, said: &str) -> Result<(), AllocError>
+        ensures { OnOk result (IsSome self.new.piece.left) }
+    {
         let said = String::from_str(self.alloc, said)?;
         self.piece.leave(place, said);
         Ok(())
@@ -305,7 +309,9 @@ impl<'f> Reader<'f> {
         &mut self,
         scope: Scope<'f>,
         command: &Command<ByteRange>,
-    ) -> Result<(), AllocError> {
+    ) -> Result<(), AllocError>
+        ensures { OnOk result (IsSome self.new.piece.left) }
+    {
         self.piece.does_more = true;
         let start = command.source.start;
         self.leave(scope.place(start), first_line(scope.text, start))
@@ -488,7 +494,10 @@ impl<'f> Reader<'f> {
         command: &Command<ByteRange>,
         role: Role,
         word: Option<ConstantWord<'f>>,
-    ) -> Result<(), AllocError> {
+    ) -> Result<(), AllocError>
+        ensures { OnOk result
+            (IsLookedInto role word.entry self.old.queue.items self.new.queue.items self.new.piece.left) }
+    {
         match (role, word) {
             (Role::Value, _) | (Role::Expression, None) => Ok(()),
             (_, None) => self.leave_command(scope, command),

@@ -1,4 +1,9 @@
 //! Records as commands: their text, which is read again as the evaluator reads it.
+ghost use Rattle.std.specs.Prelude.{◌≡◌, IfOk, IfSome, IsTrue, map, string_bytes};
+ghost use Rattle.modulefile.specs.RecordViews.{record_view};
+ghost use Rattle.tcltext.specs.script.View.{command_view, word_view};
+ghost use Rattle.port_rewriting.specs.Leaving.{plain, HasRecord, Leave, Leaves};
+ghost use Rattle.port_rewriting.specs.RecordViews.{records_view, shown, texts_in, AreTexts, commands_view};
 
 use modulefile::{Call, CallFault, Record, call_of};
 use std::alloc::{AllocError, Global};
@@ -42,16 +47,16 @@ fn push_record(alloc: Global, text: &mut String, record: &Record) -> Result<(), 
 }
 
 /// Whether both have the same texts in the same order.
-fn same_texts(one: &[String], other: &[String]) -> bool {
-    one.len() == other.len()
-        && one
-            .iter()
-            .zip(other)
-            .all(|(text, another)| text.as_str() == another.as_str())
+fn same_texts(one: &[String], other: &[String]) -> bool
+    ensures { IsTrue result → map string_bytes one.now ≡ map string_bytes other.now }
+{
+    one == other
 }
 
 /// Whether two records are the same, of the kinds that are written.
-fn same_record(one: &Record, other: &Record) -> bool {
+fn same_record(one: &Record, other: &Record) -> bool
+    ensures { IsTrue result → record_view one.now ≡ record_view other.now }
+{
     match (one, other) {
         (Record::Prereq(names), Record::Prereq(others)) => same_texts(names, others),
         (Record::Conflict(names), Record::Conflict(others)) => same_texts(names, others),
@@ -86,17 +91,21 @@ fn same_record(one: &Record, other: &Record) -> bool {
 }
 
 /// The text that a word is, where nothing is substituted in it.
-fn text_of<'t>(word: &Word<&'t str>) -> Option<&'t str> {
+fn text_of<'t>(word: &Word<&'t str>) -> Option<&'t str>
+    ensures { IfSome result (λ text. word_view shown word.now ≡ plain text.now) }
+{
     match &word.content {
         WordContent::Bare(text) if !word.expands => Some(*text),
         _ => None,
     }
 }
 
-/// The words of a command, where each is a text.
-fn texts_of(alloc: Global, command: &Command<&str>) -> Result<Option<Vec<String>>, AllocError> {
+/// The texts that words are, where each is one.
+fn texts_of(alloc: Global, words: &[Word<&str>]) -> Result<Option<Vec<String>>, AllocError>
+    ensures { IfOk result (λ found. IfSome found (λ texts. AreTexts words.now (texts_in texts))) }
+{
     let mut texts = Vec::new(alloc);
-    for word in &command.words {
+    for word in words {
         match text_of(word) {
             Some(text) => texts.push(String::from_str(alloc, text)?)?,
             None => return Ok(None),
@@ -106,12 +115,15 @@ fn texts_of(alloc: Global, command: &Command<&str>) -> Result<Option<Vec<String>
 }
 
 /// Whether a command leaves a record.
-fn leaves(alloc: Global, command: &Command<&str>, record: &Record) -> Result<bool, AllocError> {
-    let Some(words) = texts_of(alloc, command)? else {
+#[tactic(auto, using(crate::proofs::Reading::called_for))]
+fn leaves(alloc: Global, command: &Command<&str>, wanted: &Record) -> Result<bool, AllocError>
+    ensures { IfOk result (λ b. IsTrue b → HasRecord (command_view shown command.now).words (record_view wanted.now)) }
+{
+    let Some(words) = texts_of(alloc, command.words.as_slice())? else {
         return Ok(false);
     };
     match call_of(alloc, words.as_slice()) {
-        Ok(Call::Adds(found)) => Ok(same_record(&found, record)),
+        Ok(Call::Adds(found)) => Ok(same_record(&found, wanted)),
         Err(CallFault::OutOfMemory) => Err(AllocError),
         _ => Ok(false),
     }
@@ -122,28 +134,41 @@ fn all_leave(
     alloc: Global,
     commands: &[Command<&str>],
     records: &[Record],
-) -> Result<bool, AllocError> {
-    if commands.len() != records.len() {
-        return Ok(false);
-    }
-    for (command, record) in commands.iter().zip(records) {
-        if !leaves(alloc, command, record)? {
-            return Ok(false);
+) -> Result<bool, AllocError>
+    ensures { IfOk result (λ b. IsTrue b → Leave (commands_view commands.now) (records_view records.now)) }
+{
+    match (commands, records) {
+        ([], []) => Ok(true),
+        ([command, commands @ ..], [record, records @ ..]) => {
+            Ok(leaves(alloc, command, record)? && all_leave(alloc, commands, records)?)
         }
+        _ => Ok(false),
     }
-    Ok(true)
+}
+
+/// Whether the commands of a text leave these records.
+#[tactic(auto, using(crate::proofs::Reading::script_leaves))]
+fn is_read_as(alloc: Global, text: &str, records: &[Record]) -> Result<bool, AllocError>
+    ensures { IfOk result (λ b. IsTrue b → Leaves text.now (records_view records.now)) }
+{
+    match parse_script(alloc, text) {
+        Ok(script) => all_leave(alloc, script.commands.as_slice(), records),
+        Err(TextFault::OutOfMemory) => Err(AllocError),
+        Err(_) => Ok(false),
+    }
 }
 
 /// The text of commands that leave these records; none where it would be read in another way.
-pub(crate) fn written(alloc: Global, records: &[Record]) -> Result<Option<String>, AllocError> {
+pub(crate) fn written(alloc: Global, records: &[Record]) -> Result<Option<String>, AllocError>
+    ensures { IfOk result (λ found. IfSome found (λ text. Leaves (string_bytes text) (records_view records.now))) }
+{
     let mut text = String::new(alloc);
     for record in records {
         push_record(alloc, &mut text, record)?;
     }
-    let is_read = match parse_script(alloc, text.as_str()) {
-        Ok(script) => all_leave(alloc, script.commands.as_slice(), records)?,
-        Err(TextFault::OutOfMemory) => return Err(AllocError),
-        Err(_) => false,
-    };
-    Ok(if is_read { Some(text) } else { None })
+    if is_read_as(alloc, text.as_str(), records)? {
+        Ok(Some(text))
+    } else {
+        Ok(None)
+    }
 }

@@ -2,7 +2,8 @@
 ghost use Rattle.std.specs.Prelude.{◌≡◌, [], ◌++◌, take, drop, IfOk, OnOk, string_bytes};
 ghost use Rattle.tcltext.specs.chars.Runs.{Text};
 ghost use Rattle.port_reading.specs.script_text.ScriptTexts.{Parses};
-ghost use Rattle.port_rewriting.specs.Accounts.{Accounts, written};
+ghost use Rattle.port_rewriting.specs.Accounts.{Accounts, AreUnsaid, written};
+ghost use Rattle.port_rewriting.specs.Classes.{worst_of_pieces};
 ghost use Rattle.port_rewriting.specs.AccountViews.{pieces_view};
 
 use crate::aliases::ShellScript;
@@ -230,7 +231,9 @@ fn pieces_of(
 }
 
 /// The class of the worst of some pieces.
-fn class_of(pieces: &[TranslatedPiece]) -> Class {
+fn class_of(pieces: &[TranslatedPiece]) -> Class
+    ensures { result ≡ worst_of_pieces Class.Same pieces.now }
+{
     let mut class = Class::Same;
     for piece in pieces {
         class = class.with(piece.notes.as_slice());
@@ -259,6 +262,7 @@ fn translated(
     ensures accounts { IfOk result (λ t. Accounts text.now (pieces_view t.pieces.items) []) }
     ensures joined { IfOk result (λ t. string_bytes t.text ≡ written (pieces_view t.pieces.items)) }
     ensures parses { IfOk result (λ t. Parses (string_bytes t.text)) }
+    ensures worst { IfOk result (λ t. t.class ≡ worst_of_pieces Class.Same t.pieces.items) }
 {
     let mut reader = Reader::new(alloc, given, text);
     reader.find_procedures(script)?;
@@ -291,6 +295,7 @@ fn translated(
 /// What is written for a file, by what is known of it.
 ///
 /// The errors: it is no script, or what would be written is none; want of memory.
+#[tactic(auto, using(crate::proofs::Accounting::unsaid))]
 pub fn translate(alloc: Global, given: Given, text: &str) -> Result<Translation, TranslationFault>
     // The file is cut into parts, and one on which there is no note is written as it is.
     ensures accounts { IfOk result (λ t. Accounts text.now (pieces_view t.pieces.items) []) }
@@ -298,8 +303,14 @@ pub fn translate(alloc: Global, given: Given, text: &str) -> Result<Translation,
     // What is written are the pieces, one behind the other.
     ensures joined { IfOk result (λ t. string_bytes t.text ≡ written (pieces_view t.pieces.items)) }
 
+    // A file of which nothing is said is written as it is.
+    ensures unsaid { IfOk result (λ t. AreUnsaid (pieces_view t.pieces.items) → string_bytes t.text ≡ text.now) }
+
     // It is a script again.
     ensures parses { IfOk result (λ t. Parses (string_bytes t.text)) }
+
+    // Its class is that of the worst of what is said.
+    ensures worst { IfOk result (λ t. t.class ≡ worst_of_pieces Class.Same t.pieces.items) }
 {
     match parse_pieces(alloc, &text) {
         Ok(script) => translated(alloc, given, text, &script),

@@ -1,10 +1,9 @@
 //! The text of a file, and how it was written.
+ghost use Rattle.std.specs.Prelude.{◌≡◌, IfOk, string_bytes};
+ghost use Rattle.port_reading.specs.file_text.FileTexts.{IsPlain};
 
 use std::alloc::{AllocError, Global};
 use std::str;
-
-/// The byte order mark, in UTF-8.
-const MARK: [u8; 3] = [0xEF, 0xBB, 0xBF];
 
 /// The text of a file, and how it was written.
 #[derive(Debug, Drop)]
@@ -28,7 +27,7 @@ pub struct SourceEncoding {
     pub lone_returns: bool,
 }
 
-/// The bytes without a byte order mark.
+/// The bytes without a byte order mark in UTF-8.
 fn unmarked(bytes: &[u8]) -> &[u8] {
     match bytes {
         [0xEF, 0xBB, 0xBF, rest @ ..] => rest,
@@ -93,12 +92,15 @@ fn with_newlines(alloc: Global, text: &str) -> Result<String, AllocError> {
 }
 
 /// The text of a file of these bytes, and how it was written.
-pub fn file_text(alloc: Global, bytes: &[u8]) -> Result<FileText, AllocError> {
+pub fn file_text(alloc: Global, bytes: &[u8]) -> Result<FileText, AllocError>
+    // A file that wasn't written in another way is its text, byte for byte.
+    ensures { IfOk result (λ f. IsPlain f.source → string_bytes f.text ≡ bytes.now) }
+{
     let rest = unmarked(bytes);
     let whole = in_utf8(alloc, rest)?;
     let text = with_newlines(alloc, whole.as_str())?;
     let source = SourceEncoding {
-        mark: bytes.starts_with(&MARK),
+        mark: rest != bytes,
         latin: whole.as_bytes() != rest,
         returns: text.as_str() != whole.as_str(),
         lone_returns: text.as_str().contains('\r'),
