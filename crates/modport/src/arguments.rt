@@ -26,20 +26,12 @@ pub(crate) struct TreePaths {
     pub to: Option<String>,
 }
 
-/// What is asked for.
+/// What options ask for.
 #[derive(Debug, Drop)]
-pub(crate) struct PortArguments {
-    /// What is translated, and where it is written.
-    pub target: PortTarget,
-    /// How it is translated.
-    pub manner: Manner,
-    /// What is said besides.
-    pub said: ParsedArguments,
-}
-
-/// How modulefiles are translated.
-#[derive(Clone, Copy, Debug)]
-pub(crate) struct Manner {
+pub(crate) struct PortOptions {
+    help: bool,
+    stdin: bool,
+    check: bool,
     /// Whether each line of the report is JSON.
     pub json: bool,
     /// Whether each modulefile is to be in conflict with its own name.
@@ -48,14 +40,9 @@ pub(crate) struct Manner {
     pub alias_scripts: bool,
     /// Whether a command is left where something would differ.
     pub strict: bool,
-}
-
-/// What the words behind options say.
-#[derive(Debug, Drop)]
-pub(crate) struct ParsedArguments {
-    /// Of the host that the modulefiles are for.
+    /// What is said of the host that the modulefiles are for.
     pub host: NamedValues,
-    /// Of the person in whose environment modulefiles were loaded.
+    /// What is said of the person in whose environment modulefiles were loaded.
     pub kept: NamedValues,
     /// The path of what was loaded.
     pub records: Option<String>,
@@ -63,97 +50,77 @@ pub(crate) struct ParsedArguments {
     pub defaults: Option<String>,
 }
 
-/// An option behind which a word says something.
-#[derive(Clone, Copy)]
-enum OptionWithValue {
-    /// `--host`
-    HostNames,
-    /// `--kept`
-    KeptValues,
-    /// `--flatten`
-    Records,
-    /// `--defaults`
-    Defaults,
-}
-
 /// Sets a path that isn't there yet.
 ///
 /// The errors: want of memory; one is there.
-fn set_once(alloc: Global, path: &mut Option<String>, word: &str) -> Result<(), PortFault> {
+fn set_once(path: &mut Option<String>, word: String) -> Result<(), PortFault> {
     if path.is_some() {
         return Err(PortFault::Usage);
     }
-    *path = Some(String::from_str(alloc, word)?);
+    *path = Some(word);
     Ok(())
 }
 
-impl ParsedArguments {
-    /// Adds what a word says behind an option.
-    ///
-    /// The errors: want of memory; it says nothing, or what is said already.
-    fn add(&mut self, alloc: Global, option: OptionWithValue, word: &str) -> Result<(), PortFault> {
-        match option {
-            OptionWithValue::HostNames => self.host.add(alloc, Named::Host, word),
-            OptionWithValue::KeptValues => self.kept.add(alloc, Named::Person, word),
-            OptionWithValue::Records => set_once(alloc, &mut self.records, word),
-            OptionWithValue::Defaults => set_once(alloc, &mut self.defaults, word),
+impl PortOptions {
+    /// Those of a command line without options.
+    fn new(alloc: Global) -> PortOptions {
+        PortOptions {
+            help: false,
+            stdin: false,
+            check: false,
+            json: false,
+            one_version: false,
+            alias_scripts: false,
+            strict: false,
+            host: NamedValues::new(alloc),
+            kept: NamedValues::new(alloc),
+            records: None,
+            defaults: None,
         }
     }
-}
 
-/// Which options stand before the paths.
-#[derive(Clone, Copy)]
-struct Options {
-    help: bool,
-    stdin: bool,
-    check: bool,
-    manner: Manner,
-    /// The last word, where one stands behind it that says something.
-    telling: Option<OptionWithValue>,
-    /// Whether a word was `--`, behind which no word is an option.
-    ended: bool,
-}
-
-impl Options {
-    /// Whether the word is an option, which is noted.
+    /// Adds an option, or gives the one behind which a word is to follow.
     ///
-    /// The error: it begins as one, and is none.
-    fn take(&mut self, word: &str) -> Result<bool, PortFault> {
-        if self.ended || !word.starts_with('-') {
-            return Ok(false);
-        }
+    /// The error: there is no such option.
+    fn add(&mut self, word: &str) -> Result<Option<&'static str>, PortFault> {
         match word {
             "--help" => self.help = true,
             "--stdin" => self.stdin = true,
             "--check" => self.check = true,
-            "--json" => self.manner.json = true,
-            "--one-version" => self.manner.one_version = true,
-            "--alias-scripts" => self.manner.alias_scripts = true,
-            "--strict" => self.manner.strict = true,
-            "--host" => self.telling = Some(OptionWithValue::HostNames),
-            "--kept" => self.telling = Some(OptionWithValue::KeptValues),
-            "--flatten" => self.telling = Some(OptionWithValue::Records),
-            "--defaults" => self.telling = Some(OptionWithValue::Defaults),
-            "--" => self.ended = true,
+            "--json" => self.json = true,
+            "--one-version" => self.one_version = true,
+            "--alias-scripts" => self.alias_scripts = true,
+            "--strict" => self.strict = true,
+            "--host" => return Ok(Some("--host")),
+            "--kept" => return Ok(Some("--kept")),
+            "--flatten" => return Ok(Some("--flatten")),
+            "--defaults" => return Ok(Some("--defaults")),
             _ => return Err(PortFault::Usage),
         }
-        Ok(true)
+        Ok(None)
+    }
+
+    /// Adds the word behind an option.
+    ///
+    /// The errors: want of memory; it says nothing, or what is said already.
+    fn add_word(&mut self, alloc: Global, option: &str, word: String) -> Result<(), PortFault> {
+        match option {
+            "--host" => self.host.add(alloc, Named::Host, word.as_str()),
+            "--kept" => self.kept.add(alloc, Named::Person, word.as_str()),
+            "--flatten" => set_once(&mut self.records, word),
+            _ => set_once(&mut self.defaults, word),
+        }
     }
 
     /// What is translated, with these paths.
-    fn target(
-        self,
-        alloc: Global,
-        has_defaults: bool,
-        mut paths: Vec<String>,
-    ) -> Result<PortTarget, PortFault> {
-        if self.telling.is_some() {
+    fn target(&self, alloc: Global, mut paths: Vec<String>) -> Result<PortTarget, PortFault> {
+        if self.records.is_none() && !self.kept.said.is_empty() {
             return Err(PortFault::Usage);
         }
         if self.help {
             return Ok(PortTarget::Help);
         }
-        let is_of_trees = self.manner.one_version || self.manner.alias_scripts || has_defaults;
+        let is_of_trees = self.one_version || self.alias_scripts || self.defaults.is_some();
         match (self.stdin, self.check, paths.len()) {
             (true, false, 0) if !is_of_trees => Ok(PortTarget::Stdin),
             (false, false, 1) if !is_of_trees => match paths.pop() {
@@ -190,41 +157,29 @@ fn trees(alloc: Global, paths: Vec<String>, is_check: bool) -> Result<PortTarget
 /// What the words of a command line ask for.
 ///
 /// The errors: want of memory; they ask for nothing that the program does.
-pub(crate) fn asked_for(alloc: Global, words: Vec<String>) -> Result<PortArguments, PortFault> {
-    let mut options = Options {
-        help: false,
-        stdin: false,
-        check: false,
-        manner: Manner {
-            json: false,
-            one_version: false,
-            alias_scripts: false,
-            strict: false,
-        },
-        telling: None,
-        ended: false,
-    };
-    let mut said = ParsedArguments {
-        host: NamedValues::new(alloc),
-        kept: NamedValues::new(alloc),
-        records: None,
-        defaults: None,
-    };
+pub(crate) fn asked_for(
+    alloc: Global,
+    words: Vec<String>,
+) -> Result<(PortTarget, PortOptions), PortFault> {
+    let mut options = PortOptions::new(alloc);
     let mut paths = Vec::new(alloc);
+    let mut telling = None;
+    let mut has_ended = false;
     for word in words {
-        if let Some(option) = options.telling.take() {
-            said.add(alloc, option, word.as_str())?;
-        } else if !options.take(word.as_str())? {
+        if let Some(option) = telling {
+            options.add_word(alloc, option, word)?;
+            telling = None;
+        } else if has_ended || !word.starts_with('-') {
             paths.push(word)?;
+        } else if word.as_str() == "--" {
+            has_ended = true;
+        } else {
+            telling = options.add(word.as_str())?;
         }
     }
-    if said.records.is_none() && !said.kept.said.is_empty() {
+    if telling.is_some() {
         return Err(PortFault::Usage);
     }
-    let target = options.target(alloc, said.defaults.is_some(), paths)?;
-    Ok(PortArguments {
-        target,
-        manner: options.manner,
-        said,
-    })
+    let target = options.target(alloc, paths)?;
+    Ok((target, options))
 }

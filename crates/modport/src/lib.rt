@@ -17,47 +17,17 @@ mod texts;
 mod tree;
 mod walk;
 
-use arguments::{Manner, ParsedArguments, PortArguments, PortTarget, asked_for};
+use arguments::{PortOptions, PortTarget, asked_for};
 use fault::{PortFault, USAGE};
-use port_constants::KnownVariable;
 use port_reading::file_text::file_text;
 use port_rewriting::{FileKind, Given};
-use porting::{Sources, TranslatedFile, port_file};
+use porting::{Sources, port_file};
 use process::arguments as words_of;
 use status::Status;
 use std::io::Write;
 use std::process::ExitCode;
 use texts::{read, read_input, text_at};
 use walk::walk_trees;
-
-/// Writes the translation of a text to standard output, and the report to standard error, where the text has this path.
-fn print(
-    rt: &HostRuntime,
-    manner: Manner,
-    sources: Sources,
-    host: &[KnownVariable],
-    path: &str,
-    bytes: &[u8],
-) -> Result<Status, PortFault> {
-    let file = file_text(rt.alloc(), bytes)?;
-    let given = Given {
-        host,
-        is_strict: manner.strict,
-        ..Given::of_kind(FileKind::Modulefile)
-    };
-    let TranslatedFile {
-        text,
-        report,
-        status,
-        ..
-    } = port_file(rt.alloc(), sources, path, &file, given)?;
-    if rt.stdout().write_all(text.as_bytes()).is_err()
-        || rt.stderr().write_all(report.as_slice()).is_err()
-    {
-        return Err(PortFault::WriteFailed);
-    }
-    Ok(status)
-}
 
 /// Says how the program is called.
 fn help(rt: &HostRuntime) -> Result<Status, PortFault> {
@@ -67,47 +37,48 @@ fn help(rt: &HostRuntime) -> Result<Status, PortFault> {
     }
 }
 
-/// What a load has done, in the file at a path, where one is given.
-fn records_at(rt: &HostRuntime, path: Option<&str>) -> Result<Option<String>, PortFault> {
-    match path {
-        Some(path) => text_at(rt, path),
-        None => Ok(None),
-    }
-}
-
-/// Writes the translation of one text, where the text has this path.
-fn print_one(
+/// Writes the translation of a text to standard output, and the report to standard error, where the text has this path.
+fn print(
     rt: &HostRuntime,
-    manner: Manner,
-    said: &ParsedArguments,
+    options: &PortOptions,
     path: &str,
     bytes: &[u8],
 ) -> Result<Status, PortFault> {
-    let records = records_at(rt, said.records.as_deref())?;
-    let sources = Sources {
-        json: manner.json,
-        records: records.as_deref(),
-        person: said.kept.person(),
+    let records = match &options.records {
+        Some(path) => text_at(rt, path.as_str())?,
+        None => None,
     };
-    let host = said.host.said.as_slice();
-    print(rt, manner, sources, host, path, bytes)
+    let sources = Sources {
+        json: options.json,
+        records: records.as_deref(),
+        person: options.kept.person(),
+    };
+    let given = Given {
+        host: options.host.said.as_slice(),
+        is_strict: options.strict,
+        ..Given::of_kind(FileKind::Modulefile)
+    };
+    let file = file_text(rt.alloc(), bytes)?;
+    let ported = port_file(rt.alloc(), sources, path, &file, given)?;
+    if rt.stdout().write_all(ported.text.as_bytes()).is_err()
+        || rt.stderr().write_all(ported.report.as_slice()).is_err()
+    {
+        return Err(PortFault::WriteFailed);
+    }
+    Ok(ported.status)
 }
 
 /// Does what the arguments ask for, and gives the status.
 fn port(rt: &HostRuntime) -> Result<Status, PortFault> {
-    let PortArguments {
-        target,
-        manner,
-        said,
-    } = asked_for(rt.alloc(), words_of(rt)?)?;
+    let (target, options) = asked_for(rt.alloc(), words_of(rt)?)?;
     match target {
         PortTarget::Help => help(rt),
-        PortTarget::Stdin => print_one(rt, manner, &said, "--stdin", read_input(rt)?.as_slice()),
+        PortTarget::Stdin => print(rt, &options, "--stdin", read_input(rt)?.as_slice()),
         PortTarget::File(path) => {
             let bytes = read(rt, path.as_str())?;
-            print_one(rt, manner, &said, path.as_str(), bytes.as_slice())
+            print(rt, &options, path.as_str(), bytes.as_slice())
         }
-        PortTarget::Trees(trees) => walk_trees(rt, manner, &said, trees.as_slice()),
+        PortTarget::Trees(trees) => walk_trees(rt, &options, trees.as_slice()),
     }
 }
 

@@ -1,4 +1,9 @@
 //! A modulefile translated, however it was written, with its report.
+ghost use Rattle.std.specs.Prelude.{◌≡◌, [], List, IfOk, string_bytes};
+ghost use Rattle.modport.specs.Lines.{report};
+ghost use Rattle.modport.specs.LineViews.{lines_view};
+ghost use Rattle.modport.specs.Statuses.{status_of};
+ghost use Rattle.port_rewriting.specs.Classes.{worst};
 
 use crate::fault::PortFault;
 use crate::flattening::flattened_of;
@@ -6,7 +11,9 @@ use crate::reporting::push_report;
 use crate::status::Status;
 use port_flatten::UserValues;
 use port_reading::file_text::{FileText, SourceEncoding};
-use port_rewriting::{Class, Given, Note, Outcome, ShellScript, Translation, translate};
+use port_rewriting::{
+    Class, Given, Note, Outcome, ShellScript, TranslatedPiece, Translation, translate,
+};
 use std::alloc::{AllocError, Global};
 
 /// How the report is written, and what was seen of the file.
@@ -86,25 +93,36 @@ pub fn port_file(
     path: &str,
     file: &FileText,
     given: Given,
-) -> Result<TranslatedFile, PortFault> {
+) -> Result<TranslatedFile, PortFault>
+    // The report is of notes, and the status is that of the worst of them.
+    ensures said { IfOk result (λ f. (notes : List Note)
+        × (f.report.items ≡ report sources.json path.now (lines_view notes)) × (f.status ≡ status_of (worst Class.Same notes))) }
+
+    // A file of which nothing is said is written as it is.
+    ensures unsaid { IfOk result (λ f. f.report.items ≡ [] → string_bytes f.text ≡ string_bytes file.now.text) }
+{
     let Translation {
-        text,
+        text: written,
         pieces,
         scripts,
-        class,
         ..
     } = translation_of(alloc, sources, file, given)?;
-    let mut report = Vec::new(alloc);
-    let notes = notes_on(alloc, file.source)?;
-    push_report(alloc, &mut report, sources.json, path, notes.as_slice())?;
-    for piece in &pieces {
-        let notes = piece.notes.as_slice();
-        push_report(alloc, &mut report, sources.json, path, notes)?;
+    let mut notes = notes_on(alloc, file.source)?;
+    for piece in pieces {
+        let TranslatedPiece { notes: mut own, .. } = piece;
+        notes.append(&mut own)?;
     }
+    let mut report = Vec::new(alloc);
+    push_report(alloc, &mut report, sources.json, path, notes.as_slice())?;
+    let text = if report.is_empty() {
+        file.text.clone()?
+    } else {
+        written
+    };
     Ok(TranslatedFile {
         text,
         report,
-        status: Status::of(class.with(notes.as_slice())),
+        status: Status::of(Class::Same.with(notes.as_slice())),
         scripts,
     })
 }

@@ -1,4 +1,6 @@
 //! With which status the program ends.
+ghost use Rattle.std.specs.Prelude.{◌≡◌};
+ghost use Rattle.modport.specs.Statuses.{status_of};
 
 use port_rewriting::Class;
 
@@ -33,7 +35,9 @@ impl Status {
     }
 
     /// That of one file, by the class of the worst of its commands.
-    pub fn of(class: Class) -> Status {
+    pub fn of(class: Class) -> Status
+        ensures { result ≡ status_of class }
+    {
         match class {
             Class::Same | Class::Exact => Status::Within,
             Class::Changed | Class::Left => Status::Left,

@@ -1,6 +1,6 @@
 //! A walk over the files of trees, which are translated and written below others.
 
-use crate::arguments::{Manner, ParsedArguments, TreePaths};
+use crate::arguments::{PortOptions, TreePaths};
 use crate::defaults::{DefaultOutcome, DefaultPlace, NamedDefaults, name_default};
 use crate::fault::PortFault;
 use crate::porting::{Sources, port_file};
@@ -34,9 +34,7 @@ struct FileAt<'p> {
 struct Walk<'r> {
     rt: &'r HostRuntime,
     /// How files are translated.
-    manner: Manner,
-    /// What is said besides.
-    said: &'r ParsedArguments,
+    options: &'r PortOptions,
     /// What the files of the site say of its modules.
     site: &'r Site,
     /// The defaults that a list names.
@@ -109,7 +107,7 @@ impl<'r> Walk<'r> {
 
     /// Says what became of what is at a path.
     fn say_of(&self, path: &str, outcome: Outcome, what: &str) -> Result<(), PortFault> {
-        let line = line_on(self.rt.alloc(), self.manner.json, path, outcome, what)?;
+        let line = line_on(self.rt.alloc(), self.options.json, path, outcome, what)?;
         self.say(line.as_slice())
     }
 
@@ -136,7 +134,7 @@ impl<'r> Walk<'r> {
 
     /// What a load of the file of this name has done, where that is known.
     fn records_of(&self, below: &str) -> Result<Option<String>, PortFault> {
-        let Some(records) = &self.said.records else {
+        let Some(records) = &self.options.records else {
             return Ok(None);
         };
         match text_at(
@@ -150,7 +148,7 @@ impl<'r> Walk<'r> {
 
     /// The folder for the scripts of the aliases of a file, where they are asked for.
     fn scripts_folder(&self, below: &str) -> Result<Option<String>, PortFault> {
-        if !self.manner.alias_scripts {
+        if !self.options.alias_scripts {
             return Ok(None);
         }
         self.script_places.folder(self.rt, below)
@@ -164,9 +162,9 @@ impl<'r> Walk<'r> {
         };
         let records = self.records_of(at.below)?;
         let sources = Sources {
-            json: self.manner.json,
+            json: self.options.json,
             records: records.as_deref(),
-            person: self.said.kept.person(),
+            person: self.options.kept.person(),
         };
         let folder = self.scripts_folder(at.below)?;
         let path = joined(alloc, self.top.as_str(), at.below)?;
@@ -201,15 +199,15 @@ impl<'r> Walk<'r> {
                 path,
                 name: at.below,
             }),
-            host: self.said.host.said.as_slice(),
+            host: self.options.host.said.as_slice(),
             scripts_folder,
-            one_version: if self.manner.one_version && is_module {
+            one_version: if self.options.one_version && is_module {
                 Some(folder)
             } else {
                 None
             },
             has_defaults: self.defaults.is_some(),
-            is_strict: self.manner.strict,
+            is_strict: self.options.strict,
         }
     }
 
@@ -371,8 +369,7 @@ impl<'r> Walk<'r> {
 /// Translates the files of a tree, and gives the status.
 fn walk_tree(
     rt: &HostRuntime,
-    manner: Manner,
-    said: &ParsedArguments,
+    options: &PortOptions,
     site: &Site,
     defaults: Option<&NamedDefaults>,
     tree: &TreePaths,
@@ -380,8 +377,7 @@ fn walk_tree(
 ) -> Result<Status, PortFault> {
     let mut walk = Walk {
         rt,
-        manner,
-        said,
+        options,
         site,
         defaults,
         top: match absolute(rt, tree.from.as_str())? {
@@ -408,11 +404,10 @@ fn walk_tree(
 /// at one path is said on standard error.
 pub(crate) fn walk_trees(
     rt: &HostRuntime,
-    manner: Manner,
-    said: &ParsedArguments,
+    options: &PortOptions,
     trees: &[TreePaths],
 ) -> Result<Status, PortFault> {
-    let defaults = match &said.defaults {
+    let defaults = match &options.defaults {
         Some(path) => Some(NamedDefaults::read(rt, path.as_str())?),
         None => None,
     };
@@ -428,7 +423,7 @@ pub(crate) fn walk_trees(
     }
     let mut status = Status::Within;
     for (tree, entries) in trees.iter().zip(listed) {
-        let done = walk_tree(rt, manner, said, &site, defaults.as_ref(), tree, entries)?;
+        let done = walk_tree(rt, options, &site, defaults.as_ref(), tree, entries)?;
         status = status.and(done);
     }
     Ok(status)

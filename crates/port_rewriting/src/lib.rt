@@ -8,6 +8,7 @@ mod class;
 mod classifying;
 mod conditions;
 mod guards;
+pub mod laws;
 mod meanings;
 mod names;
 mod pieces;

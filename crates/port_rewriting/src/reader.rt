@@ -331,11 +331,12 @@ impl<'f> Reader<'f> {
         let script = parse_pieces(self.alloc, &scope.text)?;
         let elements = parse_list(self.alloc, scope.text)?;
         let mut words = Vec::new(self.alloc);
-        match add_constants(&mut words, scope.text, &script) {
-            Ok(true) if are_elements(words.as_slice(), elements.as_slice()) => Ok(Some(words)),
-            Ok(_) => Ok(None),
-            Err(_) => Err(TextFault::OutOfMemory),
-        }
+        let are_constant = match add_constants(&mut words, scope.text, &script) {
+            Ok(are_constant) => are_constant,
+            Err(_) => return Err(TextFault::OutOfMemory),
+        };
+        let are_all = are_constant && are_elements(words.as_slice(), elements.as_slice());
+        Ok(if are_all { Some(words) } else { None })
     }
 
     /// Has the bodies in a list of patterns read later.

@@ -253,10 +253,10 @@ fn text_of(alloc: Global, pieces: &[TranslatedPiece]) -> Result<Vec<u8>, AllocEr
 }
 
 /// What is written for a file of this script.
-fn translated(
+fn translated<'f>(
     alloc: Global,
-    given: Given,
-    text: &str,
+    given: Given<'f>,
+    text: &'f str,
     script: &Script<ByteRange>,
 ) -> Result<Translation, TranslationFault>
     ensures accounts { IfOk result (λ t. Accounts text.now (pieces_view t.pieces.items) []) }
@@ -296,7 +296,11 @@ fn translated(
 ///
 /// The errors: it is no script, or what would be written is none; want of memory.
 #[tactic(auto, using(crate::proofs::Accounting::unsaid))]
-pub fn translate(alloc: Global, given: Given, text: &str) -> Result<Translation, TranslationFault>
+pub fn translate<'f>(
+    alloc: Global,
+    given: Given<'f>,
+    text: &'f str,
+) -> Result<Translation, TranslationFault>
     // The file is cut into parts, and one on which there is no note is written as it is.
     ensures accounts { IfOk result (λ t. Accounts text.now (pieces_view t.pieces.items) []) }
 
