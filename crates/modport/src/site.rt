@@ -44,7 +44,7 @@ fn add_module(alloc: Global, site: &mut Site, text: &str, name: &str) -> Result<
         match family.name {
             Some(family_name) => site.members.push(Member {
                 family: family_name,
-                module: String::from_str(alloc, name)?,
+                own: String::from_str(alloc, name)?,
                 is_sure: family.is_sure,
             })?,
             None => site.has_unknown_families = true,

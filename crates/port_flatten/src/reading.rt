@@ -43,7 +43,7 @@ fn unquoted(alloc: Global, text: &str) -> Result<Option<String>, AllocError> {
 }
 
 /// The setting that a line `NAME=VALUE; export NAME;` is.
-fn setting(alloc: Global, line: &str) -> Result<Option<Setting>, AllocError> {
+fn setting_of(alloc: Global, line: &str) -> Result<Option<Setting>, AllocError> {
     let Some((name, rest)) = line.split_once('=') else {
         return Ok(None);
     };
@@ -223,7 +223,7 @@ impl LoadRecords {
                 None => Ok(Some(Unserving("a line of its records isn't read"))),
             };
         }
-        match setting(alloc, line)? {
+        match setting_of(alloc, line)? {
             Some(setting) => self.set(alloc, setting),
             None => Ok(Some(Unserving("it does something that is no variable"))),
         }

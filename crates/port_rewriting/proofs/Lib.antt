@@ -1,2 +1,4 @@
 pub mod Accounting
+pub mod Excluding
+pub mod LookingInto
 pub mod Reading

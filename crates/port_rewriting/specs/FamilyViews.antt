@@ -1,7 +1,10 @@
 -- Members of families as the definitions have them.
-use Rattle.std.specs.Prelude.{List, map, string_bytes}
-use Rattle.port_rewriting.specs.Families.{Membership}
+use Rattle.std.specs.Prelude.{List, Bool, ◌&&◌, bytes_eq, string_bytes}
+use Rattle.std.specs.List.{list_any}
+use Rattle.tcltext.specs.chars.Runs.{Text}
 use Rattle.port_rewriting.specs.declared.names.Member.{Member}
 
-abbrev pub members_view : List Member → List Membership
-members_view members = map (λ (m : Member). record { family = string_bytes m.family; own = string_bytes m.«module» }) members
+-- a module is in a family
+abbrev pub is_in_family : List Member → Text → Text → Bool
+is_in_family members family own =
+    list_any (λ (m : Member). bytes_eq (string_bytes m.own) own && bytes_eq (string_bytes m.family) family) members

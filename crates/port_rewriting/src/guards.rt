@@ -36,6 +36,13 @@ fn loads_of<'t>(alloc: Global, body: &'t str) -> Result<Option<Vec<&'t str>>, Al
     }
 }
 
+/// Whether these are the same modules, in the same order.
+fn are_same(loads: &[&str], others: &[&str]) -> bool
+    ensures { IsTrue result → map shown loads.now ≡ map shown others.now }
+{
+    loads == others
+}
+
 /// Whether a condition fits what the bodies behind it load: in any load, or the one module that isn't loaded.
 fn fits(condition: Condition, loads: &[&str], others: Option<&[&str]>) -> bool
     // Of two bodies both load the same.
@@ -44,7 +51,7 @@ fn fits(condition: Condition, loads: &[&str], others: Option<&[&str]>) -> bool
     match (condition, loads, others) {
         (Condition::Loading, [_, ..], None) => true,
         (Condition::Unloaded(name), [other], None) => name == *other,
-        (Condition::Exists, [_, ..], Some(others)) => loads == others,
+        (Condition::Exists, [_, ..], Some(others)) => are_same(loads, others),
         _ => false,
     }
 }

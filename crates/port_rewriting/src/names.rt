@@ -1,8 +1,9 @@
 //! What names mean among the modules of a site: there, by versions, symbols and families; and here.
-ghost use Rattle.std.specs.Prelude.{◌≡◌, ◌≢◌, IfOk, IfSome, IsTrue, true, map, string_bytes};
+ghost use Rattle.std.specs.Prelude.{◌≡◌, ◌≢◌, IfOk, IfSome, IsTrue, OnOk, true, map, string_bytes};
+ghost use Rattle.tcltext.specs.chars.Runs.{Text};
 ghost use Rattle.port_rewriting.specs.Families as spec;
-ghost use Rattle.port_rewriting.specs.Families.{is_member, ExcludesOthers};
-ghost use Rattle.port_rewriting.specs.FamilyViews.{members_view};
+ghost use Rattle.port_rewriting.specs.Families.{ExcludesOthers};
+ghost use Rattle.port_rewriting.specs.FamilyViews.{is_in_family};
 ghost use Rattle.port_rewriting.specs.RecordViews.{texts_in};
 
 use crate::symbols::VersionSymbol;
@@ -16,7 +17,7 @@ pub struct Member {
     /// The family.
     pub family: String,
     /// The module, with its version.
-    pub module: String,
+    pub own: String,
     /// Whether it is in the family each time that it is loaded.
     pub is_sure: bool,
 }
@@ -88,10 +89,10 @@ pub(crate) fn is_among(texts: &[String], text: &str) -> bool {
 }
 
 /// Whether one of the names means a module.
-fn is_excluded(names: &[String], module: &str) -> bool
-    ensures { result ≡ spec.is_excluded (map string_bytes names.now) module.now }
+fn is_excluded(names: &[String], own: &str) -> bool
+    ensures { result ≡ spec.is_excluded names.now own.now }
 {
-    names.iter().any(|name| means(name.as_str(), module))
+    names.iter().any(|name| means(name.as_str(), own))
 }
 
 /// Adds a name, unless it is there.
@@ -142,10 +143,10 @@ impl Site {
     }
 
     /// Whether a name means a module there as the name of a family.
-    fn is_family_of(&self, name: &str, module: &str) -> bool
-        ensures { result ≡ is_member (members_view self.now.members.items) name.now module.now }
+    fn is_family_of(&self, name: &str, own: &str) -> bool
+        ensures { result ≡ is_in_family self.now.members.items name.now own.now }
     {
-        self.members.iter().any(|member| member.module.as_str() == module
+        self.members.iter().any(|member| member.own.as_str() == own
             && member.family.as_str() == name)
     }
 
@@ -236,7 +237,7 @@ impl Site {
 
     /// Whether a member of a family is in conflict with a module: another member, or one of the family's name.
     fn is_rival(&self, family: &str, own: &str, rival: &str) -> bool
-        ensures { rival.now ≢ own.now → is_member (members_view self.now.members.items) family.now rival.now ≡ true
+        ensures { rival.now ≢ own.now → is_in_family self.now.members.items family.now rival.now ≡ true
             → IsTrue result }
     {
         rival != own && (means(family, rival) || self.is_family_of(family, rival))
@@ -259,6 +260,34 @@ impl Site {
         }
     }
 
+    /// Adds a name by which a module is excluded, where it is a rival of a member of a family; false where none can be
+    /// written.
+    #[tactic(auto, using(crate::proofs::Excluding::still, crate::proofs::Excluding::by_last))]
+    fn exclude(
+        &self,
+        alloc: Global,
+        names: &mut Vec<String>,
+        family: &str,
+        own: &str,
+        rival: &str,
+    ) -> Result<bool, AllocError>
+        ensures kept { OnOk result ((x : Text) → spec.is_excluded names.old.items x ≡ true
+            → spec.is_excluded names.new.items x ≡ true) }
+        ensures excluded { IfOk result (λ b. IsTrue b → rival.now ≢ own.now
+            → is_in_family self.now.members.items family.now rival.now ≡ true
+            → spec.is_excluded names.new.items rival.now ≡ true) }
+    {
+        if !self.is_rival(family, own, rival) || is_excluded(names.as_slice(), rival) {
+            return Ok(true);
+        }
+        let name = self.rival_name(family, own, rival);
+        if !is_plain(name) || !means(name, rival) {
+            return Ok(false);
+        }
+        names.push(String::from_str(alloc, name)?)?;
+        Ok(true)
+    }
+
     /// The names that a member of a family is in conflict with; none where not all is known.
     pub(crate) fn conflicts_of(
         &self,
@@ -267,21 +296,16 @@ impl Site {
         own: &str,
     ) -> Result<Option<Vec<String>>, AllocError>
         // Each other member is excluded by one of them.
-        ensures { IfOk result (λ found. IfSome found (λ names. ExcludesOthers (members_view self.now.members.items)
-            (texts_in self.now.modules) family.now own.now (texts_in names))) }
+        ensures { IfOk result (λ found. IfSome found (λ names. ExcludesOthers
+            (is_in_family self.now.members.items family.now) (texts_in self.now.modules) own.now names.items)) }
     {
         let mut names = Vec::new(alloc);
         if self.is_unsure(family) {
             return Ok(None);
         }
-        for module in &self.modules {
-            let module = module.as_str();
-            if self.is_rival(family, own, module) && !is_excluded(names.as_slice(), module) {
-                let name = self.rival_name(family, own, module);
-                if !is_plain(name) || !means(name, module) {
-                    return Ok(None);
-                }
-                names.push(String::from_str(alloc, name)?)?;
+        for rival in &self.modules {
+            if !self.exclude(alloc, &mut names, family, own, rival.as_str())? {
+                return Ok(None);
             }
         }
         Ok(Some(names))

@@ -193,7 +193,7 @@ fn edited(
 }
 
 /// The piece with these notes on a part of a file: the part, where there are none, and else what is written for it.
-fn noted(
+pub(crate) fn noted(
     alloc: Global,
     part: &[u8],
     notes: Vec<Note>,

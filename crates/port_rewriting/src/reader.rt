@@ -489,6 +489,7 @@ impl<'f> Reader<'f> {
     }
 
     /// Has a word of a command read later that is a script or an expression.
+    #[tactic(auto, using(crate::proofs::LookingInto::looked))]
     fn later(
         &mut self,
         scope: Scope<'f>,

@@ -1,4 +1,5 @@
 //! What is known of a file before it is read, and where scripts stand in it.
+ghost use Rattle.std.specs.Prelude.{◌≡◌};
 
 use crate::names::Site;
 use port_constants::{KnownFile, KnownVariable};
@@ -85,7 +86,9 @@ impl<'f> Scope<'f> {
     }
 
     /// That of a text in it which begins there, for this role.
-    pub(crate) fn inner(self, text: &'f str, start: usize, role: Role) -> Scope<'f> {
+    pub(crate) fn inner(self, text: &'f str, start: usize, role: Role) -> Scope<'f>
+        ensures { result.text.now ≡ text.entry.now }
+    {
         Scope {
             text,
             base: self.base.saturating_add(start),

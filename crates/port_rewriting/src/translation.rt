@@ -1,15 +1,15 @@
 //! A modulefile translated, piece by piece: a script again.
-ghost use Rattle.std.specs.Prelude.{◌≡◌, [], ◌++◌, take, drop, IfOk, OnOk, string_bytes};
+ghost use Rattle.std.specs.Prelude.{◌≡◌, [], ◌++◌, take, drop, true, IfOk, OnOk, string_bytes};
 ghost use Rattle.tcltext.specs.chars.Runs.{Text};
 ghost use Rattle.port_reading.specs.script_text.ScriptTexts.{Parses};
 ghost use Rattle.port_rewriting.specs.Accounts.{Accounts, AreUnsaid, written};
 ghost use Rattle.port_rewriting.specs.Classes.{worst_of_pieces};
-ghost use Rattle.port_rewriting.specs.AccountViews.{pieces_view};
+ghost use Rattle.port_rewriting.specs.AccountViews.{piece_view, pieces_view};
 
 use crate::aliases::ShellScript;
 use crate::class::{Class, Note, Outcome};
 use crate::names::is_plain;
-use crate::pieces::{PieceFindings, TextPart, TranslatedPiece, written_piece};
+use crate::pieces::{PieceFindings, TextPart, TranslatedPiece, noted, written_piece};
 use crate::reader::{NamedFamily, Reader};
 use crate::scopes::Given;
 use port_reading::script_text::script_text;
@@ -104,11 +104,11 @@ impl Reader<'_> {
         Ok(found)
     }
 
-    /// The name that the file is to be in conflict with, where it isn't yet.
-    fn added_conflict(&self) -> Option<&str> {
+    /// Whether a conflict with the name that the file is to be in conflict with is still to be added.
+    fn lacks_conflict(&self) -> bool {
         match self.given.one_version {
-            Some(name) if !self.has_conflict && is_plain(name) => Some(name),
-            _ => None,
+            Some(name) => !self.has_conflict && is_plain(name),
+            None => false,
         }
     }
 }
@@ -124,46 +124,71 @@ struct PiecesSoFar<'f> {
     line: usize,
 }
 
+/// The piece of a conflict with a name, on a line of its own.
+#[tactic(auto, using(crate::proofs::Accounting::said))]
+fn added_conflict(alloc: Global, name: &str) -> Result<TranslatedPiece, AllocError>
+    ensures { IfOk result (λ p. (piece_view p).is_said ≡ true) }
+{
+    let what = format!(in alloc; "conflict {name}")?;
+    let mut text = Vec::from_slice(alloc, what.as_bytes())?;
+    text.push(b'\n')?;
+    let mut notes = Vec::new(alloc);
+    notes.push(Note {
+        line: None,
+        what,
+        outcome: Outcome::Added,
+    })?;
+    Ok(TranslatedPiece { text, notes })
+}
+
 impl<'f> PiecesSoFar<'f> {
     /// What stands before the first command.
-    #[tactic(auto, using(crate::proofs::Accounting::begun))]
     fn new(alloc: Global, text: &'f str, first: usize) -> Result<PiecesSoFar<'f>, AllocError>
         ensures { IfOk result (λ s. Accounts text.entry.now (pieces_view s.pieces.items) s.rest.now) }
     {
-        let (before, rest) = split_within(text.as_bytes(), first);
-        let mut pieces = Vec::new(alloc);
-        pieces.push(TranslatedPiece {
-            text: Vec::from_slice(alloc, before)?,
-            notes: Vec::new(alloc),
-        })?;
-        Ok(PiecesSoFar {
-            pieces,
-            rest,
-            line: lines_in(before).saturating_add(1),
-        })
+        let mut so_far = PiecesSoFar {
+            pieces: Vec::new(alloc),
+            rest: text.as_bytes(),
+            line: 1,
+        };
+        so_far.add_plain(alloc, first)?;
+        Ok(so_far)
+    }
+
+    /// Adds the next bytes as they are.
+    fn add_plain(&mut self, alloc: Global, length: usize) -> Result<(), AllocError>
+        ensures { OnOk result ((file : Text) → Accounts file (pieces_view self.old.pieces.items) self.old.rest.now
+            → Accounts file (pieces_view self.new.pieces.items) self.new.rest.now) }
+    {
+        let (was, rest) = split_within(self.rest, length);
+        let piece = noted(alloc, was, Vec::new(alloc), String::new(alloc))?;
+        self.pieces.push(piece)?;
+        self.line = self.line.saturating_add(lines_in(was));
+        self.rest = rest;
+        Ok(())
+    }
+
+    /// Adds all that is still to be written as it is.
+    fn add_rest(&mut self, alloc: Global) -> Result<(), AllocError>
+        ensures { OnOk result ((file : Text) → Accounts file (pieces_view self.old.pieces.items) self.old.rest.now
+            → Accounts file (pieces_view self.new.pieces.items) []) }
+    {
+        let piece = noted(alloc, self.rest, Vec::new(alloc), String::new(alloc))?;
+        self.pieces.push(piece)?;
+        Ok(())
     }
 
     /// Adds a conflict with a name, on a line of its own.
-    #[tactic(auto, using(crate::proofs::Accounting::put_between))]
     fn add_conflict(&mut self, alloc: Global, name: &str) -> Result<(), AllocError>
         ensures { OnOk result ((text : Text) → Accounts text (pieces_view self.old.pieces.items) self.old.rest.now
             → Accounts text (pieces_view self.new.pieces.items) self.new.rest.now) }
     {
-        let what = format!(in alloc; "conflict {name}")?;
-        let mut text = Vec::from_slice(alloc, what.as_bytes())?;
-        text.push(b'\n')?;
-        let mut notes = Vec::new(alloc);
-        notes.push(Note {
-            line: None,
-            what,
-            outcome: Outcome::Added,
-        })?;
-        self.pieces.push(TranslatedPiece { text, notes })?;
+        let piece = added_conflict(alloc, name)?;
+        self.pieces.push(piece)?;
         Ok(())
     }
 
     /// Adds the piece of a command of a file in which this was found, and which ends there.
-    #[tactic(auto, using(crate::proofs::Accounting::cut))]
     fn add(
         &mut self,
         alloc: Global,
@@ -181,28 +206,11 @@ impl<'f> PiecesSoFar<'f> {
             place: ByteRange { start, end },
             line: self.line,
         };
-        self.pieces.push(written_piece(alloc, part, was, found)?)?;
+        let piece = written_piece(alloc, part, was, found)?;
+        self.pieces.push(piece)?;
         self.line = self.line.saturating_add(lines_in(was));
         self.rest = rest;
         Ok(())
-    }
-
-    /// The pieces, with what is still to be written.
-    #[tactic(auto, using(crate::proofs::Accounting::ended))]
-    fn end(self, alloc: Global) -> Result<Vec<TranslatedPiece>, AllocError>
-        ensures { IfOk result (λ pieces. (text : Text) → Accounts text (pieces_view self.entry.pieces.items) self.entry.rest.now
-            → Accounts text (pieces_view pieces.items) []) }
-    {
-        let PiecesSoFar {
-            mut pieces,
-            rest,
-            ..
-        } = self;
-        pieces.push(TranslatedPiece {
-            text: Vec::from_slice(alloc, rest)?,
-            notes: Vec::new(alloc),
-        })?;
-        Ok(pieces)
     }
 }
 
@@ -227,7 +235,8 @@ fn pieces_of(
         number = number.saturating_add(1);
         so_far.add(alloc, text, start, start_of(text, commands, number), it)?;
     }
-    so_far.end(alloc)
+    so_far.add_rest(alloc)?;
+    Ok(so_far.pieces)
 }
 
 /// The class of the worst of some pieces.
@@ -268,11 +277,8 @@ fn translated<'f>(
     reader.find_procedures(script)?;
     let commands = script.commands.as_slice();
     let found = reader.read_all(commands)?;
-    let added = if commands.is_empty() {
-        None
-    } else {
-        reader.added_conflict()
-    };
+    let is_added = reader.lacks_conflict() && !commands.is_empty();
+    let added = if is_added { given.one_version } else { None };
     let pieces = pieces_of(alloc, text, commands, found, added)?;
     let bytes = text_of(alloc, pieces.as_slice())?;
     let Some(written) = script_text(alloc, bytes)? else {

@@ -2,5 +2,5 @@ use Rattle.port_rewriting.specs.Accounts.{Accounts}
 use Rattle.port_rewriting.specs.AccountViews.{pieces_view}
 use Rattle.port_rewriting.proofs.translation.pieces_of.Given as goal
 
-abbrev pub invariant-loop-pieces : goal.invariant-loop-pieces
-invariant-loop-pieces l = Accounts l.text (pieces_view l.so_far.pieces.items) l.so_far.rest.now
+abbrev pub invariant-pieces : goal.invariant-pieces
+invariant-pieces l = Accounts l.text (pieces_view l.so_far.pieces.items) l.so_far.rest.now
