@@ -1,5 +1,5 @@
 -- Names that exclude modules.
-use Rattle.std.proofs.Common.{◌≡◌, ◌≢◌, ◌||◌, ◌<◌, ◌+◌, ℕ, Bool, true, false, not, List, [], ◌∷◌, ◌++◌, get_or, length, map, take, refl, sym, ap, subst, ◌∙◌, inl, inr, string_bytes}
+use Rattle.std.proofs.Common.{◌≡◌, ◌≢◌, ◌||◌, ◌<◌, ◌+◌, ℕ, Bool, true, false, List, [], ◌∷◌, ◌++◌, get_or, length, map, take, refl, sym, ap, subst, ◌∙◌, inl, inr, string_bytes}
 use Rattle.std.proofs.lemmas.Bool.{cases_Bool}
 use Rattle.std.proofs.lemmas.List.{map-append, take_more}
 use Rattle.std.proofs.lemmas.List.Folds.{list_any-append}
@@ -59,7 +59,3 @@ pub next_module : (is_member : Text → Bool) (ms : List (String Global)) (i : �
 next_module is_member ms i m own old new below is h keep here =
     subst (λ (ls : List Text). ExcludesOthers is_member ls own new) (sym (next_text ms i m below is))
     (one_more is_member (map string_bytes (take i ms)) (string_bytes m) own old new h keep here)
-
-pub not_false : (b : Bool) → not b ≡ false → b ≡ true
-not_false true h = refl
-not_false false h = let never : true ≡ false = h in cc

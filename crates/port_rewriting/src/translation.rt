@@ -301,7 +301,6 @@ fn translated<'f>(
 /// What is written for a file, by what is known of it.
 ///
 /// The errors: it is no script, or what would be written is none; want of memory.
-#[tactic(auto, using(crate::proofs::Accounting::unsaid))]
 pub fn translate<'f>(
     alloc: Global,
     given: Given<'f>,

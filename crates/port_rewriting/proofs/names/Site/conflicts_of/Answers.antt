@@ -4,7 +4,7 @@ use Rattle.std.specs.declared.alloc.Global.{Global}
 use Rattle.tcltext.specs.chars.Runs.{Text}
 use Rattle.port_rewriting.specs.Families.{is_excluded, ExcludesOthers}
 use Rattle.port_rewriting.specs.FamilyViews.{is_in_family}
-use Rattle.port_rewriting.proofs.Excluding.{next_module, not_false}
+use Rattle.port_rewriting.proofs.Excluding.{next_module}
 use Rattle.port_rewriting.proofs.names.Site.conflicts_of.Goals as goal
 
 pub loop-rival-preserved : goal.loop-rival-preserved
@@ -20,4 +20,4 @@ loop-rival-preserved c =
     (subst (λ (ms : List (String Global)). ExcludesOthers member (map string_bytes (take index ms)) own old) (sym same) c.loop-rival.invariant)
     c.in_ok-exclude.ensures.kept
     (subst (λ (t : Text). t ≢ own → member t ≡ true → is_excluded new t ≡ true) c.as_str.ensures.value
-    (c.in_ok-exclude.ensures.excluded (not_false c.in_ok-exclude.field-0 c.if-not-branch.false))))
+    (c.in_ok-exclude.ensures.excluded c.if-not-branch.false)))
