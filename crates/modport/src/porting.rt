@@ -96,7 +96,8 @@ pub fn port_file(
 ) -> Result<TranslatedFile, PortFault>
     // The report is of notes, and the status is that of the worst of them.
     ensures said { IfOk result (λ f. (notes : List Note)
-        × (f.report.items ≡ report sources.json path.now (lines_view notes)) × (f.status ≡ status_of (worst Class.Same notes))) }
+        × (f.report.items ≡ report sources.entry.json path.now (lines_view notes))
+        × (f.status ≡ status_of (worst Class.Same notes))) }
 
     // A file of which nothing is said is written as it is.
     ensures unsaid { IfOk result (λ f. f.report.items ≡ [] → string_bytes f.text ≡ string_bytes file.now.text) }

@@ -4,7 +4,7 @@ use crate::fault::PortFault;
 use crate::texts::{modulefile, read};
 use crate::tree::{TreeEntry, folder_of};
 use port_constants::KnownFile;
-use port_rewriting::{FileKind, Given, Member, Site, symbols_said, translate};
+use port_rewriting::{FileKind, Given, Member, NamedFamily, Site, symbols_said, translate};
 use std::alloc::Global;
 use tcltext::chars::TextFault;
 
@@ -40,12 +40,16 @@ fn add_module(alloc: Global, site: &mut Site, text: &str, name: &str) -> Result<
         ..Given::of_kind(FileKind::Modulefile)
     };
     let translation = translate(alloc, given, text)?;
-    for family in translation.families {
-        match family.name {
-            Some(family_name) => site.members.push(Member {
-                family: family_name,
+    for named in translation.families {
+        let NamedFamily {
+            name: family,
+            is_sure,
+        } = named;
+        match family {
+            Some(family) => site.members.push(Member {
+                family,
                 own: String::from_str(alloc, name)?,
-                is_sure: family.is_sure,
+                is_sure,
             })?,
             None => site.has_unknown_families = true,
         }

@@ -258,22 +258,7 @@ impl<'r> Walk<'r> {
     }
 
     /// Does what is to be done for what is at a path below a tree.
-    fn entry(
-        &mut self,
-        tree: &TreePaths,
-        path: &str,
-        below: &str,
-        found: &Metadata,
-    ) -> Result<(), PortFault> {
-        let to = match &tree.to {
-            Some(to) => Some(joined(self.rt.alloc(), to.as_str(), below)?),
-            None => None,
-        };
-        let at = FileAt {
-            from: path,
-            to: to.as_deref(),
-            below,
-        };
+    fn entry(&mut self, at: FileAt, found: &Metadata) -> Result<(), PortFault> {
         if found.is_dir() {
             self.folder(at, found)
         } else if found.is_file() {
@@ -285,23 +270,40 @@ impl<'r> Walk<'r> {
         }
     }
 
+    /// Does what is to be done for an entry of a tree; a fault is said.
+    fn visit(&mut self, tree: &TreePaths, entry: TreeEntry) -> Result<(), PortFault> {
+        let TreeEntry {
+            path,
+            below,
+            found,
+            is_linked,
+            ..
+        } = entry;
+        if is_linked {
+            return Ok(());
+        }
+        let to = match &tree.to {
+            Some(to) => Some(joined(self.rt.alloc(), to.as_str(), below.as_str())?),
+            None => None,
+        };
+        let done = match found {
+            Ok(found) => {
+                let at = FileAt {
+                    from: path.as_str(),
+                    to: to.as_deref(),
+                    below: below.as_str(),
+                };
+                self.entry(at, &found)
+            }
+            Err(fault) => Err(fault),
+        };
+        self.go_on(path.as_str(), done)
+    }
+
     /// Walks what is below a tree.
     fn go(&mut self, tree: &TreePaths, entries: Vec<TreeEntry>) -> Result<(), PortFault> {
         for entry in entries {
-            let TreeEntry {
-                path,
-                below,
-                found,
-                is_linked,
-                ..
-            } = entry;
-            if !is_linked {
-                let done = match found {
-                    Ok(found) => self.entry(tree, path.as_str(), below.as_str(), &found),
-                    Err(fault) => Err(fault),
-                };
-                self.go_on(path.as_str(), done)?;
-            }
+            self.visit(tree, entry)?;
         }
         Ok(())
     }

@@ -236,32 +236,32 @@ impl Site {
     }
 
     /// Whether a member of a family is in conflict with a module: another member, or one of the family's name.
-    fn is_rival(&self, family: &str, own: &str, rival: &str) -> bool
-        ensures { rival.now ≢ own.now → is_in_family self.now.members.items family.now rival.now ≡ true
+    fn is_in_conflict(&self, family: &str, own: &str, other: &str) -> bool
+        ensures { other.now ≢ own.now → is_in_family self.now.members.items family.now other.now ≡ true
             → IsTrue result }
     {
-        rival != own && (means(family, rival) || self.is_family_of(family, rival))
+        other != own && (means(family, other) || self.is_family_of(family, other))
     }
 
-    /// Whether all that is below a folder, but for a member of a family, are its rivals.
-    fn are_rivals(&self, family: &str, own: &str, folder: &str) -> bool {
+    /// Whether all that is below a folder is in conflict with a member of a family, or is it.
+    fn are_in_conflict(&self, family: &str, own: &str, folder: &str) -> bool {
         self.modules.iter().all(|module| {
             let module = module.as_str();
-            !means(folder, module) || module == own || self.is_rival(family, own, module)
+            !means(folder, module) || module == own || self.is_in_conflict(family, own, module)
         })
     }
 
-    /// The name by which a rival of a member of a family is excluded: that of its folder, where all below that are rivals,
-    /// or its own.
-    fn rival_name<'m>(&self, family: &str, own: &str, rival: &'m str) -> &'m str {
-        match rival.rsplit_once('/') {
-            Some((folder, _)) if self.are_rivals(family, own, folder) => folder,
-            _ => rival,
+    /// The name by which a module in conflict with a member of a family is excluded: that of its folder, where all below that
+    /// are in conflict too, or its own.
+    fn conflict_name<'m>(&self, family: &str, own: &str, other: &'m str) -> &'m str {
+        match other.rsplit_once('/') {
+            Some((folder, _)) if self.are_in_conflict(family, own, folder) => folder,
+            _ => other,
         }
     }
 
-    /// Adds a name by which a module is excluded, where it is a rival of a member of a family; false where none can be
-    /// written.
+    /// Adds a name by which a module is excluded, where it is in conflict with a member of a family; false where none can
+    /// be written.
     #[tactic(auto, using(crate::proofs::Excluding::still, crate::proofs::Excluding::by_last))]
     fn exclude(
         &self,
@@ -269,19 +269,19 @@ impl Site {
         names: &mut Vec<String>,
         family: &str,
         own: &str,
-        rival: &str,
+        other: &str,
     ) -> Result<bool, AllocError>
         ensures kept { OnOk result ((x : Text) → spec.is_excluded names.old.items x ≡ true
             → spec.is_excluded names.new.items x ≡ true) }
-        ensures excluded { IfOk result (λ b. IsTrue b → rival.now ≢ own.now
-            → is_in_family self.now.members.items family.now rival.now ≡ true
-            → spec.is_excluded names.new.items rival.now ≡ true) }
+        ensures excluded { IfOk result (λ b. IsTrue b → other.now ≢ own.now
+            → is_in_family self.now.members.items family.now other.now ≡ true
+            → spec.is_excluded names.new.items other.now ≡ true) }
     {
-        if !self.is_rival(family, own, rival) || is_excluded(names.as_slice(), rival) {
+        if !self.is_in_conflict(family, own, other) || is_excluded(names.as_slice(), other) {
             return Ok(true);
         }
-        let name = self.rival_name(family, own, rival);
-        if !is_plain(name) || !means(name, rival) {
+        let name = self.conflict_name(family, own, other);
+        if !is_plain(name) || !means(name, other) {
             return Ok(false);
         }
         names.push(String::from_str(alloc, name)?)?;
@@ -303,8 +303,8 @@ impl Site {
         if self.is_unsure(family) {
             return Ok(None);
         }
-        for rival in &self.modules {
-            if !self.exclude(alloc, &mut names, family, own, rival.as_str())? {
+        for other in &self.modules {
+            if !self.exclude(alloc, &mut names, family, own, other.as_str())? {
                 return Ok(None);
             }
         }

@@ -3,6 +3,6 @@ use Rattle.port_rewriting.specs.Families.{ExcludesOthers}
 use Rattle.port_rewriting.specs.FamilyViews.{is_in_family}
 use Rattle.port_rewriting.proofs.names.Site.conflicts_of.Given as goal
 
-abbrev pub invariant-loop-rival : goal.invariant-loop-rival
-invariant-loop-rival l =
-    ExcludesOthers (is_in_family l.self.members.items l.family) (map string_bytes (take l.rival-index l.self.modules.items)) l.own l.names.items
+abbrev pub invariant-loop-other : goal.invariant-loop-other
+invariant-loop-other l =
+    ExcludesOthers (is_in_family l.self.members.items l.family) (map string_bytes (take l.other-index l.self.modules.items)) l.own l.names.items
