@@ -70,6 +70,8 @@ SUITES = (
     "audit/returns.py",
     "audit/modaudit.py",
     "port/modport.py",
+    "port/meanings.py",
+    "port/random_files.py",
     "port/moved.py",
     "faults/failed_allocations.py",
     "faults/device.py",

@@ -27,16 +27,14 @@ TOOLS = (
     os.path.join(os.path.dirname(HERE), "build/bench/environment-modules/usr/lib/*/modulecmd.tcl"),
 )
 
-LMOD = (
-    "/usr/share/lmod/[0-9]*/libexec/lmod",
-    os.path.join(os.path.dirname(HERE), "build/bench/lmod/usr/share/lmod/[0-9]*/libexec/lmod"),
-)
-
 # What a tool keeps of its own.
 OWN = re.compile(rb"LOADEDMODULES|_LMFILES_|__MODULES_.*|MODULEPATH|SHLVL")
 
 NEED = re.compile(rb"(?m)^\s*prereq (\S+)")
-SAID = re.compile(r"(\d+: )(translated|computed|dropped|left out)(: .*)")
+SAID = re.compile(r"(\d+: )(translated|computed|changed|left out)(: .*)")
+
+# What a status of 1 comes from.
+TOLD = re.compile(r": (left out|changed): ")
 
 
 @pytest.fixture(scope="session")
@@ -68,7 +66,7 @@ def test_rows(folder, row, source):
     done = folder.run(path, given=modulefile)
     same(done.stdout.decode(), text(written), "what is written")
     same(done.stderr.decode(), "".join(f"{path}:{line}\n" for line in said), "what is said")
-    same(done.returncode, int(any("left out" in line for line in said)), "status")
+    same(done.returncode, int(any(TOLD.search(line) for line in said)), "status")
 
 
 @pytest.mark.parametrize("row", ROWS, ids=lambda row: parts(row)[0])
@@ -82,8 +80,9 @@ def test_translated_twice(folder, row):
 def test_refused(folder):
     """Nothing is written where the modulefile isn't there, isn't a script or isn't named."""
     usage = (
-        "Usage: modport [--json] [--host NAME=VALUE]... [--flatten SHOWN [--kept NAME=VALUE]...] FILE | --stdin | "
-        "[--one-version] [--like em|lmod] --check FROM | [--one-version] [--like em|lmod] FROM TO"
+        "Usage: modport [--json] [--strict] [--host NAME=VALUE]... [--flatten RECORDS [--kept NAME=VALUE]...] "
+        "FILE | --stdin | [--one-version] [--alias-scripts] [--defaults FILE] FROM TO [FROM TO]... | "
+        "[--one-version] [--alias-scripts] [--defaults FILE] --check FROM [TO]"
     )
     os.mkfifo(folder.at("fifo"))
     for words, given, said in (
@@ -98,11 +97,12 @@ def test_refused(folder):
         (["--check"], b"", usage),
         (["--one-version", "--stdin"], b"", usage),
         (["--one-version", "a"], b"", usage),
-        (["--like", "em", "a"], b"", usage),
-        (["--like", "lmod", "--stdin"], b"", usage),
-        (["--like", "modules", "a", "b"], b"", usage),
-        (["--like", "em", "--like", "em", "a", "b"], b"", usage),
-        (["a", "b", "--like"], b"", usage),
+        (["--alias-scripts", "a"], b"", usage),
+        (["--like", "em", "a", "b"], b"", usage),
+        (["--defaults", "d", "a"], b"", usage),
+        (["--defaults", "d", "--stdin"], b"", usage),
+        (["--defaults", "d", "--defaults", "d", "a", "b"], b"", usage),
+        (["a", "b", "--defaults"], b"", usage),
         (["--host", "machine", "a"], b"", usage),
         (["--host", "machine=", "a"], b"", usage),
         (["--host", "processor=x", "a"], b"", usage),
@@ -142,10 +142,11 @@ def test_files_as_they_come(folder, source, given, said):
     same(done.returncode, 0, "status")
 
 
-def test_a_lone_carriage_return_stays(folder):
+def test_a_lone_carriage_return_stays_and_is_told(folder):
     given = b"#%Module\nputs stderr {a\rb\r}\r"
     done = folder.run("--stdin", given=given)
-    same((done.stdout, done.stderr, done.returncode), (given, b"", 0), "what is written")
+    said = b"--stdin:1: left out: carriage return\n"
+    same((done.stdout, done.stderr, done.returncode), (given, said, 1), "what is written")
 
 
 # What is computed.
@@ -246,7 +247,7 @@ def test_host(folder):
         "3: computed: [uname node]: n1.cluster", "4: computed: [uname version]: {#1 SMP}",
         "5: computed: $tcl_platform(machine): aarch64", "5: computed: $::tcl_platform(os): Linux",
         "5: computed: $tcl_platform(osVersion): 5.14.0", "5: computed: [uname domain]: cluster",
-        "7: left out: uname", "8: left out: uname",
+        "6: left out: tcl_platform", "7: left out: uname", "8: left out: uname",
     ]  # fmt: skip
     same(done.stderr.decode().splitlines(), [f"--stdin:{it}" for it in said], "what is said")
     same(done.returncode, 1, "status")
@@ -265,42 +266,36 @@ def test_computed_in_json(folder):
 
 # What is flattened.
 
-DASHES = 67 * "-"
 KEPT = ("--kept", "HOME=/home/me", "--kept", "USER=me")
 
 
-def shown(*lines):
-    """What `module show` writes of a file whose commands and messages these are (module(1))."""
-    return "\n".join([DASHES, "/apps/modules/tool/1:", "", *lines, DASHES, ""])
+def loaded_text(*lines):
+    """What `load` of Environment Modules writes for sh where these lines are among them (module(1))."""
+    return "".join(f"{line}\n" for line in (*lines, "LOADEDMODULES=m; export LOADEDMODULES;", "test 0;"))
 
 
-def tabbed(line):
-    """The line of a command as it is shown: tabs stand behind its name."""
-    name, _, words = line.partition(" ")
-    return name + ("\t\t" if len(name) < 8 else "\t") + words
+def setting(name, value):
+    return f"{name}={value}; export {name};"
 
 
 def flattened(folder, given, text, *words):
-    """What is written for a modulefile of which this was shown, what is said without the path, and the status."""
+    """What is written for a modulefile whose load wrote this, what is said without the path, and the status."""
     path = os.fsdecode(folder.file("m", given))
-    done = folder.run("--flatten", folder.file("shown", text), *words, path)
+    done = folder.run("--flatten", folder.file("records", text), *words, path)
     said = done.stderr.decode().splitlines()
     true(all(line.startswith(f"{path}:") for line in said), f"the path stands before each of {said}")
     return done.stdout.decode(), [line.removeprefix(path) for line in said], done.returncode
 
 
 def test_flattened(folder):
-    """What was shown stands in place of the commands, behind what is before the first; each command has a line."""
-    given = (
-        "#%Module1.0\n# A tool\n\nset cores [exec nproc]; set n 1\nif {$cores > 2} {\n  setenv CORES $cores\n}\n# end\n"
-    )
-    lines = (tabbed("setenv CORES 4"), "tool is loaded", tabbed("system mkdir /tmp/x"), tabbed("setenv TEXT {a b}"))
+    """What a load did stands in place of the commands, behind what is before the first; each command has a line."""
+    given = "#%Module1.0\n# A tool\n\nset cores [exec nproc]; set n 1\nif {$cores > 2} {\n  setenv CORES $cores\n}\n# end\n"
     same(
-        flattened(folder, given, shown(*lines)),
+        flattened(folder, given, loaded_text(setting("CORES", "4"), setting("TEXT", "a\\ b"))),
         (
             "#%Module1.0\n# A tool\n\nsetenv CORES 4\nsetenv TEXT {a b}\n",
             [
-                ":4: flattened: set cores [exec nproc]; set n 1",
+                ":4: flattened: set cores [exec nproc]; set n 1".partition(";")[0],
                 ":4: flattened: set n 1",
                 ":5: flattened: if {$cores > 2} {",
             ],
@@ -310,87 +305,62 @@ def test_flattened(folder):
     )
 
 
-def test_flattened_in_json(folder):
-    path = os.fsdecode(folder.file("m", COOKIE + "exec true\n"))
-    done = folder.run("--json", "--flatten", folder.file("shown", shown(tabbed("module load b"))), path)
-    same(
-        [json.loads(line) for line in done.stderr.decode().splitlines()],
-        [
-            {"file": path, "line": 2, "what": "exec true", "why": "flattened"},
-            {"file": path, "what": "module load b", "why": "translated"},
-        ],
-        "the report",
-    )
-    same((done.stdout.decode(), done.returncode), (COOKIE + "prereq b\n", 0), "what is written")
-
-
-# A command as it is shown, and what is written for it.
-SHOWN = (
-    ("setenv A {}", "setenv A {}"),
-    ("setenv A x#y", "setenv A x#y"),
-    ("setenv A #x", "setenv A {#x}"),
-    ("setenv A a;b", "setenv A {a;b}"),
-    ("setenv A $x[y]", "setenv A {$x[y]}"),
-    ("setenv A {a {b} c}", "setenv A {a {b} c}"),
-    ("unsetenv A", "unsetenv A"),
-    ("pushenv A v", "pushenv A v"),
-    ("remove-path P /x", "remove-path P /x"),
-    ("prepend-path -d { } P a b", "prepend-path -d { } P a b"),
-    ("append-path --delim=, P a", "append-path --delim=, P a"),
-    ("prepend-path --duplicates P /x", "prepend-path P /x"),
-    ("conflict b c", "conflict b c"),
-    ("prereq b c", "prereq b c"),
-    ("depends-on b c", "prereq b\nprereq c"),
-    ("module use /apps/more", "prepend-path MODULEPATH /apps/more"),
-    ("module-whatis {A tool}", "module-whatis {A tool}"),
-    ("module-whatis A tool", "module-whatis A tool"),
-    ("setenv A /home/me", 'setenv A "[getenv HOME]"'),
-    ("setenv A {/home/me/x y}", 'setenv A "[getenv HOME]/x y"'),
-    ("setenv A /home/men", "setenv A /home/men"),
-    ("setenv A /x/home/me", 'setenv A "/x/home/[getenv USER]"'),
-    ("setenv A me", 'setenv A "[getenv USER]"'),
-    ("setenv A me-too", "setenv A me-too"),
-    ("setenv me x", "setenv me x"),
-    ("prereq me", "prereq me"),
-    ("prepend-path P /x:/home/me/me:me", 'prepend-path P "/x:[getenv HOME]/[getenv USER]:[getenv USER]"'),
-    ("prepend-path --delim : P /home/me/bin", 'prepend-path --delim : P "[getenv HOME]/bin"'),
-)  # fmt: skip
-
-
-@pytest.mark.parametrize("line, written", SHOWN)
-def test_shown_commands(folder, line, written):
-    found = flattened(folder, COOKIE + "exec true\n", shown(tabbed(line)), *KEPT)
-    same((found[0], found[2]), (f"{COOKIE}{written}\n", 0), "what is written, and the status")
-
-
-# What doesn't serve: a file of it stays as it is.
-UNSERVING = (
-    ("nothing", ""),
-    ("no end", shown(tabbed("setenv A 1")).removesuffix(DASHES + "\n")),
-    ("a failure", shown(tabbed("setenv A 1"), "Module ERROR: no such thing")),
-    ("no such module", "ERROR: Unable to locate a modulefile for 'tool'\n"),
-    ("an alias", shown(tabbed("setenv A 1"), tabbed("set-alias ll {ls -l}"))),
-    ("another command", shown(tabbed("setenv A 1"), tabbed("always-load b"))),
-    ("an option", shown(tabbed("setenv --set-if-undef A 1"))),
-    ("a value in two lines", shown("setenv\t\tA {a", "b}")),
-    ("a backslash", shown("setenv\t\tA a\\fb")),
-    ("quotes", shown('setenv\t\tA "a"')),
-    ("a search in a home", shown(tabbed("module use /home/me/modules"))),
-    ("a home with a variable", shown(tabbed("setenv A /home/me/$x"))),
+# A line that a load wrote, and what is written for it.
+WRITTEN = (
+    ("A=; export A;", "setenv A {}"),
+    (setting("A", "x\\#y"), "setenv A x#y"),
+    (setting("A", "a\\;b"), "setenv A {a;b}"),
+    (setting("A", "\\$x\\[y\\]"), "setenv A {$x[y]}"),
+    ("unset A;", "unsetenv A"),
+    (setting("PATH", "/x:modport-mark:/usr/bin:/bin"), "prepend-path PATH /x"),
+    (setting("PATH", "/x:/y:modport-mark:/usr/bin:/bin:/z"), "prepend-path PATH /x:/y\nappend-path PATH /z"),
+    (setting("P", "modport-mark:/x"), "append-path P /x"),
+    (setting("P", "a,b,modport-mark"), "prepend-path -d {,} P a,b"),
+    (setting("__MODULES_LMCONFLICT", "m\\&b\\&c"), "conflict b c"),
+    (setting("__MODULES_LMPREREQ", "m\\&b\\&c\\|d"), "prereq b\nprereq c d"),
+    (setting("__MODULES_PUSHENV_A", "m\\&v") + "\n" + setting("A", "v"), "pushenv A v"),
+    (setting("A", "/home/me"), 'setenv A "[getenv HOME]"'),
+    (setting("A", "/home/me/x\\ y"), 'setenv A "[getenv HOME]/x y"'),
+    (setting("A", "/home/men"), "setenv A /home/men"),
+    (setting("A", "/x/home/me"), 'setenv A "/x/home/[getenv USER]"'),
+    (setting("A", "me"), 'setenv A "[getenv USER]"'),
+    (setting("P", "/x:/home/me/me:me:modport-mark"), 'prepend-path P "/x:[getenv HOME]/[getenv USER]:[getenv USER]"'),
 )
 
 
-@pytest.mark.parametrize("text", [it[1] for it in UNSERVING], ids=[it[0] for it in UNSERVING])
-def test_what_does_not_serve(folder, text):
-    given = COOKIE + "# kept\nexec true\nmodule load b\n"
-    written = COOKIE + "# kept\nexec true\nprereq b\n"
-    said = [":3: left out: exec", ":4: translated: module load b"]
-    same(flattened(folder, given, text, *KEPT), (written, said, 1), "what is written and said")
+@pytest.mark.parametrize("line, written", WRITTEN)
+def test_what_a_load_wrote(folder, line, written):
+    found = flattened(folder, COOKIE + "exec true\n", loaded_text(line), *KEPT)
+    same((found[0], found[2]), (f"{COOKIE}{written}\n", 0), "what is written, and the status")
 
 
-def test_what_is_within_is_not_flattened(folder):
-    found = flattened(folder, COOKIE + "module load b\n", shown(tabbed("setenv A 1")))
-    same(found, (COOKIE + "prereq b\n", [":2: translated: module load b"], 0), "what is written and said")
+# What doesn't serve: a file of it stays as it is, and a line says why.
+UNSERVING = (
+    ("a failure", "test 0 = 1;\n", "the load failed"),
+    ("an alias", loaded_text("alias ll=ls;"), "it does something that is no variable"),
+    ("other modules", setting("LOADEDMODULES", "b:m") + "\n", "it loads other modules"),
+    ("another path", loaded_text(setting("PATH", "/x:modport-mark")), "a path has other elements than were added"),
+    ("a home with a tilde", loaded_text(setting("A", "~/x")), "a command of it isn't read even then"),
+)
+
+
+@pytest.mark.parametrize("text, why", [it[1:] for it in UNSERVING], ids=[it[0] for it in UNSERVING])
+def test_what_does_not_serve(folder, text, why):
+    given = COOKIE + "# kept\nexec true\nsetenv B 1\n"
+    said = [":3: left out: exec", f": left out: not flattened, as {why}"]
+    same(flattened(folder, given, text, *KEPT), (given, said, 1), "what is written and said")
+
+
+def test_what_is_read_is_not_flattened(folder):
+    found = flattened(folder, COOKIE + "depends-on b\n", loaded_text(setting("A", "1")))
+    same(found, (COOKIE + "prereq b\n", [":2: translated: depends-on b"], 0), "what is written and said")
+
+
+def test_what_asks_is_told_where_it_is_flattened(folder):
+    given = COOKIE + "if {[is-loaded g]} {exec true}\n"
+    found = flattened(folder, given, loaded_text(setting("A", "1")))
+    told = ": changed: is-loaded: what it answered in one load is written for good"
+    same(found, (COOKIE + "setenv A 1\n", [":2: flattened: if {[is-loaded g]} {exec true}", told], 1), "all")
 
 
 # Trees.
@@ -427,7 +397,7 @@ def ends(folder, words, out, err, status):
 
 
 def test_tree(folder):
-    """Modulefiles, default files and links are written; what is no modulefile is said."""
+    """Modulefiles, default files and what links lead to are written; links, and what is no modulefile, are said."""
     old, new = tree(
         folder,
         {
@@ -442,7 +412,8 @@ def test_tree(folder):
     ends(
         folder,
         [old, new],
-        f"{at}/zlib/README: left out: no modulefile\n{at}/gcc/12:2: translated: module load zlib\n",
+        f"{at}/gcc/12:2: translated: module load zlib\n{at}/zlib/README: left out: no modulefile\n"
+        f"{at}/zlib/new: translated: link to 1\n",
         "",
         0,
     )
@@ -452,7 +423,7 @@ def test_tree(folder):
             "gcc/12": b"#%Module\nprereq zlib\n",
             "gcc/.version": b"#%Module\nset ModulesVersion 12\n",
             "zlib/1": b"#%Module\nsetenv Z 1\n",
-            "zlib/new": "1",
+            "zlib/new": b"#%Module\nsetenv Z 1\n",
         },
         "what is written",
     )
@@ -527,12 +498,13 @@ def test_rows_of_trees(folder, row):
     files = files_of(row)
     read = {name: text(given) for name, (given, written, _) in files.items() if not is_script(given, written)}
     old, new = tree(folder, read)
-    done = folder.run(old, new)
+    options = ["--alias-scripts"] if "set-alias" in row else []
+    done = folder.run(*options, old, new)
     at = old.decode()
     said = [f"{at}/{name}:{line}" for name, (_, _, lines) in files.items() for line in lines]
     same(sorted(done.stdout.decode().splitlines()), sorted(said), "what is said")
     same(done.stderr, b"", "standard error")
-    same(done.returncode, int(any(": left out: " in line for line in said)), "status")
+    same(done.returncode, int(any(TOLD.search(line) for line in said)), "status")
     same(
         contents(new),
         {name: as_written(new, given, written).encode() for name, (given, written, _) in files.items()},
@@ -567,8 +539,8 @@ def test_an_alias_in_a_shell(folder, built, shell):
     if not shutil.which(shell):
         pytest.skip(f"{shell} isn't there")
     old, new = alias_tree(folder)
-    done = folder.run(old, new)
-    same((done.stderr, done.returncode), (b"", 0), "standard error and status")
+    done = folder.run("--alias-scripts", old, new)
+    same((done.stderr, done.returncode), (b"", 1), "standard error and status")
     env = {b"MODULEPATH": new, b"PATH": b"/usr/bin:/bin"}
     words = [built("modulecmd"), "sh", "load", "a/1"]
     load = subprocess.run(words, env=env, capture_output=True, timeout=SECONDS, check=True).stdout
@@ -578,7 +550,7 @@ def test_an_alias_in_a_shell(folder, built, shell):
 def test_an_alias_beside_environment_modules(folder, tool):
     """The alias that Environment Modules sets, and the script, do the same in a shell."""
     old, new = alias_tree(folder)
-    folder.run(old, new)
+    folder.run("--alias-scripts", old, new)
     found = []
     for place in (old, new):
         env = {b"MODULEPATH": place, b"PATH": b"/usr/bin:/bin"}
@@ -592,7 +564,7 @@ def test_scripts_are_programs_by_the_umask(folder):
     old, new = alias_tree(folder)
     mask = os.umask(0o027)
     try:
-        folder.run(old, new)
+        folder.run("--alias-scripts", old, new)
     finally:
         os.umask(mask)
     places = ("bin", "bin/a", "bin/a/1", "bin/a/1/shown")
@@ -609,10 +581,10 @@ def test_an_alias_in_a_tree_of_a_relative_path(folder, named):
         place = folder.modules + b".link"
         os.symlink(folder.modules, place)
     env = {b"PWD": place} if named else {}
-    words = [folder.program, old, b"./x/../to/"]
+    words = [folder.program, "--alias-scripts", old, b"./x/../to/"]
     os.mkdir(folder.at("x"))
     done = subprocess.run(words, cwd=place, env=env, capture_output=True, timeout=SECONDS, check=False)
-    same((done.stderr, done.returncode), (b"", 0), "standard error and status")
+    same((done.stderr, done.returncode), (b"", 1), "standard error and status")
     written = contents(folder.at("to"))
     same(written["a/1"], b"#%Module\nprepend-path PATH " + place + b"/to/bin/a/1\n", "what is written")
     true("bin/a/1/shown" in written, "the script is there")
@@ -621,17 +593,19 @@ def test_an_alias_in_a_tree_of_a_relative_path(folder, named):
 def test_check_of_an_alias(folder):
     """The report is that of a tree that is written, and nothing is."""
     old, new = alias_tree(folder)
-    done = folder.run("--check", old)
-    same((done.stderr, done.returncode), (b"", 0), "standard error and status")
+    done = folder.run("--check", "--alias-scripts", old)
+    same((done.stderr, done.returncode), (b"", 1), "standard error and status")
     report = done.stdout
-    same(folder.run(old, new).stdout, report, "the report")
-    true(report.startswith(old + b"/a/1:2: translated: set-alias shown {"), "the alias is translated")
+    same(folder.run("--alias-scripts", old, new).stdout, report, "the report")
+    true(report.startswith(old + b"/a/1:2: changed: set-alias shown {"), "the alias is changed")
+    strict = folder.run("--check", "--alias-scripts", "--strict", old)
+    same(strict.stdout, old + b"/a/1:2: left out: set-alias\n", "the report, where nothing may differ")
 
 
 def test_a_script_that_cant_be_written(folder):
     """It isn't there, is said, and the other files are written."""
     old, new = tree(folder, {"a/1": COOKIE + f"set-alias x {{date {'u' * 5000}}}\n", "b/1": COOKIE + "setenv B 1\n"})
-    done = folder.run(old, new, most=4096)
+    done = folder.run("--alias-scripts", old, new, most=4096)
     at = new.decode()
     same(done.stderr.decode(), f"ERROR: {at}/bin/a/1/x: Can't be written\n", "standard error")
     same(done.returncode, 2, "status")
@@ -648,11 +622,12 @@ def test_a_family_in_a_file_that_is_no_script(folder):
     ends(
         folder,
         [old, new],
-        f"{at}/gcc/12:2: dropped: family compiler\n",
+        f"{at}/gcc/12:2: translated: family compiler\n",
         f"ERROR: {at}/broken/1: Missing close-brace at byte 31\n",
         2,
     )
-    same(contents(new), {"gcc/12": b"#%Module\n\n"}, "what is written")
+    written = b"#%Module\nsetenv MODULES_FAMILY_COMPILER gcc\nsetenv LMOD_FAMILY_COMPILER gcc\n"
+    same(contents(new), {"gcc/12": written}, "what is written")
 
 
 def test_json(folder):
@@ -848,15 +823,6 @@ def test_symbols_beside_environment_modules(folder, tool, name):
 # Defaults of folders.
 
 
-@pytest.fixture(scope="session")
-def lmod():
-    """Lmod."""
-    for pattern in LMOD:
-        for path in sorted(glob.glob(pattern)):
-            return path
-    return pytest.skip("Lmod isn't there")
-
-
 def versions(name, *those, **files):
     """The files of a folder of these versions, with default files."""
     made = {f"{name}/{version}": COOKIE + f"setenv V {version}\n" for version in those}
@@ -914,21 +880,6 @@ FOLDERS = {
     },
 }
 
-# Where a folder isn't judged: for Environment Modules the greatest of one is a folder; for Lmod two versions are one, or a
-# default file names what is no version to it.
-UNCLEAR = {"em": ("parts", "above"), "lmod": ("zeros", "parts", "command in version", "point", "above")}
-
-# What isn't judged for either of the two.
-UNJUDGED = {
-    "a body": versions("n", "1", "2", modulerc="if {1} { module-version n/1 default }\n"),
-    "a word that isn't constant": versions("n", "1", "2", modulerc="module-version n/$v default\n"),
-    "what isn't there": versions("n", "1", "2", modulerc="module-version n/7 default\n"),
-    "a symbol": versions("n", "1", "2", modulerc="module-version n/1 old\nmodule-version n/old default\n"),
-    "no script": versions("n", "1", "2", modulerc="module-version {n/1 default\n"),
-    "a name with a blank": versions("n", "1 x", "2", version="set ModulesVersion {1 x}\n"),
-}
-
-
 def default_tree(folder, files):
     """Writes files and links, and gives their folder, the path of another one, and the names of the folders."""
     old, new = tree(folder, {name: it for name, it in files.items() if not it.startswith("-> ")})
@@ -946,65 +897,59 @@ def loaded(words, place, name):
     return found.group(1).decode() if found else None
 
 
-@pytest.mark.parametrize("other", ["em", "lmod"])
+def listed(folder, tool, place):
+    """The list of defaults that Environment Modules gives, in a file."""
+    env = {b"MODULEPATH": place, b"PATH": b"/usr/bin:/bin", b"HOME": b"/nonexistent"}
+    done = subprocess.run([tool, "sh", "-t", "avail", "-d"], env=env, capture_output=True, timeout=SECONDS, check=True)
+    return folder.file("defaults", done.stderr)
+
+
 @pytest.mark.parametrize("title", FOLDERS)
-def test_defaults_beside_their_programs(folder, built, request, other, title):
+def test_defaults_beside_environment_modules(folder, built, tool, title):
     """The same version is loaded from what is written; and nothing is written where it already was."""
-    program = [request.getfixturevalue({"em": "tool", "lmod": "lmod"}[other]), {"em": "sh", "lmod": "bash"}[other]]
     own = [built("modulecmd"), "sh"]
     old, new, names = default_tree(folder, FOLDERS[title])
     plain = folder.at("plain")
     folder.run(old, plain)
-    done = folder.run("--like", other, old, new)
+    defaults = listed(folder, tool, old)
+    done = folder.run("--defaults", defaults, old, new)
     same(done.stderr, b"", "standard error")
     said = done.stdout.decode()
     for name in names:
         path = f"{old.decode()}/{name}"
         if f"{path}: left out: default\n" in said:
+            same(done.returncode, 1, "status")
             continue
-        wanted, before = loaded(program, old, name), loaded(own, plain, name)
+        wanted, before = loaded([tool, "sh"], old, name), loaded(own, plain, name)
         if wanted is None or os.path.dirname(wanted) != name:
             true(f"{path}: default: " not in said, f"{name} isn't named, as {wanted} isn't of it")
             continue
         same(loaded(own, new, name), wanted, f"what {name} means")
         same(f"{path}: default: {wanted}\n" in said, wanted != before, f"whether a line names {wanted}, not {before}")
-        both = [contents(it).get(f"{name}/.modulerc") for it in (new, plain)]
-        same(both[0] != both[1], wanted != before, f"whether .modulerc of {name} is another")
-    same(": left out: default\n" in said, title in UNCLEAR[other], "whether a folder isn't judged")
-    checked = folder.run("--check", "--like", other, old)
+    checked = folder.run("--check", "--defaults", defaults, old)
     same(checked.stdout, done.stdout, "what is said where nothing is written")
 
 
-@pytest.mark.parametrize("other", ["em", "lmod"])
-@pytest.mark.parametrize("title", UNJUDGED)
-def test_defaults_that_are_not_judged(folder, other, title):
-    """A folder of which it isn't known what is loaded is said, and nothing is added."""
-    old, new, names = default_tree(folder, UNJUDGED[title])
-    done = folder.run("--like", other, old, new)
-    lines = [line for line in done.stdout.decode().splitlines() if line.endswith(": left out: default")]
-    same(lines, [f"{old.decode()}/{name}: left out: default" for name in names], "what is said")
-    true(b": default: " not in done.stdout, "no version is named")
-    true(done.returncode in (1, 2), "status")
-
-
-def test_defaults_that_neither_can_say(folder):
-    """Names outside of ASCII have no order of Tcl's here, and a file of Lua none of Lmod's."""
-    rows = (("em", "2é", True), ("lmod", "2é", False), ("em", "3.lua", False), ("lmod", "3.lua", True))
-    for other, name, told in rows:
-        old, new = folder.at(f"{other}{name}/from"), folder.at(f"{other}{name}/to")
-        for version in ("1", "2", name):
-            folder.file(f"{other}{name}/from/n/{version}", COOKIE)
-        done = folder.run("--like", other, old, new)
-        same(b": left out: default\n" in done.stdout, told, f"whether {name} isn't judged for {other}")
+def test_a_list_of_defaults(folder):
+    """A folder that the list names no version of is said, and so is one whose version isn't there; other lines count not."""
+    files = {**versions("a", "1", "2"), **versions("b", "1"), **versions("c", "1", "2")}
+    old, new = tree(folder, files)
+    defaults = folder.file("defaults", "/apps/modulefiles:\na/1(default:old)\n\nc/3\nd/1\n")
+    done = folder.run("--defaults", defaults, old, new)
+    at = old.decode()
+    lines = [f"{at}/a: default: a/1", f"{at}/b: left out: default", f"{at}/c: left out: default"]
+    same(sorted(done.stdout.decode().splitlines()), lines, "what is said")
+    same((done.stderr, done.returncode), (b"", 1), "standard error and status")
+    same(contents(new)["a/.modulerc"], b"#%Module\nmodule-version a/1 default\n", "what is written")
 
 
 def test_defaults_in_json_with_permissions(folder):
     """The new file is as the modulefile that it names may be read, and another keeps its permissions."""
-    files = {**versions("a", "1.9", "1.009"), **versions("b", "1", "2", version="module-version b/1 default\n")}
+    files = {**versions("a", "1.9", "1.009"), **versions("b", "1", "2")}
     old, new = tree(folder, {**files, "b/.modulerc": COOKIE})
     os.chmod(os.path.join(old, b"a/1.009"), 0o640)
     os.chmod(os.path.join(old, b"b/.modulerc"), 0o600)
-    done = folder.run("--json", "--like", "em", old, new)
+    done = folder.run("--json", "--defaults", folder.file("defaults", "a/1.009\nb/1\n"), old, new)
     at = old.decode()
     same(
         sorted((json.loads(line) for line in done.stdout.decode().splitlines()), key=lambda it: it["file"]),
@@ -1044,16 +989,26 @@ ASKING = {
 }
 
 
+# What SITES has for the records of a tree: each variable that a load changes has a mark before, which PATH has in front.
+RECORDS = r"""
+cd "$1" && export MODULEPATH="$PWD" && shift
+find -L * -type f ! -name '.*' | while read -r name; do
+    mkdir -p "$(dirname "$RECORDS/$name")"
+    marks=$("$@" sh load "$name" 2> /dev/null | sed -n 's/^\([A-Za-z][A-Za-z0-9_]*\)=.*; export .*/\1=modport-mark/p' |
+        grep -v -e ^LOADEDMODULES= -e ^PATH=)
+    env PATH=modport-mark:/usr/bin:/bin $marks "$@" sh load "$name" > "$RECORDS/$name" 2> /dev/null
+done
+"""
+
+
 def test_flattened_beside_environment_modules(folder, tool):
-    """A module of which what Environment Modules shows was written makes the environment that it makes, for another
-    user as well."""
+    """A module of which what a load did was written makes the environment that it makes, for another user as well."""
     script = os.fsdecode(folder.file("setup.sh", "export LICENSE=27000@host\nPATH=/opt/tool/bin:$PATH\n"))
     old, new = tree(folder, {name: COOKIE + text.replace("{SCRIPT}", script) for name, (text, _) in ASKING.items()})
-    for name in ASKING:
-        env = {b"MODULEPATH": old, b"PATH": b"/usr/bin:/bin", b"HOME": b"/home/me", b"USER": b"me"}
-        done = subprocess.run([tool, "sh", "show", name], env=env, capture_output=True, timeout=SECONDS, check=True)
-        folder.file(f"shown/{name}", done.stderr)
-    done = folder.run("--flatten", folder.at("shown"), *KEPT, old, new)
+    env = {"PATH": "/usr/bin:/bin", "HOME": "/home/me", "USER": "me", "RECORDS": folder.at("records").decode()}
+    env["MODULES_AUTO_HANDLING"] = "0"
+    subprocess.run(["sh", "-c", RECORDS, "sh", old, tool], env=env, timeout=SECONDS, check=True)
+    done = folder.run("--flatten", folder.at("records"), *KEPT, old, new)
     said = done.stdout.decode()
     same((done.stderr, done.returncode), (b"", 1), "standard error and status")
     files = contents(new)

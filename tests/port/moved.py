@@ -69,12 +69,9 @@ LAST = "no-such-module"
 
 COOKIE = "#%Module"
 WRITTEN = {"Latin-1": "latin-1", "CR LF": "utf-8"}
-TOLD = {"alone", "check", "refused", "needs", "says", "why", "lost", "alias", "reads", "written", "there", "older"}
+TOLD = {"alone", "check", "refused", "needs", "says", "why", "reads", "written", "there", "older"}
 COUNTS = re.compile(r"^# (\d+) (.+)$", re.MULTILINE)
-PORT = re.compile(r"(translated|computed|dropped|left out): .+")
-
-# Whether modport writes scripts for aliases, as its page says where it does.
-HAS_ALIASES = re.search(r"^\.It Ic set-alias", read(os.path.join(TOP, "man", "modport.1")).decode(), re.MULTILINE)
+PORT = re.compile(r"(translated|computed|changed|left out): .+")
 
 
 class File:
@@ -88,9 +85,6 @@ class File:
         self.told = [line.split(": ", 1) for line in lines]
         true({word for word, _ in self.told} <= TOLD, f"what is said of {self.path} is known")
         self.directory, self.name = PATHS.fullmatch(self.path).groups()
-        if self.only("alias") and not HAS_ALIASES:
-            self.standing = "refused"
-            self.told += [["says", "left out: set-alias"], ["why", "'set-alias' is left out"]]
 
     def each(self, word):
         """What is said of it under a word, in each line."""
@@ -115,17 +109,14 @@ class File:
         if what in WRITTEN:
             return 1
         lines = self.text.splitlines()
-        word = re.escape(what.split(": ")[0] if kind == "computed" else what)
+        word = re.escape(what.split(": ")[0] if kind in ("computed", "changed") else what)
         found = [number for number, line in enumerate(lines) if re.search(rf"(?<![\w-]){word}(?!\w)", line)]
         return max(number for number in range(found[before] + 1) if re.match(r"[^\s}]", lines[number])) + 1
 
     def report(self):
         """The lines of the report about the file."""
-        says = self.each("says")
-        if self.only("alias") and HAS_ALIASES:
-            says = [f"translated: set-alias {self.only('alias')}"]
         seen = collections.Counter()
-        for said in says:
+        for said in self.each("says"):
             true(PORT.fullmatch(said), f"{said!r} is a line of a report")
             yield f"{OLD}/{self.path}:{self.line_of(said, seen[said])}: {said}"
             seen[said] += 1
@@ -422,29 +413,25 @@ def test_what_is_to_be_taken_away_is_found(tidied):
 
 @pytest.fixture(scope="module")
 def ported(machine, tidied):
-    """What modport says of each directory, and with which status."""
-    command = "$bin/modport FROM TO"
+    """What modport says of the directories, and with which status."""
+    command = "$bin/modport FROM TO FROM TO"
     true(command in spans("$bin/modport"), f"{command} is a command of the page")
-    goes_well(["mkdir", "-p", f"{machine.root}{NEW}/compiler", f"{machine.root}{NEW}/mpi"])
-    said = {}
-    for directory in SITE.directories:
-        typed = command.replace("FROM", f"{OLD}/{directory}").replace("TO", f"{NEW}/{directory}")
-        said[directory] = machine.run(["bash", "--login"], input=f"cd\n{BIN}{typed}\n", env=USER)
-    return said
+    pairs = " ".join(f"{OLD}/{directory} {NEW}/{directory}" for directory in SITE.directories)
+    typed = command.replace("FROM TO FROM TO", pairs)
+    return machine.run(["bash", "--login"], input=f"cd\n{BIN}{typed}\n", env=USER)
 
 
-@pytest.mark.parametrize("directory", SITE.directories)
-def test_each_command_that_is_written_otherwise_or_left_has_a_line(ported, directory):
-    wanted = [line for file in SITE.files if file.directory == directory for line in file.report()]
-    out, err, status = ported[directory]
+def test_each_command_that_is_written_otherwise_or_left_has_a_line(ported):
+    wanted = [line for file in SITE.files for line in file.report()]
+    out, err, status = ported
     same(sorted(out.splitlines()), sorted(wanted), "the report")
-    same((err, status), ("", int(any(": left out: " in line for line in wanted))), "standard error and status")
+    told = [line for line in wanted if ": left out: " in line or ": changed: " in line]
+    same((err, status), ("", int(bool(told))), "standard error and status")
 
 
 def below(root):
-    """The files below a folder, but for scripts of aliases."""
-    found = (os.path.relpath(os.path.join(at, name), root) for at, _, names in os.walk(root) for name in names)
-    return sorted(path for path in found if "/bin/" not in path)
+    """The files below a folder."""
+    return sorted(os.path.relpath(os.path.join(at, name), root) for at, _, names in os.walk(root) for name in names)
 
 
 def test_files_of_which_nothing_is_said_are_the_same(machine, ported, judge_rows):
@@ -469,23 +456,13 @@ def finished(machine, ported):
     return machine
 
 
-PATH_OF_ALIASES = frozenset(
-    f"{side} PATH=/apps/software/git/2.43.0/bin:{scripts}/usr/bin:/bin"
-    for side, scripts in (("<", ""), (">", f"{OLD}/core/bin/git/2.43.0:"))
-)
-
-
 def translated(names):
     """How a line of names comes out over the translation, or None where it makes what the site as it is makes."""
     files = [SITE.named.get(word) or SITE.default(word) for word in names.split()]
     for file in files:
         if file.standing == "refused":
             return Compared(file.only("why"))
-    if any(file.only("there") for file in files):
-        return ALONE
-    lost = frozenset(f"< {line}" for file in files for line in file.each("lost"))
-    aliases = any(file.only("alias") for file in files)
-    return Compared(None, lost | PATH_OF_ALIASES if aliases else lost) if lost or aliases else None
+    return ALONE if any(file.only("there") for file in files) else None
 
 
 def test_the_comparison_of_the_translation(finished, judge_rows):

@@ -6,6 +6,7 @@ The standings, the reasons and what is left are typed by hand from modaudit(1) a
 """
 
 import functools
+import itertools
 import json
 import os
 import random
@@ -216,13 +217,12 @@ class Site:
         return json.loads(done.stdout)
 
     def port(self, root):
-        """Writes each of its directories anew by modport in a folder, with the paths of that."""
-        for directory in dict.fromkeys(file.directory for file in self.written.files):
-            target = os.path.join(root, directory)
-            os.makedirs(os.path.dirname(target), exist_ok=True)
-            command = [self.porter, os.path.join(self.place, directory), target]
-            done = subprocess.run(command, env=START, capture_output=True, timeout=SECONDS, check=False)
-            true(done.returncode in (0, 1), f"the status of {command} is {done.returncode}: {done.stderr}")
+        """Writes its directories anew by modport in a folder, with the paths of that, and scripts for aliases."""
+        directories = dict.fromkeys(file.directory for file in self.written.files)
+        pairs = [(os.path.join(self.place, it), os.path.join(root, it)) for it in directories]
+        command = [self.porter, "--alias-scripts", *itertools.chain.from_iterable(pairs)]
+        done = subprocess.run(command, env=START, capture_output=True, timeout=SECONDS, check=False)
+        true(done.returncode in (0, 1), f"the status of {command} is {done.returncode}: {done.stderr}")
         for file in self.written.modules:
             with open(os.path.join(root, file.path), "r+", encoding="utf-8") as opened:
                 text = opened.read().replace(self.place, root)

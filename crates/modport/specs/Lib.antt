@@ -1,6 +1,3 @@
-pub mod Accounts
-pub mod FileAccounts
-pub mod Flattening
 pub mod Lines
 pub mod LineViews
-pub mod TranslatedFile
+pub mod Statuses

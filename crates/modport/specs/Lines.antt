@@ -1,29 +1,37 @@
 -- The report (own): lines on a file, for people, or each a JSON object (RFC 8259).
-use Rattle.std.specs.Prelude.{ℕ, List, [], ◌∷◌, ◌++◌, Bool, codes, decimal, flat_map, if◌then◌else◌, Option, Some, None}
+use Rattle.std.specs.Prelude.{ℕ, List, [], ◌∷◌, ◌++◌, Bool, codes, decimal, flat_map, if◌then◌else◌, string_bytes, Option, Some, None}
 use Rattle.std.specs.Str.Lossy.{utf8_lossy}
 use Rattle.json.specs.Print.{print}
 use Rattle.json.specs.Token.{Token, begin_object, end_object, key, string, number}
 use Rattle.tcltext.specs.chars.Bytes.{newline}
 use Rattle.tcltext.specs.chars.Runs.{Text}
-use Rattle.modport.specs.declared.report_lines.PieceOutcome.{PieceOutcome}
-use Rattle.modport.specs.declared.report_lines.PieceOutcome.TheVariants.{Translated, Dropped, Computed, Flattened, Added, Default, LeftOut}
+use Rattle.port_rewriting.specs.declared.class.Outcome.{Outcome}
+use Rattle.port_rewriting.specs.declared.class.Outcome.TheVariants.{Translated, Changed, Computed, Flattened, Added, Default, Left}
 
--- what is said of a part of a file, or, without a place, of the whole: what became of it, which it is, and what is
--- written for it, where that is said; a place is a line of the file, from 1
+-- what is said of a part of a file, or, without a place, of the whole: which it is, and what became of it; a place is a
+-- line of the file, from 1
 pub record Line : Type 0 where
   pub place : Option ℕ
-  pub fate : PieceOutcome
   pub what : Text
-  pub put : Option Text
+  pub outcome : Outcome
 
-abbrev pub word_of : PieceOutcome → Text
+abbrev pub word_of : Outcome → Text
 word_of Translated = codes "translated"
-word_of Dropped = codes "dropped"
-word_of Computed = codes "computed"
+word_of (Changed case) = codes "changed"
+word_of (Computed text) = codes "computed"
 word_of Flattened = codes "flattened"
 word_of Added = codes "added"
 word_of Default = codes "default"
-word_of LeftOut = codes "left out"
+word_of Left = codes "left out"
+
+abbrev pub put_of : Outcome → Option Text
+put_of (Changed case) = Some (string_bytes case)
+put_of (Computed text) = Some (string_bytes text)
+put_of Translated = None
+put_of Flattened = None
+put_of Added = None
+put_of Default = None
+put_of Left = None
 
 -- For people
 
@@ -37,7 +45,7 @@ put_text (Some text) = codes ": " ++ text
 
 -- `FATE: WHAT` or `FATE: WHAT: TEXT`
 abbrev pub said_text : Line → Text
-said_text l = word_of l.fate ++ (codes ": " ++ (l.what ++ put_text l.put))
+said_text l = word_of l.outcome ++ (codes ": " ++ (l.what ++ put_text (put_of l.outcome)))
 
 -- `PATH:LINE: FATE: WHAT`, and so on
 abbrev pub plain : Text → Line → Text
@@ -61,7 +69,7 @@ abbrev pub members : Text → Line → List Token
 members path l =
     text_tokens (codes "file") path
     ++ (place_tokens l.place
-    ++ (text_tokens (codes "what") l.what ++ (text_tokens (codes "why") (word_of l.fate) ++ put_tokens l.put)))
+    ++ (text_tokens (codes "what") l.what ++ (text_tokens (codes "why") (word_of l.outcome) ++ put_tokens (put_of l.outcome))))
 
 -- an object with `file`, `line`, `what`, `why` and `text`
 abbrev pub as_json : Text → Line → Text

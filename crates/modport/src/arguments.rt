@@ -1,9 +1,7 @@
 //! What the words of a command line ask for.
 
 use crate::fault::PortFault;
-use crate::host_names::HostNames;
-use crate::kept_values::KeptValues;
-use port_defaults::Program;
+use crate::named_values::{Named, NamedValues};
 use std::alloc::Global;
 
 /// What is translated, and where it is written.
@@ -15,212 +13,173 @@ pub(crate) enum PortTarget {
     Stdin,
     /// The file at this path, to standard output.
     File(String),
-    /// The files below a path.
-    Tree(WalkedFiles),
+    /// The files below these paths.
+    Trees(Vec<TreePaths>),
 }
 
-/// Files below a path.
+/// A directory whose files are translated.
 #[derive(Debug, Drop)]
-pub(crate) struct WalkedFiles {
-    /// The path.
+pub(crate) struct TreePaths {
+    /// Its path.
     pub from: String,
     /// The path that they are written below; none where nothing is written but the report.
     pub to: Option<String>,
-    /// Whether each modulefile is to be in conflict with its own name.
-    pub one_version: bool,
-    /// The program whose default of each folder is to be named, where there is one.
-    pub like: Option<Program>,
 }
 
-/// What is asked for.
+/// What options ask for.
 #[derive(Debug, Drop)]
-pub(crate) struct PortArguments {
-    /// What is translated, and where it is written.
-    pub job: PortTarget,
-    /// Whether each line of the report is JSON.
-    pub json: bool,
-    /// What is said besides.
-    pub said: ParsedArguments,
-}
-
-/// What the words behind options say.
-#[derive(Debug, Drop)]
-pub(crate) struct ParsedArguments {
-    /// Of the host that the modulefiles are for.
-    pub host: HostNames,
-    /// Of whose environment modulefiles were shown in.
-    pub kept: KeptValues,
-    /// The path of what was shown.
-    pub shown: Option<String>,
-    /// The program whose default of each folder is to be named.
-    pub like: Option<Program>,
-}
-
-impl ParsedArguments {
-    /// Adds what a word says behind an option.
-    ///
-    /// The errors: want of memory; it says nothing, or what is said already.
-    fn add(&mut self, alloc: Global, option: OptionWithValue, word: &str) -> Result<(), PortFault> {
-        match option {
-            OptionWithValue::HostNames => self.host.add(alloc, word),
-            OptionWithValue::KeptValues => self.kept.add(alloc, word),
-            OptionWithValue::Shown if self.shown.is_none() => {
-                self.shown = Some(String::from_str(alloc, word)?);
-                Ok(())
-            }
-            OptionWithValue::Like if self.like.is_none() => {
-                self.like = Some(program_of(word)?);
-                Ok(())
-            }
-            OptionWithValue::Shown | OptionWithValue::Like => Err(PortFault::Usage),
-        }
-    }
-}
-
-/// The program that a word names.
-fn program_of(word: &str) -> Result<Program, PortFault> {
-    match word {
-        "em" => Ok(Program::EnvironmentModules),
-        "lmod" => Ok(Program::Lmod),
-        _ => Err(PortFault::Usage),
-    }
-}
-
-/// An option behind which a word says something.
-#[derive(Clone, Copy)]
-enum OptionWithValue {
-    /// `--host`
-    HostNames,
-    /// `--kept`
-    KeptValues,
-    /// `--flatten`
-    Shown,
-    /// `--like`
-    Like,
-}
-
-/// Which options stand before the paths.
-#[derive(Clone, Copy)]
-struct Options {
+pub(crate) struct PortOptions {
     help: bool,
     stdin: bool,
     check: bool,
-    json: bool,
-    one_version: bool,
-    /// The last word, where one stands behind it that says something.
-    telling: Option<OptionWithValue>,
-    /// Whether a word was `--`, behind which no word is an option.
-    ended: bool,
+    /// Whether each line of the report is JSON.
+    pub json: bool,
+    /// Whether each modulefile is to be in conflict with its own name.
+    pub one_version: bool,
+    /// Whether scripts are written for aliases.
+    pub alias_scripts: bool,
+    /// Whether a command is left where something would differ.
+    pub strict: bool,
+    /// What is said of the host that the modulefiles are for.
+    pub host: NamedValues,
+    /// What is said of the person in whose environment modulefiles were loaded.
+    pub kept: NamedValues,
+    /// The path of what was loaded.
+    pub records: Option<String>,
+    /// The path of a list of defaults.
+    pub defaults: Option<String>,
 }
 
-impl Options {
-    /// Whether the word is an option, which is noted.
-    ///
-    /// The error: it begins as one, and is none.
-    fn take(&mut self, word: &str) -> Result<bool, PortFault> {
-        if self.ended || !word.starts_with('-') {
-            return Ok(false);
+/// Sets a path that isn't there yet.
+///
+/// The errors: want of memory; one is there.
+fn set_once(path: &mut Option<String>, word: String) -> Result<(), PortFault> {
+    if path.is_some() {
+        return Err(PortFault::Usage);
+    }
+    *path = Some(word);
+    Ok(())
+}
+
+impl PortOptions {
+    /// Those of a command line without options.
+    fn new(alloc: Global) -> PortOptions {
+        PortOptions {
+            help: false,
+            stdin: false,
+            check: false,
+            json: false,
+            one_version: false,
+            alias_scripts: false,
+            strict: false,
+            host: NamedValues::new(alloc),
+            kept: NamedValues::new(alloc),
+            records: None,
+            defaults: None,
         }
+    }
+
+    /// Adds an option, or gives the one behind which a word is to follow.
+    ///
+    /// The error: there is no such option.
+    fn add(&mut self, word: &str) -> Result<Option<&'static str>, PortFault> {
         match word {
             "--help" => self.help = true,
             "--stdin" => self.stdin = true,
             "--check" => self.check = true,
             "--json" => self.json = true,
             "--one-version" => self.one_version = true,
-            "--host" => self.telling = Some(OptionWithValue::HostNames),
-            "--kept" => self.telling = Some(OptionWithValue::KeptValues),
-            "--flatten" => self.telling = Some(OptionWithValue::Shown),
-            "--like" => self.telling = Some(OptionWithValue::Like),
-            "--" => self.ended = true,
+            "--alias-scripts" => self.alias_scripts = true,
+            "--strict" => self.strict = true,
+            "--host" => return Ok(Some("--host")),
+            "--kept" => return Ok(Some("--kept")),
+            "--flatten" => return Ok(Some("--flatten")),
+            "--defaults" => return Ok(Some("--defaults")),
             _ => return Err(PortFault::Usage),
         }
-        Ok(true)
+        Ok(None)
     }
 
-    /// Whether the word is one that says something behind an option, which is added.
+    /// Adds the word behind an option.
     ///
-    /// The errors: want of memory; it says nothing.
-    fn tells(
-        &mut self,
-        alloc: Global,
-        said: &mut ParsedArguments,
-        word: &str,
-    ) -> Result<bool, PortFault> {
-        let Some(option) = self.telling else {
-            return Ok(false);
-        };
-        self.telling = None;
-        said.add(alloc, option, word)?;
-        Ok(true)
+    /// The errors: want of memory; it says nothing, or what is said already.
+    fn add_word(&mut self, alloc: Global, option: &str, word: String) -> Result<(), PortFault> {
+        match option {
+            "--host" => self.host.add(alloc, Named::Host, word.as_str()),
+            "--kept" => self.kept.add(alloc, Named::Person, word.as_str()),
+            "--flatten" => set_once(&mut self.records, word),
+            _ => set_once(&mut self.defaults, word),
+        }
     }
 
-    /// What is asked for, with these paths and this program.
-    fn job(self, like: Option<Program>, mut paths: Vec<String>) -> Result<PortTarget, PortFault> {
-        if self.telling.is_some() {
+    /// What is translated, with these paths.
+    fn target(&self, alloc: Global, mut paths: Vec<String>) -> Result<PortTarget, PortFault> {
+        if self.records.is_none() && !self.kept.said.is_empty() {
             return Err(PortFault::Usage);
         }
         if self.help {
             return Ok(PortTarget::Help);
         }
-        let last = paths.pop();
-        let first = paths.pop();
-        if !paths.is_empty() {
-            return Err(PortFault::Usage);
-        }
-        let is_of_trees = self.one_version || like.is_some();
-        match (self.stdin, self.check, first, last) {
-            (true, false, None, None) if !is_of_trees => Ok(PortTarget::Stdin),
-            (false, false, None, Some(file)) if !is_of_trees => Ok(PortTarget::File(file)),
-            (false, true, None, Some(from)) => Ok(self.tree(like, from, None)),
-            (false, true, Some(from), Some(_to)) => Ok(self.tree(like, from, None)),
-            (false, false, Some(from), Some(to)) => Ok(self.tree(like, from, Some(to))),
+        let is_of_trees = self.one_version || self.alias_scripts || self.defaults.is_some();
+        match (self.stdin, self.check, paths.len()) {
+            (true, false, 0) if !is_of_trees => Ok(PortTarget::Stdin),
+            (false, false, 1) if !is_of_trees => match paths.pop() {
+                Some(path) => Ok(PortTarget::File(path)),
+                None => Err(PortFault::Usage),
+            },
+            (false, true, 1) => trees(alloc, paths, true),
+            (false, check, count) if count > 0 && count % 2 == 0 => trees(alloc, paths, check),
             _ => Err(PortFault::Usage),
         }
     }
+}
 
-    /// The files below a path.
-    fn tree(self, like: Option<Program>, from: String, to: Option<String>) -> PortTarget {
-        PortTarget::Tree(WalkedFiles {
-            from,
-            to,
-            one_version: self.one_version,
-            like,
-        })
+/// The trees of paths that are read and written in turn, or are only read.
+fn trees(alloc: Global, paths: Vec<String>, is_check: bool) -> Result<PortTarget, PortFault> {
+    let mut trees = Vec::new(alloc);
+    let mut before = None;
+    for path in paths {
+        match before {
+            None => before = Some(path),
+            Some(from) => {
+                let to = if is_check { None } else { Some(path) };
+                trees.push(TreePaths { from, to })?;
+                before = None;
+            }
+        }
     }
+    if let Some(from) = before {
+        trees.push(TreePaths { from, to: None })?;
+    }
+    Ok(PortTarget::Trees(trees))
 }
 
 /// What the words of a command line ask for.
 ///
 /// The errors: want of memory; they ask for nothing that the program does.
-pub(crate) fn asked_for(alloc: Global, words: Vec<String>) -> Result<PortArguments, PortFault> {
-    let mut options = Options {
-        help: false,
-        stdin: false,
-        check: false,
-        json: false,
-        one_version: false,
-        telling: None,
-        ended: false,
-    };
-    let mut said = ParsedArguments {
-        host: HostNames::new(alloc),
-        kept: KeptValues::new(),
-        shown: None,
-        like: None,
-    };
+pub(crate) fn asked_for(
+    alloc: Global,
+    words: Vec<String>,
+) -> Result<(PortTarget, PortOptions), PortFault> {
+    let mut options = PortOptions::new(alloc);
     let mut paths = Vec::new(alloc);
+    let mut telling = None;
+    let mut has_ended = false;
     for word in words {
-        if !options.tells(alloc, &mut said, word.as_str())? && !options.take(word.as_str())? {
+        if let Some(option) = telling {
+            options.add_word(alloc, option, word)?;
+            telling = None;
+        } else if has_ended || !word.starts_with('-') {
             paths.push(word)?;
+        } else if word.as_str() == "--" {
+            has_ended = true;
+        } else {
+            telling = options.add(word.as_str())?;
         }
     }
-    if said.shown.is_none() && !said.kept.is_empty() {
+    if telling.is_some() {
         return Err(PortFault::Usage);
     }
-    let job = options.job(said.like, paths)?;
-    Ok(PortArguments {
-        job,
-        json: options.json,
-        said,
-    })
+    let target = options.target(alloc, paths)?;
+    Ok((target, options))
 }

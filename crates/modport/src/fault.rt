@@ -8,9 +8,10 @@ use std::fmt;
 use tcltext::chars::TextFault;
 
 /// How the program is called.
-pub(crate) const USAGE: &str = "Usage: modport [--json] [--host NAME=VALUE]... \
-     [--flatten SHOWN [--kept NAME=VALUE]...] FILE | --stdin | \
-     [--one-version] [--like em|lmod] --check FROM | [--one-version] [--like em|lmod] FROM TO";
+pub(crate) const USAGE: &str = "Usage: modport [--json] [--strict] [--host NAME=VALUE]... \
+     [--flatten RECORDS [--kept NAME=VALUE]...] FILE | --stdin | \
+     [--one-version] [--alias-scripts] [--defaults FILE] FROM TO [FROM TO]... | \
+     [--one-version] [--alias-scripts] [--defaults FILE] --check FROM [TO]";
 
 /// Why nothing was translated, or not all.
 #[derive(Debug, Drop)]
@@ -91,7 +92,7 @@ impl From<TreeFault> for PortFault {
 
 impl From<TextFault> for PortFault {
     fn from(fault: TextFault) -> PortFault {
-        PortFault::Translation(TranslationFault::Written(fault))
+        PortFault::Translation(TranslationFault::Given(fault))
     }
 }
 

@@ -5,25 +5,38 @@ ghost use Rattle.modport.specs.Lines as spec;
 ghost use Rattle.modport.specs.LineViews.{line_view, lines_view, now, AddsTokens};
 
 use crate::fault::PortFault;
-use crate::report_lines::{Line, PieceOutcome};
 use itoa::Buffer;
 use json::Writer;
+use port_rewriting::{Note, Outcome};
 use std::alloc::{AllocError, Global};
 
-impl PieceOutcome {
-    /// How the report says it.
-    fn word(self) -> &'static str
-        ensures { result.now ≡ spec.word_of self }
-    {
-        match self {
-            PieceOutcome::Translated => "translated",
-            PieceOutcome::Dropped => "dropped",
-            PieceOutcome::Computed => "computed",
-            PieceOutcome::Flattened => "flattened",
-            PieceOutcome::Added => "added",
-            PieceOutcome::Default => "default",
-            PieceOutcome::LeftOut => "left out",
-        }
+/// How the report says what became of a command.
+fn word_of(outcome: &Outcome) -> &'static str
+    ensures { result.now ≡ spec.word_of outcome.now }
+{
+    match outcome {
+        Outcome::Translated => "translated",
+        Outcome::Changed(_) => "changed",
+        Outcome::Computed(_) => "computed",
+        Outcome::Flattened => "flattened",
+        Outcome::Added => "added",
+        Outcome::Default => "default",
+        Outcome::Left => "left out",
+    }
+}
+
+/// What is written for it, or in which case that differs, where this is said.
+fn put_of(outcome: &Outcome) -> Option<&[u8]>
+    ensures { now result ≡ spec.put_of outcome.now }
+{
+    match outcome {
+        Outcome::Changed(case) => Some(case.as_bytes()),
+        Outcome::Computed(text) => Some(text.as_bytes()),
+        Outcome::Translated => None,
+        Outcome::Flattened => None,
+        Outcome::Added => None,
+        Outcome::Default => None,
+        Outcome::Left => None,
     }
 }
 
@@ -55,21 +68,21 @@ fn push_put(report: &mut Vec<u8>, put: Option<&[u8]>) -> Result<(), AllocError>
 }
 
 /// Adds what a line says.
-fn push_said(report: &mut Vec<u8>, line: &Line) -> Result<(), AllocError>
+fn push_said(report: &mut Vec<u8>, line: &Note) -> Result<(), AllocError>
     ensures { OnOk result (report.new.items ≡ report.old.items ++ spec.said_text (line_view line.now)) }
 {
-    report.extend_from_slice(line.fate.word().as_bytes())?;
+    report.extend_from_slice(word_of(&line.outcome).as_bytes())?;
     report.extend_from_slice(b": ")?;
-    report.extend_from_slice(line.what)?;
-    push_put(report, line.put)
+    report.extend_from_slice(line.what.as_bytes())?;
+    push_put(report, put_of(&line.outcome))
 }
 
 /// Adds a line on the file of this path, for people.
-fn push_plain(report: &mut Vec<u8>, path: &str, line: &Line) -> Result<(), AllocError>
+fn push_plain(report: &mut Vec<u8>, path: &str, line: &Note) -> Result<(), AllocError>
     ensures { OnOk result (report.new.items ≡ report.old.items ++ spec.plain path.now (line_view line.now)) }
 {
     report.extend_from_slice(path.as_bytes())?;
-    push_place(report, line.place)?;
+    push_place(report, line.line)?;
     report.extend_from_slice(b": ")?;
     push_said(report, line)?;
     report.extend_from_slice(b"\n")
@@ -125,19 +138,19 @@ fn write_members(
     alloc: Global,
     writer: &mut Writer,
     path: &str,
-    line: &Line,
+    line: &Note,
 ) -> Result<(), AllocError>
     ensures { OnOk result (AddsTokens writer.old writer.new (spec.members path.now (line_view line.now))) }
 {
     write_bytes(alloc, writer, "file", path.as_bytes())?;
-    write_place(writer, line.place)?;
-    write_bytes(alloc, writer, "what", line.what)?;
-    write_bytes(alloc, writer, "why", line.fate.word().as_bytes())?;
-    write_put(alloc, writer, line.put)
+    write_place(writer, line.line)?;
+    write_bytes(alloc, writer, "what", line.what.as_bytes())?;
+    write_bytes(alloc, writer, "why", word_of(&line.outcome).as_bytes())?;
+    write_put(alloc, writer, put_of(&line.outcome))
 }
 
 /// Adds a line on the file of this path, as JSON.
-fn push_json(alloc: Global, report: &mut Vec<u8>, path: &str, line: &Line) -> Result<(), AllocError>
+fn push_json(alloc: Global, report: &mut Vec<u8>, path: &str, line: &Note) -> Result<(), AllocError>
     ensures { OnOk result (report.new.items ≡ report.old.items ++ spec.as_json path.now (line_view line.now)) }
 {
     let mut writer = Writer::new(Vec::new(alloc));
@@ -154,7 +167,7 @@ fn push_line(
     report: &mut Vec<u8>,
     json: bool,
     path: &str,
-    line: &Line,
+    line: &Note,
 ) -> Result<(), AllocError>
     ensures { OnOk result (report.new.items ≡ report.old.items ++ spec.shown json path.now (line_view line.now)) }
 {
@@ -166,14 +179,12 @@ fn push_line(
 }
 
 /// Adds the report of these lines on the file of this path, where each line is JSON or is for people.
-///
-/// The error: want of memory.
 pub(crate) fn push_report(
     alloc: Global,
     report: &mut Vec<u8>,
     json: bool,
     path: &str,
-    lines: &[Line],
+    lines: &[Note],
 ) -> Result<(), AllocError>
     ensures { OnOk result (report.new.items
         ≡ report.old.items ++ spec.report json path.now (lines_view lines.now)) }
@@ -185,42 +196,21 @@ pub(crate) fn push_report(
 }
 
 /// A line on the whole of what is at this path.
-fn line_on(
+pub(crate) fn line_on(
     alloc: Global,
     json: bool,
     path: &str,
-    fate: PieceOutcome,
+    outcome: Outcome,
     what: &str,
 ) -> Result<Vec<u8>, AllocError> {
-    let line = Line {
-        place: None,
-        fate,
-        what: what.as_bytes(),
-        put: None,
+    let line = Note {
+        line: None,
+        what: String::from_str(alloc, what)?,
+        outcome,
     };
     let mut report = Vec::new(alloc);
     push_line(alloc, &mut report, json, path, &line)?;
     Ok(report)
-}
-
-/// The line that says of the folder of this path that its default is named.
-pub(crate) fn default_line(
-    alloc: Global,
-    json: bool,
-    path: &str,
-    name: &str,
-) -> Result<Vec<u8>, AllocError> {
-    line_on(alloc, json, path, PieceOutcome::Default, name)
-}
-
-/// The line that says of the file of this path that something is left out.
-pub(crate) fn left_out_line(
-    alloc: Global,
-    json: bool,
-    path: &str,
-    what: &str,
-) -> Result<Vec<u8>, AllocError> {
-    line_on(alloc, json, path, PieceOutcome::LeftOut, what)
 }
 
 /// The line that says of the file of this path why it isn't translated.

@@ -1,21 +1,17 @@
 //! Where the scripts of aliases are written, and their files.
 
 use crate::fault::PortFault;
-use crate::texts::joined;
-use port_rewriting::aliases::ShellScript;
-use process::absolute_path;
+use crate::site::is_default_file;
+use crate::texts::{absolute, joined};
+use port_rewriting::ShellScript;
 use std::alloc::Global;
-use std::env::VarError;
+use std::fs;
 use std::fs::OpenOptions;
 use std::io::{ErrorKind, Write};
-use std::os::unix::fs::{MetadataExt, OpenOptionsExt};
-use std::{env, fs, str};
+use std::os::unix::fs::OpenOptionsExt;
 
 /// The name of the directory that they are written below.
 const SCRIPTS: &str = "bin";
-
-/// The names of default files, which set no aliases.
-const DEFAULT_FILES: [&str; 2] = [".modulerc", ".version"];
 
 /// A script that is to be written.
 #[derive(Debug, Drop)]
@@ -25,7 +21,7 @@ pub(crate) struct ScriptFile {
     /// Its path.
     pub path: String,
     /// Its text.
-    text: Vec<u8>,
+    text: String,
 }
 
 /// The directories that the scripts of a tree are below.
@@ -39,47 +35,15 @@ pub(crate) struct ScriptPlaces {
     named: Option<String>,
 }
 
-/// Whether this is an absolute path, without points for parts, of the working directory.
-fn is_here(rt: &HostRuntime, path: &str) -> bool {
-    if !path.starts_with('/') || path.split('/').any(|part| part == "." || part == "..") {
-        return false;
-    }
-    let (Ok(named), Ok(here)) = (fs::metadata(rt, path), fs::metadata(rt, ".")) else {
-        return false;
-    };
-    named.dev() == here.dev() && named.ino() == here.ino()
-}
-
-/// The working directory by the name that the shell has for it, where that is one, or by the system's.
-///
-/// The error: want of memory.
-fn working_directory(rt: &HostRuntime) -> Result<Option<String>, PortFault> {
-    match env::var(rt, "PWD") {
-        Ok(name) if is_here(rt, name.as_str()) => return Ok(Some(name)),
-        Err(VarError::OutOfMemory) => return Err(PortFault::OutOfMemory),
-        _ => {}
-    }
-    match env::current_dir(rt) {
-        Ok(place) => Ok(Some(place.into_string())),
-        Err(fault) if fault.kind() == ErrorKind::OutOfMemory => Err(PortFault::OutOfMemory),
-        Err(_) => Ok(None),
-    }
-}
-
 /// The absolute path of the directory of scripts in a tree that is written; where none is, as at the root.
 fn named_place(rt: &HostRuntime, to: Option<&str>) -> Result<Option<String>, PortFault> {
     let alloc = rt.alloc();
-    let Some(to) = to else {
-        return Ok(Some(joined(alloc, "/", SCRIPTS)?));
-    };
-    let working = working_directory(rt)?;
-    let working = match &working {
-        Some(working) => Some(working.as_str()),
-        None => None,
-    };
-    match absolute_path(alloc, working, to)? {
-        Some(place) => Ok(Some(joined(alloc, place.as_str(), SCRIPTS)?)),
-        None => Ok(None),
+    match to {
+        Some(to) => match absolute(rt, to)? {
+            Some(place) => Ok(Some(joined(alloc, place.as_str(), SCRIPTS)?)),
+            None => Ok(None),
+        },
+        None => Ok(Some(joined(alloc, "/", SCRIPTS)?)),
     }
 }
 
@@ -126,11 +90,7 @@ impl ScriptPlaces {
         let Some(place) = &self.named else {
             return Ok(None);
         };
-        let is_default = name
-            .rsplit('/')
-            .next()
-            .is_some_and(|last| DEFAULT_FILES.contains(&last));
-        if is_default || !self.is_free(rt, name)? {
+        if is_default_file(name) || !self.is_free(rt, name)? {
             return Ok(None);
         }
         Ok(Some(joined(rt.alloc(), place.as_str(), name)?))
@@ -138,7 +98,7 @@ impl ScriptPlaces {
 
     /// Adds the scripts of the file of this name to those that are to be written, where they are.
     ///
-    /// The errors: want of memory; a name isn't UTF-8.
+    /// The error: want of memory.
     pub fn add(
         &self,
         alloc: Global,
@@ -151,11 +111,8 @@ impl ScriptPlaces {
         };
         for script in scripts {
             let folder = joined(alloc, to.as_str(), name)?;
-            let Ok(name) = str::from_utf8(script.name.as_slice()) else {
-                return Err(PortFault::NotUtf8);
-            };
             files.push(ScriptFile {
-                path: joined(alloc, folder.as_str(), name)?,
+                path: joined(alloc, folder.as_str(), script.name.as_str())?,
                 folder,
                 text: script.text,
             })?;
@@ -177,7 +134,7 @@ impl ScriptFile {
         let (Ok(()), Ok(mut file)) = (made, how.open(rt, path)) else {
             return Err(PortFault::Unwritable);
         };
-        if file.write_all(self.text.as_slice()).is_err() {
+        if file.write_all(self.text.as_bytes()).is_err() {
             let _ = fs::remove_file(rt, path);
             return Err(PortFault::Unwritable);
         }

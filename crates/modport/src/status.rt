@@ -1,38 +1,18 @@
 //! With which status the program ends.
 ghost use Rattle.std.specs.Prelude.{◌≡◌};
-ghost use Rattle.std.specs.List.{list_any};
-ghost use Rattle.modport.specs.TranslatedFile as spec;
-ghost use Rattle.port_rewriting.specs.TranslationViews.{notes_view};
+ghost use Rattle.modport.specs.Statuses.{status_of};
 
-use port_rewriting::{Note, Outcome};
+use port_rewriting::Class;
 
-/// How far what was read is within the profile.
+/// How far what was read is translated.
 #[derive(Clone, Copy, Debug, PartialEq, Eq)]
 pub enum Status {
-    /// All that was written is.
+    /// All that was written makes what it made.
     Within,
-    /// Something is left that the profile leaves out.
+    /// Something is left, or changed.
     Left,
     /// Something couldn't be translated.
     Refused,
-}
-
-/// Whether it is something that the profile leaves out.
-fn is_left(outcome: Outcome) -> bool
-    ensures { result ≡ spec.is_left outcome }
-{
-    match outcome {
-        Outcome::Left => true,
-        Outcome::Translated => false,
-        Outcome::Dropped => false,
-    }
-}
-
-/// Whether one of the notes is on something that the profile leaves out.
-pub(crate) fn has_left(notes: &[Note]) -> bool
-    ensures { result ≡ list_any (λ n. spec.is_left n.outcome) (notes_view notes.now) }
-{
-    notes.iter().any(|note| is_left(note.outcome))
 }
 
 impl Status {
@@ -54,14 +34,13 @@ impl Status {
         }
     }
 
-    /// That of one file, by what is said of its commands.
-    pub fn of(notes: &[Note]) -> Status
-        ensures { result ≡ spec.status_of (notes_view notes.now) }
+    /// That of one file, by the class of the worst of its commands.
+    pub fn of(class: Class) -> Status
+        ensures { result ≡ status_of class }
     {
-        if has_left(notes) {
-            Status::Left
-        } else {
-            Status::Within
+        match class {
+            Class::Same | Class::Exact => Status::Within,
+            Class::Changed | Class::Left => Status::Left,
         }
     }
 }

@@ -2,13 +2,16 @@
 
 use crate::fault::PortFault;
 use port_reading::file_text::{FileText, file_text};
+use process::absolute_path;
 use std::alloc::{AllocError, Global};
-use std::fs;
+use std::env::VarError;
 use std::fs::Metadata;
 use std::io::{ErrorKind, Read, Write};
+use std::os::unix::fs::MetadataExt;
+use std::{env, fs};
 
 /// The first bytes of each modulefile (modulefile(5)).
-const COOKIE: &[u8] = b"#%Module";
+const COOKIE: &str = "#%Module";
 
 /// The path of a name in a directory.
 pub(crate) fn joined(alloc: Global, dir: &str, name: &str) -> Result<String, AllocError> {
@@ -18,23 +21,46 @@ pub(crate) fn joined(alloc: Global, dir: &str, name: &str) -> Result<String, All
     Ok(format!(in alloc; "{dir}/{name}")?)
 }
 
-/// The modulefile of these bytes, and how it was written; none where they don't begin as one.
-pub(crate) fn modulefile(alloc: Global, bytes: &[u8]) -> Result<Option<FileText>, PortFault> {
-    let file = file_text(alloc, bytes)?;
-    if file.text.as_slice().starts_with(COOKIE) {
-        Ok(Some(file))
-    } else {
-        Ok(None)
+/// Whether this is an absolute path, without points for parts, of the working directory.
+fn is_here(rt: &HostRuntime, path: &str) -> bool {
+    if !path.starts_with('/') || path.split('/').any(|part| part == "." || part == "..") {
+        return false;
+    }
+    let (Ok(named), Ok(here)) = (fs::metadata(rt, path), fs::metadata(rt, ".")) else {
+        return false;
+    };
+    named.dev() == here.dev() && named.ino() == here.ino()
+}
+
+/// The working directory by the name that the shell has for it, where that is one, or by the system's.
+///
+/// The error: want of memory.
+fn working_directory(rt: &HostRuntime) -> Result<Option<String>, PortFault> {
+    match env::var(rt, "PWD") {
+        Ok(name) if is_here(rt, name.as_str()) => return Ok(Some(name)),
+        Err(VarError::OutOfMemory) => return Err(PortFault::OutOfMemory),
+        _ => {}
+    }
+    match env::current_dir(rt) {
+        Ok(place) => Ok(Some(place.into_string())),
+        Err(fault) if fault.kind() == ErrorKind::OutOfMemory => Err(PortFault::OutOfMemory),
+        Err(_) => Ok(None),
     }
 }
 
-/// What is at the path, where symbolic links aren't followed.
-///
-/// The error: the system doesn't say.
-pub(crate) fn kind_of(rt: &HostRuntime, path: &str) -> Result<Metadata, PortFault> {
-    match fs::symlink_metadata(rt, path) {
-        Ok(found) => Ok(found),
-        Err(_) => Err(PortFault::Unreadable),
+/// The absolute path of a directory; none where the system says no working directory.
+pub(crate) fn absolute(rt: &HostRuntime, path: &str) -> Result<Option<String>, PortFault> {
+    let working = working_directory(rt)?;
+    Ok(absolute_path(rt.alloc(), working.as_deref(), path)?)
+}
+
+/// The modulefile of these bytes, and how it was written; none where they don't begin as one.
+pub(crate) fn modulefile(alloc: Global, bytes: &[u8]) -> Result<Option<FileText>, PortFault> {
+    let file = file_text(alloc, bytes)?;
+    if file.text.starts_with(COOKIE) {
+        Ok(Some(file))
+    } else {
+        Ok(None)
     }
 }
 
@@ -54,10 +80,10 @@ pub(crate) fn read(rt: &HostRuntime, path: &str) -> Result<Vec<u8>, PortFault> {
     }
 }
 
-/// The text that was shown, in the file at the path; none where it isn't UTF-8.
+/// The text of the file at the path; none where it isn't UTF-8.
 ///
 /// The errors: no file is there; it can't be read.
-pub(crate) fn shown_text(rt: &HostRuntime, path: &str) -> Result<Option<String>, PortFault> {
+pub(crate) fn text_at(rt: &HostRuntime, path: &str) -> Result<Option<String>, PortFault> {
     match String::from_utf8(read(rt, path)?) {
         Ok(text) => Ok(Some(text)),
         Err(_) => Ok(None),

@@ -1,103 +1,62 @@
-//! The files below a directory, translated below another.
+//! A walk over the files of trees, which are translated and written below others.
 
-use crate::arguments::WalkedFiles;
+use crate::arguments::{PortOptions, TreePaths};
+use crate::defaults::{DefaultOutcome, DefaultPlace, NamedDefaults, name_default};
 use crate::fault::PortFault;
-use crate::folders::{Place, places};
-use crate::naming::{DefaultFileOutcome, name_default};
-use crate::porting::{PortOptions, bytes_of, port_file};
-use crate::reporting::{default_line, fault_line, left_out_line};
+use crate::porting::{Sources, port_file};
+use crate::reporting::{fault_line, line_on};
 use crate::script_files::{ScriptFile, ScriptPlaces};
-use crate::site_walk::{module_of, site_of};
+use crate::site::{add_tree, is_default_file, last_part};
 use crate::status::Status;
-use crate::texts::{joined, kind_of, modulefile, read, shown_text, write_new};
-use filetree::{DiskTree, Tree};
-use port_defaults::Program;
-use port_rewriting::families::{SiteContext, SiteFacts};
-use std::alloc::{AllocError, Global};
+use crate::texts::{absolute, joined, modulefile, read, text_at, write_new};
+use crate::tree::{TreeEntry, entries_below, folder_of, names_in};
+use port_constants::KnownFile;
+use port_rewriting::{FileKind, Given, Outcome, Site};
 use std::fs::{Metadata, Permissions};
 use std::io::Write;
 use std::os::unix::fs::symlink;
 use std::path::Path;
 use std::{fs, mem};
 
-/// The most directories that are walked.
-pub(crate) const MOST_DIRECTORIES: usize = 1_000_000;
-
-/// A directory that is still to be walked.
-#[derive(Debug, Drop)]
-struct Folder {
+/// A file that is translated.
+#[derive(Clone, Copy)]
+struct FileAt<'p> {
     /// Its path.
-    from: String,
+    from: &'p str,
     /// The path that it is written to.
-    to: Option<String>,
-    /// The name of its modules, which is empty at the top.
-    name: String,
+    to: Option<&'p str>,
+    /// Its name below the tree.
+    below: &'p str,
 }
 
 /// A walk over the files below a directory.
 #[derive(Drop)]
-pub(crate) struct Walk<'r> {
+struct Walk<'r> {
     rt: &'r HostRuntime,
     /// How files are translated.
-    manner: PortOptions<'r>,
-    /// Whether each modulefile is to be in conflict with its own name.
-    one_version: bool,
-    /// The directory with what was shown of each, where there is one.
-    shown: Option<&'r str>,
+    options: &'r PortOptions,
     /// What the files of the site say of its modules.
-    site: SiteFacts,
+    site: &'r Site,
+    /// The defaults that a list names.
+    defaults: Option<&'r NamedDefaults>,
+    /// The absolute path of the tree that is read.
+    top: String,
     /// Where scripts of aliases are written.
     script_places: ScriptPlaces,
     /// The scripts that are still to be written.
     scripts: Vec<ScriptFile>,
-    /// How far what was read so far is within the profile.
+    /// How far what was read so far is translated.
     status: Status,
-    /// The directories that are still to be walked.
-    folders: Vec<Folder>,
+    /// The names of the folders that were walked.
+    names: Vec<String>,
     /// The directories that were made, with the permissions that they get in the end.
     made: Vec<(String, Permissions)>,
-}
-
-/// The names in a directory, in their order.
-pub(crate) fn names_in(rt: &HostRuntime, path: &str) -> Result<Vec<String>, PortFault> {
-    let Ok(disk) = rt.clone() else {
-        return Err(PortFault::OutOfMemory);
-    };
-    let Some(mut names) = DiskTree::new(disk).entries(path)? else {
-        return Err(PortFault::NoDirectory);
-    };
-    names.sort()?;
-    Ok(names)
 }
 
 /// Whether a link of this target still leads to the same place of the tree that is written: it is relative, and leads
 /// to nothing above its directory.
 fn stays(target: &str) -> bool {
     !target.starts_with('/') && target.split('/').all(|part| part != "..")
-}
-
-/// The path, where there is one.
-fn text_of(path: &Option<String>) -> Option<&str> {
-    match path {
-        Some(path) => Some(path.as_str()),
-        None => None,
-    }
-}
-
-/// The same path once more, where there is one.
-fn copy_of(path: &Option<String>) -> Result<Option<String>, AllocError> {
-    match path {
-        Some(path) => Ok(Some(path.clone()?)),
-        None => Ok(None),
-    }
-}
-
-/// The name of the modules of a directory of this name, in one with modules of that name.
-pub(crate) fn name_below(alloc: Global, above: &str, name: &str) -> Result<String, AllocError> {
-    if above.is_empty() {
-        return String::from_str(alloc, name);
-    }
-    joined(alloc, above, name)
 }
 
 /// Whether a path leads into the directory that is read: the first one that is there of it and of those above it does.
@@ -137,20 +96,6 @@ fn begin(rt: &HostRuntime, from: &str, to: &str) -> Result<(), PortFault> {
     }
 }
 
-/// The home of a file of this module, where this is the folder for its scripts.
-fn home_with<'s>(
-    site: &'s SiteFacts,
-    module: &'s str,
-    folder: &'s Option<String>,
-) -> SiteContext<'s> {
-    let scripts_folder = bytes_of(folder);
-    SiteContext {
-        site,
-        name: module.as_bytes(),
-        scripts_folder,
-    }
-}
-
 impl<'r> Walk<'r> {
     /// Writes a part of the report.
     fn say(&self, lines: &[u8]) -> Result<(), PortFault> {
@@ -160,10 +105,16 @@ impl<'r> Walk<'r> {
         }
     }
 
+    /// Says what became of what is at a path.
+    fn say_of(&self, path: &str, outcome: Outcome, what: &str) -> Result<(), PortFault> {
+        let line = line_on(self.rt.alloc(), self.options.json, path, outcome, what)?;
+        self.say(line.as_slice())
+    }
+
     /// Says what is left out of a path.
     fn leave(&mut self, path: &str, what: &str) -> Result<(), PortFault> {
         self.status = self.status.and(Status::Left);
-        self.say(left_out_line(self.rt.alloc(), self.manner.json, path, what)?.as_slice())
+        self.say_of(path, Outcome::Left, what)
     }
 
     /// Goes on behind a fault at a path, which is said, unless memory ran out or the report can't be written.
@@ -181,182 +132,215 @@ impl<'r> Walk<'r> {
         }
     }
 
-    /// What was shown of the file of this name in a directory, where something was.
-    fn shown_of(&self, folder: &Folder, name: &str) -> Result<Option<String>, PortFault> {
-        let Some(shown) = self.shown else {
+    /// What a load of the file of this name has done, where that is known.
+    fn records_of(&self, below: &str) -> Result<Option<String>, PortFault> {
+        let Some(records) = &self.options.records else {
             return Ok(None);
         };
-        let alloc = self.rt.alloc();
-        let name = name_below(alloc, folder.name.as_str(), name)?;
-        match shown_text(self.rt, joined(alloc, shown, name.as_str())?.as_str()) {
+        match text_at(
+            self.rt,
+            joined(self.rt.alloc(), records.as_str(), below)?.as_str(),
+        ) {
             Err(PortFault::NoFile) => Ok(None),
             text => text,
         }
     }
 
-    /// Translates a file of this module, which is to be in conflict with a name, where one is given, and flattens it by
-    /// what was shown, where something was; `below` is its name below the tree.
-    fn file(
-        &mut self,
-        from: &str,
-        to: Option<&str>,
-        below: &str,
-        found: &Metadata,
-        module: &str,
-        name: Option<&str>,
-        shown: Option<&str>,
-    ) -> Result<(), PortFault> {
+    /// The folder for the scripts of the aliases of a file, where they are asked for.
+    fn scripts_folder(&self, below: &str) -> Result<Option<String>, PortFault> {
+        if !self.options.alias_scripts {
+            return Ok(None);
+        }
+        self.script_places.folder(self.rt, below)
+    }
+
+    /// Translates a file, and writes it with these permissions.
+    fn file(&mut self, at: FileAt, found: &Metadata) -> Result<(), PortFault> {
         let alloc = self.rt.alloc();
-        let Some(file) = modulefile(alloc, read(self.rt, from)?.as_slice())? else {
-            let line = left_out_line(alloc, self.manner.json, from, "no modulefile")?;
-            return self.say(line.as_slice());
+        let Some(file) = modulefile(alloc, read(self.rt, at.from)?.as_slice())? else {
+            return self.say_of(at.from, Outcome::Left, "no modulefile");
         };
-        let folder = self.script_places.folder(self.rt, below)?;
-        let home = home_with(&self.site, module, &folder);
-        let ported = port_file(alloc, self.manner, from, file, Some(home), name, shown)?;
-        if let Some(to) = to {
+        let records = self.records_of(at.below)?;
+        let sources = Sources {
+            json: self.options.json,
+            records: records.as_deref(),
+            person: self.options.kept.person(),
+        };
+        let folder = self.scripts_folder(at.below)?;
+        let path = joined(alloc, self.top.as_str(), at.below)?;
+        let given = self.given(at, path.as_str(), folder.as_deref());
+        let ported = port_file(alloc, sources, at.from, &file, given)?;
+        if let Some(to) = at.to {
             write_new(self.rt, to, ported.text.as_bytes(), found)?;
         }
         self.script_places
-            .add(alloc, &mut self.scripts, below, ported.scripts)?;
+            .add(alloc, &mut self.scripts, at.below, ported.scripts)?;
         self.status = self.status.and(ported.status);
         self.say(ported.report.as_slice())
     }
 
-    /// Makes a link again, where it still leads to the same place.
-    fn link(&mut self, from: &str, to: Option<&str>) -> Result<(), PortFault> {
-        let Ok(target) = fs::read_link(self.rt, from) else {
+    /// What is known of a file whose absolute path this is.
+    fn given<'g>(
+        &'g self,
+        at: FileAt<'g>,
+        path: &'g str,
+        scripts_folder: Option<&'g str>,
+    ) -> Given<'g> {
+        let folder = folder_of(at.below);
+        let is_module = !folder.is_empty() && !last_part(at.below).starts_with('.');
+        Given {
+            kind: if is_default_file(at.below) {
+                FileKind::Defaults
+            } else {
+                FileKind::Modulefile
+            },
+            site: Some(self.site),
+            file: Some(KnownFile {
+                path,
+                name: at.below,
+            }),
+            host: self.options.host.said.as_slice(),
+            scripts_folder,
+            one_version: if self.options.one_version && is_module {
+                Some(folder)
+            } else {
+                None
+            },
+            has_defaults: self.defaults.is_some(),
+            is_strict: self.options.strict,
+        }
+    }
+
+    /// Whether what is at a path, as a link leads to it, is a modulefile.
+    fn is_modulefile(&self, path: &str, found: &Metadata) -> Result<bool, PortFault> {
+        if !found.is_file() {
+            return Ok(false);
+        }
+        Ok(modulefile(self.rt.alloc(), read(self.rt, path)?.as_slice())?.is_some())
+    }
+
+    /// Writes the modulefile that a link leads to at the place of the link, or makes the link again, where it still leads to the
+    /// same place.
+    fn link(&mut self, at: FileAt) -> Result<(), PortFault> {
+        let Ok(target) = fs::read_link(self.rt, at.from) else {
             return Err(PortFault::Unreadable);
         };
         let Some(target) = target.to_str() else {
             return Err(PortFault::NotUtf8);
         };
-        if !stays(target) {
-            let what = format!(in self.rt.alloc(); "link to {target}")?;
-            return self.leave(from, what.as_str());
+        let what = format!(in self.rt.alloc(); "link to {target}")?;
+        match fs::metadata(self.rt, at.from) {
+            Ok(found) if self.is_modulefile(at.from, &found)? => {
+                self.say_of(at.from, Outcome::Translated, what.as_str())?;
+                return self.file(at, &found);
+            }
+            Ok(_) if stays(target) => {}
+            _ => return self.leave(at.from, what.as_str()),
         }
-        match to {
+        match at.to {
             Some(to) if symlink(self.rt, target, to).is_err() => Err(PortFault::Unwritable),
             _ => Ok(()),
         }
     }
 
-    /// Makes a directory, whose files are still to be translated.
-    fn folder(
-        &mut self,
-        from: String,
-        to: Option<String>,
-        found: &Metadata,
-        name: String,
-    ) -> Result<(), PortFault> {
-        if let Some(to) = &to {
-            if fs::create_dir(self.rt, to.as_str()).is_err() {
+    /// Makes a directory.
+    fn folder(&mut self, at: FileAt, found: &Metadata) -> Result<(), PortFault> {
+        let alloc = self.rt.alloc();
+        if let Some(to) = at.to {
+            if fs::create_dir(self.rt, to).is_err() {
                 return Err(PortFault::Unwritable);
             }
-            self.made.push((to.clone()?, found.permissions()))?;
+            let made = (String::from_str(alloc, to)?, found.permissions());
+            self.made.push(made)?;
         }
-        self.folders.push(Folder { from, to, name })?;
+        self.names.push(String::from_str(alloc, at.below)?)?;
         Ok(())
     }
 
-    /// The name of the modules of a directory that are to be in conflict with it; default files are none.
-    fn conflicting<'n>(&self, folder: &'n Folder, name: &str) -> Option<&'n str> {
-        if self.one_version && !folder.name.is_empty() && !name.starts_with('.') {
-            Some(folder.name.as_str())
-        } else {
-            None
-        }
-    }
-
-    /// Does what is to be done for a path of this name in a directory, by what is there.
-    fn entry(
-        &mut self,
-        from: String,
-        to: Option<String>,
-        folder: &Folder,
-        name: &str,
-    ) -> Result<(), PortFault> {
-        let found = kind_of(self.rt, from.as_str())?;
-        let target = text_of(&to);
-        let below = name_below(self.rt.alloc(), folder.name.as_str(), name)?;
+    /// Does what is to be done for what is at a path below a tree.
+    fn entry(&mut self, at: FileAt, found: &Metadata) -> Result<(), PortFault> {
         if found.is_dir() {
-            self.folder(from, to, &found, below)
+            self.folder(at, found)
         } else if found.is_file() {
-            let shown = self.shown_of(folder, name)?;
-            let module = module_of(folder.name.as_str(), name);
-            let name = self.conflicting(folder, name);
-            self.file(
-                from.as_str(),
-                target,
-                below.as_str(),
-                &found,
-                module,
-                name,
-                shown.as_deref(),
-            )
+            self.file(at, found)
         } else if found.is_symlink() {
-            self.link(from.as_str(), target)
+            self.link(at)
         } else {
-            self.leave(from.as_str(), "neither a file nor a directory")
+            self.leave(at.from, "neither a file nor a directory")
         }
     }
 
-    /// Does what is to be done for a name in a directory.
-    fn name(&mut self, folder: &Folder, name: &str) -> Result<(), PortFault> {
-        let alloc = self.rt.alloc();
-        let from = joined(alloc, folder.from.as_str(), name)?;
-        let path = from.clone()?;
-        let to = match &folder.to {
-            Some(to) => Some(joined(alloc, to.as_str(), name)?),
+    /// Does what is to be done for an entry of a tree; a fault is said.
+    fn visit(&mut self, tree: &TreePaths, entry: TreeEntry) -> Result<(), PortFault> {
+        let TreeEntry {
+            path,
+            below,
+            found,
+            is_linked,
+            ..
+        } = entry;
+        if is_linked {
+            return Ok(());
+        }
+        let to = match &tree.to {
+            Some(to) => Some(joined(self.rt.alloc(), to.as_str(), below.as_str())?),
             None => None,
         };
-        let done = self.entry(from, to, folder, name);
+        let done = match found {
+            Ok(found) => {
+                let at = FileAt {
+                    from: path.as_str(),
+                    to: to.as_deref(),
+                    below: below.as_str(),
+                };
+                self.entry(at, &found)
+            }
+            Err(fault) => Err(fault),
+        };
         self.go_on(path.as_str(), done)
     }
 
-    /// Does what is to be done for the names in a directory.
-    fn names(&mut self, folder: &Folder) -> Result<(), PortFault> {
-        for name in names_in(self.rt, folder.from.as_str())? {
-            self.name(folder, name.as_str())?;
+    /// Walks what is below a tree.
+    fn go(&mut self, tree: &TreePaths, entries: Vec<TreeEntry>) -> Result<(), PortFault> {
+        for entry in entries {
+            self.visit(tree, entry)?;
         }
         Ok(())
     }
 
-    /// Walks the directories that are left, and those below them.
-    fn go(&mut self) -> Result<(), PortFault> {
-        for _ in 0..MOST_DIRECTORIES {
-            let Some(folder) = self.folders.pop() else {
-                break;
-            };
-            let done = self.names(&folder);
-            self.go_on(folder.from.as_str(), done)?;
-        }
-        Ok(())
-    }
-
-    /// Names the default of a folder where the program takes another one; the folders are below that path.
-    fn default_of(&mut self, program: Program, top: &str, place: &Place) -> Result<(), PortFault> {
-        let (alloc, json) = (self.rt.alloc(), self.manner.json);
-        match name_default(self.rt, program, top, place)? {
-            DefaultFileOutcome::Same => Ok(()),
-            DefaultFileOutcome::Named(name) => {
-                let line = default_line(alloc, json, place.from.as_str(), name.as_str())?;
-                self.say(line.as_slice())
-            }
-            DefaultFileOutcome::Unjudged => self.leave(place.from.as_str(), "default"),
-        }
-    }
-
-    /// Names the defaults of the folders below a path, which are written below another, where there is one.
-    fn defaults(
+    /// Names the default of a folder of this path, where a list names another than is taken here.
+    fn default_of(
         &mut self,
-        program: Program,
-        from: &str,
-        to: Option<&str>,
+        defaults: &NamedDefaults,
+        path: &str,
+        place: DefaultPlace,
     ) -> Result<(), PortFault> {
-        for place in &places(self.rt, from, to)? {
-            let done = self.default_of(program, from, place);
-            self.go_on(place.from.as_str(), done)?;
+        match name_default(self.rt, defaults, place)? {
+            DefaultOutcome::Same => Ok(()),
+            DefaultOutcome::Named(name) => { self.say_of(path, Outcome::Default, name.as_str()) }
+            DefaultOutcome::Unnamed => self.leave(path, "default"),
+        }
+    }
+
+    /// Names the defaults of the folders with versions.
+    fn name_defaults(&mut self, tree: &TreePaths) -> Result<(), PortFault> {
+        let Some(defaults) = self.defaults else {
+            return Ok(());
+        };
+        let names = mem::replace(&mut self.names, Vec::new(self.rt.alloc()));
+        let top = self.top.clone()?;
+        for name in &names {
+            if !self.site.has_version(name.as_str()) {
+                continue;
+            }
+            let path = joined(self.rt.alloc(), tree.from.as_str(), name.as_str())?;
+            let place = DefaultPlace {
+                top: top.as_str(),
+                to: tree.to.as_deref(),
+                name: name.as_str(),
+            };
+            let done = self.default_of(defaults, path.as_str(), place);
+            self.go_on(path.as_str(), done)?;
         }
         Ok(())
     }
@@ -384,53 +368,65 @@ impl<'r> Walk<'r> {
     }
 }
 
-/// Translates the files below a directory, below another where there is one, writes the report to standard output, and
-/// gives the status. What was shown of each is below a third, where there is one.
+/// Translates the files of a tree, and gives the status.
+fn walk_tree(
+    rt: &HostRuntime,
+    options: &PortOptions,
+    site: &Site,
+    defaults: Option<&NamedDefaults>,
+    tree: &TreePaths,
+    entries: Vec<TreeEntry>,
+) -> Result<Status, PortFault> {
+    let mut walk = Walk {
+        rt,
+        options,
+        site,
+        defaults,
+        top: match absolute(rt, tree.from.as_str())? {
+            Some(path) => path,
+            None => tree.from.clone()?,
+        },
+        script_places: ScriptPlaces::new(rt, tree.from.as_str(), tree.to.as_deref())?,
+        scripts: Vec::new(rt.alloc()),
+        status: Status::Within,
+        names: Vec::new(rt.alloc()),
+        made: Vec::new(rt.alloc()),
+    };
+    walk.go(tree, entries)?;
+    walk.write_scripts()?;
+    walk.name_defaults(tree)?;
+    walk.finish()?;
+    Ok(walk.status)
+}
+
+/// Translates the files below directories, below others where there are some, writes the report to standard output, and
+/// gives the status.
 ///
 /// The errors: the directories can't be taken; memory ran out, or the report couldn't be written, in its midst. A fault
 /// at one path is said on standard error.
-pub(crate) fn walk_tree<'r>(
-    rt: &'r HostRuntime,
-    manner: PortOptions<'r>,
-    walked: WalkedFiles,
-    shown: Option<&'r str>,
+pub(crate) fn walk_trees(
+    rt: &HostRuntime,
+    options: &PortOptions,
+    trees: &[TreePaths],
 ) -> Result<Status, PortFault> {
-    let WalkedFiles {
-        from,
-        to,
-        one_version,
-        like,
-    } = walked;
-    names_in(rt, from.as_str())?;
-    if let Some(to) = &to {
-        begin(rt, from.as_str(), to.as_str())?;
-    }
-    let target = match &to {
-        Some(to) => Some(to.as_str()),
+    let defaults = match &options.defaults {
+        Some(path) => Some(NamedDefaults::read(rt, path.as_str())?),
         None => None,
     };
-    let mut walk = Walk {
-        rt,
-        manner,
-        one_version,
-        shown,
-        site: site_of(rt, from.as_str())?,
-        script_places: ScriptPlaces::new(rt, from.as_str(), target)?,
-        scripts: Vec::new(rt.alloc()),
-        status: Status::Within,
-        folders: Vec::new(rt.alloc()),
-        made: Vec::new(rt.alloc()),
-    };
-    walk.folders.push(Folder {
-        from: from.clone()?,
-        to: copy_of(&to)?,
-        name: String::new(rt.alloc()),
-    })?;
-    walk.go()?;
-    walk.write_scripts()?;
-    if let Some(program) = like {
-        walk.defaults(program, from.as_str(), text_of(&to))?;
+    let mut site = Site::new(rt.alloc());
+    let mut listed = Vec::new(rt.alloc());
+    for tree in trees {
+        let entries = entries_below(rt, tree.from.as_str())?;
+        if let Some(to) = &tree.to {
+            begin(rt, tree.from.as_str(), to.as_str())?;
+        }
+        add_tree(rt, &mut site, entries.as_slice())?;
+        listed.push(entries)?;
     }
-    walk.finish()?;
-    Ok(walk.status)
+    let mut status = Status::Within;
+    for (tree, entries) in trees.iter().zip(listed) {
+        let done = walk_tree(rt, options, &site, defaults.as_ref(), tree, entries)?;
+        status = status.and(done);
+    }
+    Ok(status)
 }

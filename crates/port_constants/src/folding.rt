@@ -1,262 +1,203 @@
-//! A modulefile with the text of each word that Tcl computes from constants.
-ghost use Rattle.std.specs.Prelude.{◌≡◌, ◌-◌, ◌++◌, [], ◌∷◌, length, map, take, drop, if◌then◌else◌, IfErr, IfOk, OnOk};
-ghost use Rattle.std.specs.Prelude.{IfSome, MatchOption, false, true, string_bytes};
-ghost use Rattle.tcltext.specs.script.Faults.{IsTextFault};
-ghost use Rattle.tcltext.specs.script.Text.{script_of};
-ghost use Rattle.tcltext.specs.script.View.{script_view};
-ghost use Rattle.port_reading.specs.forms.Words.{commands_in};
-ghost use Rattle.port_reading.specs.script_text.PieceViews.{piece_view};
-ghost use Rattle.port_reading.specs.script_text.Pieces.{pieces_of};
-ghost use Rattle.port_reading.specs.script_text.ScriptTexts.{Parses};
-ghost use Rattle.port_constants.specs.Edits as spec;
-ghost use Rattle.port_constants.specs.Edits.{HasComputed};
-ghost use Rattle.port_constants.specs.Views.{bindings_view, edits_view};
+//! What is written for words that Tcl computes: the texts of what isn't read here, where they are known.
 
-use crate::answers::{KnownValues, KnownVariable};
-use crate::knowledge::known_behind;
-use crate::walking::{Edit, edits_of};
-use port_reading::forms::judged;
-use port_reading::script_text::{Piece, pieces_of, script_text, split_within};
+use crate::knowledge::{Knowledge, plain_name};
+use port_reading::places::{constant, end_of_part, places_of_words};
 use std::alloc::{AllocError, Global};
-use tcltext::chars::TextFault;
-use tcltext::script::{Script, parse_script};
+use tcltext::chars::{is_gap, is_special};
+use tcltext::script::{ByteRange, Command, Part, Script, WordContent};
 
-/// A modulefile with what is computed in it.
+/// A text that is written for what Tcl computes.
 #[derive(Debug, Drop)]
-pub struct FoldedFile {
-    /// Its text.
-    pub text: String,
-    /// What is put, in the order of the places.
-    pub edits: Vec<Edit>,
-}
-
-/// What is written for pieces of a text so far.
-#[derive(Debug, Drop)]
-struct FoldingDraft {
-    /// What is put, in the order of the places.
-    edits: Vec<Edit>,
+pub struct Computed {
+    /// Where that stands.
+    pub place: ByteRange,
     /// The text.
-    text: Vec<u8>,
-    /// Where in it each piece begins.
-    starts: Vec<usize>,
+    pub text: String,
 }
 
-/// The bytes before as many of a text's end, and those from there on.
-fn split_before(text: &[u8], left: usize) -> (&[u8], &[u8])
-    ensures first { result.0.now ≡ take (length text.now - left) text.now }
-    ensures others { result.1.now ≡ drop (length text.now - left) text.now }
-{
-    split_within(text, text.len().saturating_sub(left))
+/// Where a part of a word stands.
+#[derive(Clone, Copy)]
+struct PartPlace {
+    /// Its place.
+    place: ByteRange,
+    /// Whether it is the whole word, without quotes.
+    is_word: bool,
+    /// Whether the name of a variable before it may go on.
+    is_behind_name: bool,
 }
 
-/// Adds a text with these edits, but for its last bytes, this many.
-fn push_edited(
-    written: &mut Vec<u8>,
-    text: &[u8],
-    left: usize,
-    edits: &[Edit],
-) -> Result<(), AllocError>
-    ensures { OnOk result (written.new.items
-        ≡ written.old.items ++ spec.edited_to left text.now (edits_view edits.now)) }
-{
-    let mut rest = text;
-    for edit in edits {
-        written.extend_from_slice(split_before(rest, edit.from).0)?;
-        written.extend_from_slice(edit.text.as_slice())?;
-        rest = split_before(rest, edit.to).1;
-    }
-    written.extend_from_slice(split_before(rest, left).0)
-}
-
-impl FoldingDraft {
-    /// Adds the piece that a text begins with, but for its last bytes, this many, with these edits.
-    fn add(&mut self, text: &[u8], left: usize, edits: Vec<Edit>) -> Result<(), AllocError>
-        ensures edits { OnOk result (edits_view self.new.edits.items
-            ≡ edits_view self.old.edits.items ++ edits_view edits.items) }
-        ensures text { OnOk result (self.new.text.items
-            ≡ self.old.text.items ++ spec.edited_to left text.now (edits_view edits.items)) }
-        ensures starts { OnOk result (self.new.starts.items
-            ≡ self.old.starts.items ++ (length self.old.text.items ∷ [])) }
-    {
-        self.starts.push(self.text.len())?;
-        push_edited(&mut self.text, text, left, edits.as_slice())?;
-        let mut more = edits;
-        self.edits.append(&mut more)
-    }
-}
-
-/// What is written for the pieces of a text.
-fn drafted(
+/// What is computed in a command so far.
+#[derive(Drop)]
+struct Folding<'k, 't> {
     alloc: Global,
-    host: &[KnownVariable],
-    text: &[u8],
-    pieces: &[Piece],
-) -> Result<FoldingDraft, AllocError>
-    ensures edits { IfOk result (λ d. edits_view d.edits.items
-        ≡ spec.edits_from (spec.facts_of (bindings_view host.now)) text.now (map piece_view pieces.now)) }
-    ensures text { IfOk result (λ d. d.text.items ≡ spec.joined
-        (spec.texts_from (spec.facts_of (bindings_view host.now)) text.now (map piece_view pieces.now))) }
-    ensures starts { IfOk result (λ d. d.starts.items ≡ spec.starts 0
-        (spec.texts_from (spec.facts_of (bindings_view host.now)) text.now (map piece_view pieces.now))) }
-{
-    let mut draft = FoldingDraft {
-        edits: Vec::new(alloc),
-        text: Vec::new(alloc),
-        starts: Vec::new(alloc),
-    };
-    let mut facts = KnownValues {
-        host,
-        variables: Vec::new(alloc),
-        environment: Vec::new(alloc),
-    };
-    let mut rest = text;
-    for piece in pieces {
-        let (_, more) = split_within(rest, piece.text.len());
-        let found = edits_of(alloc, &facts, piece.words, rest, more.len())?;
-        draft.add(rest, more.len(), found)?;
-        facts = known_behind(alloc, facts, piece.words)?;
-        rest = more;
-    }
-    Ok(draft)
+    known: &'k Knowledge<'k>,
+    text: &'t str,
+    found: Vec<Computed>,
 }
 
-/// Whether the pieces begin at these places.
-#[tactic(auto, using(crate::proofs::Begun::no_place))]
-fn begin_at(pieces: &[Piece], places: &[usize]) -> bool
-    ensures { result ≡ spec.are_same (map (λ p. p.start) (map piece_view pieces.now)) places.now }
-{
-    let mut rest = places;
-    for piece in pieces {
-        let [place, others @ ..] = rest else {
-            return false;
-        };
-        if piece.start != *place {
-            return false;
+/// Whether each byte stands for itself in a script, and there is one.
+fn is_plain(text: &str) -> bool {
+    !text.is_empty() && text.bytes().all(|byte| !is_gap(byte) && !is_special(byte))
+}
+
+/// Whether each byte stands for itself in braces, and ends no line.
+fn fits_in_braces(text: &str) -> bool {
+    text.bytes()
+        .all(|byte| !matches!(byte, b'{' | b'}' | b'\\' | b'\n'))
+}
+
+/// How a text is spelled in place of a part of a word.
+fn spelled(alloc: Global, text: &str, is_word: bool) -> Result<Option<String>, AllocError> {
+    if is_plain(text) {
+        return Ok(Some(String::from_str(alloc, text)?));
+    }
+    if is_word && fits_in_braces(text) {
+        return Ok(Some(format!(in alloc; "{{{text}}}")?));
+    }
+    Ok(None)
+}
+
+/// Whether a command of this name and word isn't read here, but may be computed.
+fn is_unread(name: &str, word: Option<&str>) -> bool {
+    match name {
+        "file" | "uname" => true,
+        "info" => word.is_some_and(|word| word == "hostname"),
+        _ => false,
+    }
+}
+
+/// Whether the one command of a script isn't read here.
+fn is_unread_script(text: &str, script: &Script<ByteRange>) -> bool {
+    let [command] = script.commands.as_slice() else {
+        return false;
+    };
+    match command.words.as_slice() {
+        [name, word, ..] => match constant(text, name) {
+            Some(name) => is_unread(name.value, constant(text, word).map(|word| word.value)),
+            None => false,
+        },
+        _ => false,
+    }
+}
+
+/// Whether the name of a variable may go on behind a part of a word.
+fn is_open_name(text: &str, part: &Part<ByteRange>, was_open: bool) -> bool {
+    match part {
+        Part::Variable(_) => true,
+        Part::Literal(range) => was_open && range.of(text).bytes().all(|byte| byte == b':'),
+        _ => false,
+    }
+}
+
+impl<'k, 't> Folding<'k, 't> {
+    /// Adds a text for a part, where it can be spelled there.
+    fn put(&mut self, at: PartPlace, value: &str) -> Result<(), AllocError> {
+        if at.is_behind_name {
+            return Ok(());
         }
-        rest = others;
+        if let Some(text) = spelled(self.alloc, value, at.is_word)? {
+            self.found.push(Computed {
+                place: at.place,
+                text,
+            })?;
+        }
+        Ok(())
     }
-    rest.is_empty()
-}
 
-/// Whether the pieces of a script, whose text this is, begin at these places.
-fn script_begins_at<'a>(
-    alloc: Global,
-    text: &'a str,
-    script: &Script<&'a str>,
-    places: &[usize],
-) -> Result<bool, AllocError>
-    ensures { IfOk result (λ same. same ≡ spec.are_same (map (λ p. p.start)
-        (pieces_of text.now (commands_in (script_view (λ piece. piece.now) script.now)))) places.now) }
-{
-    let pieces = pieces_of(alloc, text.as_bytes(), script)?;
-    Ok(begin_at(pieces.as_slice(), places))
-}
-
-/// Whether the text is a script whose pieces begin at these places.
-#[tactic(auto, using(port_reading::proofs::forms::Refused::refused))]
-fn text_begins_at(alloc: Global, text: &str, places: &[usize]) -> Result<bool, AllocError>
-    ensures { IfOk result (λ same. same ≡ spec.begin_at places.now text.now (script_of text.now)) }
-{
-    match parse_script(alloc, text) {
-        Ok(script) => script_begins_at(alloc, text, &script, places),
-        Err(fault) => {
-            judged(&fault)?;
-            Ok(false)
+    /// Puts the value of a part, where it is known.
+    fn fold(&mut self, at: PartPlace, part: &Part<ByteRange>) -> Result<(), AllocError> {
+        match self.known.value_of_part(self.alloc, self.text, part)? {
+            Some(value) => self.put(at, value.as_str()),
+            None => Ok(()),
         }
     }
-}
 
-/// The bytes as text, where they are a script whose pieces begin at these places.
-#[tactic(auto, using(crate::proofs::Fitting::fits, crate::proofs::Fitting::no_script, crate::proofs::Fitting::no_places))]
-fn fitting(alloc: Global, bytes: Vec<u8>, places: &[usize]) -> Result<Option<String>, AllocError>
-    ensures found { IfOk result (λ text. MatchOption text (spec.fit_at places.now bytes.items ≡ false)
-        (λ t. string_bytes t ≡ bytes.items)) }
-    ensures fit { IfOk result (λ text. IfSome text (λ t. spec.fit_at places.now bytes.items ≡ true)) }
-    ensures parses { IfOk result (λ text. IfSome text (λ t. Parses (string_bytes t))) }
-{
-    match script_text(alloc, bytes)? {
-        Some(text) => {
-            if text_begins_at(alloc, text.as_str(), places)? {
-                Ok(Some(text))
-            } else {
-                Ok(None)
+    /// Whether a variable is one that isn't there here.
+    fn is_foreign(&self, name: ByteRange) -> bool {
+        matches!(
+            plain_name(name.of(self.text)),
+            "env" | "tcl_platform" | "tcl_version"
+        )
+    }
+
+    /// What is computed in a part of a word.
+    #[cycle(folds)]
+    fn part(&mut self, at: PartPlace, part: &Part<ByteRange>) -> Result<(), AllocError> {
+        match part {
+            Part::Literal(_) | Part::Backslash(_) => Ok(()),
+            Part::Variable(name) | Part::Indexed(name, _) => {
+                if self.is_foreign(*name) {
+                    self.fold(at, part)?;
+                }
+                Ok(())
+            }
+            Part::Bracket(script) if is_unread_script(self.text, script) => self.fold(at, part),
+            Part::Bracket(script) => {
+                for command in &script.commands {
+                    self.command(command)?;
+                }
+                Ok(())
             }
         }
-        None => Ok(None),
+    }
+
+    /// What is computed in the parts of a word that stands at a place.
+    #[cycle(folds)]
+    fn parts(&mut self, place: ByteRange, parts: &[Part<ByteRange>]) -> Result<(), AllocError> {
+        let is_quoted = self.text.as_bytes().get(place.start) == Some(&b'"');
+        let mut start = if is_quoted {
+            place.start.saturating_add(1)
+        } else {
+            place.start
+        };
+        let mut is_behind_name = false;
+        for part in parts {
+            let Some(end) = end_of_part(self.text, start, part) else {
+                return Ok(());
+            };
+            let at = PartPlace {
+                place: ByteRange { start, end },
+                is_word: !is_quoted && parts.len() == 1,
+                is_behind_name,
+            };
+            self.part(at, part)?;
+            is_behind_name = is_open_name(self.text, part, is_behind_name);
+            start = end;
+        }
+        Ok(())
+    }
+
+    /// What is computed in the words of a command.
+    #[cycle(folds)]
+    fn command(&mut self, command: &Command<ByteRange>) -> Result<(), AllocError> {
+        let Some(places) = places_of_words(self.alloc, self.text, command)? else {
+            return Ok(());
+        };
+        for (word, place) in command.words.iter().zip(places.iter()) {
+            match &word.content {
+                WordContent::Parts(parts) if !word.expands => {
+                    self.parts(*place, parts.as_slice())?;
+                }
+                _ => {}
+            }
+        }
+        Ok(())
     }
 }
 
-/// A text in which nothing is put.
-fn uncomputed(alloc: Global, text: &str) -> Result<FoldedFile, AllocError>
-    ensures edits { IfOk result (λ c. edits_view c.edits.items ≡ []) }
-    ensures text { IfOk result (λ c. string_bytes c.text ≡ text.now) }
-{
-    Ok(FoldedFile {
-        text: String::from_str(alloc, text)?,
-        edits: Vec::new(alloc),
-    })
-}
-
-/// What was drafted for a text, a script, where that fits; else the text as it is.
-#[tactic(auto, using(crate::proofs::Fitting::all_fit, crate::proofs::Fitting::none_fits))]
-fn fitted(alloc: Global, text: &str, draft: FoldingDraft) -> Result<FoldedFile, AllocError>
-    requires { Parses text.now }
-    ensures edits { IfOk result (λ c. edits_view c.edits.items
-        ≡ (if spec.fit_at draft.starts.items draft.text.items then edits_view draft.edits.items else [])) }
-    ensures text { IfOk result (λ c. string_bytes c.text
-        ≡ (if spec.fit_at draft.starts.items draft.text.items then draft.text.items else text.now)) }
-    ensures parses { IfOk result (λ c. Parses (string_bytes c.text)) }
-{
-    let FoldingDraft {
-        edits,
-        text: written,
-        starts,
-    } = draft;
-    match fitting(alloc, written, starts.as_slice())? {
-        Some(text) => Ok(FoldedFile { text, edits }),
-        None => uncomputed(alloc, text),
-    }
-}
-
-/// What is put in a text that is this script, and the text with it.
-#[tactic(auto, using(crate::proofs::Fitting::computed, crate::proofs::Fitting::none_put))]
-fn of_script<'a>(
+/// What is computed in the words of a command of a text, by what is known, in the order of the text.
+pub fn computed_in(
     alloc: Global,
-    text: &'a str,
-    script: &Script<&'a str>,
-    host: &[KnownVariable],
-) -> Result<FoldedFile, AllocError>
-    requires { Parses text.now }
-    ensures found { IfOk result (λ c. spec.AreComputed (bindings_view host.now) text.now
-        (commands_in (script_view (λ piece. piece.now) script.now)) (edits_view c.edits.items)
-        (string_bytes c.text)) }
-    ensures parses { IfOk result (λ c. Parses (string_bytes c.text)) }
-{
-    let pieces = pieces_of(alloc, text.as_bytes(), script)?;
-    let draft = drafted(alloc, host, text.as_bytes(), pieces.as_slice())?;
-    if draft.edits.is_empty() {
-        return uncomputed(alloc, text);
-    }
-    fitted(alloc, text, draft)
-}
-
-/// A modulefile with the text of each word that Tcl computes from constants, from what is known of the host by the
-/// names that `uname` of modulefile(5) has, and from variables that it has set.
-///
-/// The error: it is no script, or memory ran out.
-pub fn compute(alloc: Global, text: &str, host: &[KnownVariable]) -> Result<FoldedFile, TextFault>
-    // What is put is what the definitions have for the script, and all other bytes stay, as its commands do
-    // (same_commands, edits_in_order).
-    ensures found { IfOk result (λ c. HasComputed (bindings_view host.now) text.now (edits_view c.edits.items)
-        (string_bytes c.text)) }
-
-    // The text with it is a script again.
-    ensures parses { IfOk result (λ c. Parses (string_bytes c.text)) }
-    ensures fault { IfErr result (IsTextFault text.now) }
-{
-    let script = parse_script(alloc, text)?;
-    match of_script(alloc, text, &script, host) {
-        Ok(computed) => Ok(computed),
-        Err(_) => Err(TextFault::OutOfMemory),
-    }
+    known: &Knowledge,
+    text: &str,
+    command: &Command<ByteRange>,
+) -> Result<Vec<Computed>, AllocError> {
+    let mut folding = Folding {
+        alloc,
+        known,
+        text,
+        found: Vec::new(alloc),
+    };
+    folding.command(command)?;
+    Ok(folding.found)
 }

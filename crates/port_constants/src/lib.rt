@@ -1,20 +1,13 @@
-//! Words that Tcl computes from constants: the text of each is written for it.
+//! What Tcl computes from constants: a folder over the tree of a command.
 //! Takes memory and touches nothing else.
 #![tactic(auto)]
 
 mod answers;
 mod folding;
 mod knowledge;
-mod laws;
 mod paths;
-mod places;
-mod quiet;
-mod settings;
-mod stillness;
 mod values;
-mod walking;
 
-pub use answers::KnownVariable;
-pub use folding::{FoldedFile, compute};
-pub use laws::{edits_in_order, same_commands};
-pub use walking::Edit;
+pub use answers::copied;
+pub use folding::{Computed, computed_in};
+pub use knowledge::{Knowledge, KnownFile, KnownVariable};

@@ -1,16 +1,13 @@
-//! Modulefiles as they were shown: what `module show` of Environment Modules says, written as one.
+//! What a load of a modulefile has done: the text that Environment Modules writes for a shell, read as commands.
 //! Takes memory and touches nothing else.
 #![tactic(auto)]
 
-mod flattening;
-mod laws;
+mod reading;
 mod records;
-mod saying;
-mod shown;
-mod user_values;
+mod values;
 mod writing;
 
-pub use flattening::flattened;
-pub use laws::flattened_says;
-pub use records::are_records;
-pub use user_values::UserValues;
+pub use reading::{Unserving, records_of};
+pub use records::{LoadRecords, PathEnds, VariableChange};
+pub use values::UserValues;
+pub use writing::written_records;

@@ -1,5 +1,3 @@
-pub mod InPlace
-pub mod Joined
+pub mod Refused
 pub mod Scripts
-pub mod Turns
 pub mod Utf8

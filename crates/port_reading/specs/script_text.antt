@@ -1,3 +1,2 @@
-pub mod PieceViews
-pub mod Pieces
+pub mod ReadingFaults
 pub mod ScriptTexts

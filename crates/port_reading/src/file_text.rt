@@ -2,8 +2,6 @@
 //! Takes memory and touches nothing else.
 #![tactic(auto)]
 
-mod laws;
 mod texts;
 
-pub use laws::unchanged;
-pub use texts::{FileText, file_text};
+pub use texts::{FileText, SourceEncoding, file_text};

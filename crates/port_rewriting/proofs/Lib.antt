@@ -1,6 +1,4 @@
-pub mod Adding
-pub mod Checked
-pub mod Kept
-pub mod Mapped
-pub mod More
-pub mod Turns
+pub mod Accounting
+pub mod Excluding
+pub mod LookingInto
+pub mod Reading

@@ -1,26 +1,14 @@
 //! Laws of translations: functions that do nothing, whose contracts are theorems about the definitions.
-ghost use Rattle.std.specs.Prelude.{◌≡◌, List, [], ◌∷◌, Option, Some, None, flat_map};
+ghost use Rattle.std.specs.Prelude.{◌≡◌, ◌≢◌, Bool, List, String, true};
+ghost use Rattle.std.specs.declared.alloc.Global.{Global};
 ghost use Rattle.tcltext.specs.chars.Runs.{Text};
-ghost use Rattle.port_rewriting.specs.families.Families.{SiteContext};
-ghost use Rattle.tcltext.specs.script.Tree.{Command};
-ghost use Rattle.port_rewriting.specs.Places.{line_of};
-ghost use Rattle.port_reading.specs.script_text.Pieces.{Piece, pieces_of};
-ghost use Rattle.port_rewriting.specs.Translations.{AreKept, change_of, line_at, notes_on, outcome_of};
-ghost use Rattle.port_rewriting.specs.Translations.{written_for, written_for_all};
-ghost use Rattle.port_rewriting.specs.TranslationViews.{note};
+ghost use Rattle.port_rewriting.specs.Families.{is_among, is_excluded, ExcludesOthers};
 
-/// The pieces of a text, wherever it is cut, are the text when they are joined. So a text of which each piece is kept
-/// is written byte for byte.
-pub fn pieces_of_text()
-    ensures joined { (text : Text) (cs : List Command) → flat_map (λ p. p.text) (pieces_of text cs) ≡ text }
-    ensures unchanged { (home : Option SiteContext) (text : Text) (cs : List Command) → AreKept home (pieces_of text cs)
-        → written_for_all home (pieces_of text cs) ≡ text }
-{}
-
-/// Each command is accounted for: its piece is written byte for byte, or one note says that another is written for it, or none.
-pub fn accounted()
-    ensures kept { (home : Option SiteContext) (p : Piece) → change_of home p ≡ None → written_for home p ≡ p.text }
-    ensures noted { (home : Option SiteContext) (names : List Text) (text change : Text) (p : Piece)
-        → change_of home p ≡ Some change
-        → notes_on home names text p ≡ note (line_at text p.start) (line_of p.text) (outcome_of home p) ∷ [] }
+/// Of two members of a family each is excluded by the conflict of the other.
+pub fn families_are_symmetric()
+    ensures { (is_member : Text → Bool) (modules : List Text) (one other : Text) (ones others : List (String Global))
+        → one ≢ other → is_among one modules ≡ true → is_among other modules ≡ true
+        → is_member one ≡ true → is_member other ≡ true
+        → ExcludesOthers is_member modules one ones → ExcludesOthers is_member modules other others
+        → (is_excluded ones other ≡ true) × (is_excluded others one ≡ true) }
 {}

@@ -1,21 +1,29 @@
-//! Modulefiles translated into the profile: what is written for a command that the profile says in another way.
+//! Modulefiles translated: each command is read once, classified, written, and reported.
 //! Takes memory and touches nothing else.
 #![tactic(auto)]
 
-pub mod aliases;
-mod aliasing;
-pub mod families;
-mod laws;
-mod notes;
-pub mod one_version;
-mod options;
-mod places;
-mod translating;
-mod translation_fault;
-mod translation_text;
-mod writing;
+mod acceptance;
+mod aliases;
+mod class;
+mod classifying;
+mod conditions;
+mod guards;
+pub mod laws;
+mod meanings;
+mod names;
+mod pieces;
+mod reader;
+mod records;
+mod rewrite;
+mod scopes;
+mod symbols;
+mod translation;
 
-pub use laws::{accounted, pieces_of_text};
-pub use notes::{Note, Outcome};
-pub use translation_fault::TranslationFault;
-pub use translation_text::{Translation, translate};
+pub use aliases::ShellScript;
+pub use class::{Class, Note, Outcome};
+pub use names::{Member, Site};
+pub use pieces::TranslatedPiece;
+pub use reader::NamedFamily;
+pub use scopes::{FileKind, Given};
+pub use symbols::{VersionSymbol, symbols_said};
+pub use translation::{Translation, TranslationFault, translate};

@@ -5,13 +5,13 @@ ghost use Rattle.tcltext.specs.script.Text.{script_of};
 ghost use Rattle.port_reading.specs.script_text.ScriptTexts as spec;
 ghost use Rattle.port_reading.specs.script_text.ScriptTexts.{Parses};
 
-use crate::forms::judged;
+use crate::script_text::reading_faults::judged;
 use std::alloc::{AllocError, Global};
 use std::str;
 use tcltext::script::parse_script;
 
 /// Whether the text is a script.
-#[tactic(auto, using(crate::proofs::forms::Refused::refused))]
+#[tactic(auto, using(crate::proofs::script_text::Refused::refused))]
 fn is_read(alloc: Global, text: &str) -> Result<bool, AllocError>
     ensures { IfOk result (λ read. read ≡ is_ok (script_of text.now)) }
 {
@@ -47,8 +47,6 @@ fn text_of(bytes: Vec<u8>) -> Option<String>
 }
 
 /// These bytes as text, where they are a script.
-///
-/// The error: want of memory.
 #[tactic(auto, using(crate::proofs::script_text::Scripts::no_script, crate::proofs::script_text::Scripts::parsed))]
 pub fn script_text(alloc: Global, bytes: Vec<u8>) -> Result<Option<String>, AllocError>
     // The bytes are handed back as they are, or they are no script.

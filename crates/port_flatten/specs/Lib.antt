@@ -1,6 +1,0 @@
-pub mod Flattened
-pub mod People
-pub mod Saying
-pub mod Shown
-pub mod Views
-pub mod Writing

@@ -1,3 +1,0 @@
-pub mod Lines
-pub mod Same
-pub mod Utf8

@@ -1,2 +1,0 @@
-pub mod GuardViews
-pub mod Guards

@@ -1,2 +1,0 @@
-pub mod Inserted
-pub mod Mapped

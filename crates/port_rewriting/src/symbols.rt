@@ -1,0 +1,111 @@
+//! Version symbols: names that mean a module with a version, as a default file says.
+
+use modulename::means;
+use port_reading::places::constant;
+use std::alloc::{AllocError, Global};
+use tcltext::chars::TextFault;
+use tcltext::script::{ByteRange, Command, Script, parse_pieces};
+
+/// A name that means a module with a version.
+#[derive(Debug, Drop)]
+pub struct VersionSymbol {
+    /// The name.
+    pub name: String,
+    /// The module, with its version; or another symbol.
+    pub version: String,
+}
+
+/// The name that a word means in a default file of a folder, which is empty at the top.
+pub(crate) fn full_name(alloc: Global, folder: &str, word: &str) -> Result<String, AllocError> {
+    let rest = match word.strip_prefix(".") {
+        Some(rest) => rest,
+        None => word,
+    };
+    if rest.starts_with('/') {
+        Ok(format!(in alloc; "{folder}{rest}")?)
+    } else {
+        String::from_str(alloc, word)
+    }
+}
+
+/// Whether the name is of a version of a module that a default file of the folder may speak of.
+fn is_below(folder: &str, name: &str) -> bool {
+    name.contains('/') && (folder.is_empty() || means(folder, name))
+}
+
+/// The name with another word in place of its version.
+pub(crate) fn in_place(alloc: Global, name: &str, word: &str) -> Result<String, AllocError> {
+    match name.rsplit_once('/') {
+        Some((folder, _)) => Ok(format!(in alloc; "{folder}/{word}")?),
+        None => String::from_str(alloc, word),
+    }
+}
+
+/// The words of a command of a text, where each is constant; else none.
+pub(crate) fn constant_words<'t>(
+    alloc: Global,
+    text: &'t str,
+    command: &Command<ByteRange>,
+) -> Result<Vec<&'t str>, AllocError> {
+    let mut words = Vec::new(alloc);
+    for word in &command.words {
+        match constant(text, word) {
+            Some(word) => words.push(word.value)?,
+            None => return Ok(Vec::new(alloc)),
+        }
+    }
+    Ok(words)
+}
+
+/// Adds the symbols of a command of these words in a default file of a folder.
+fn add_symbols(
+    alloc: Global,
+    symbols: &mut Vec<VersionSymbol>,
+    folder: &str,
+    words: &[&str],
+) -> Result<(), AllocError> {
+    let ["module-version", name, those @ ..] = words else {
+        return Ok(());
+    };
+    let version = full_name(alloc, folder, name)?;
+    if !is_below(folder, version.as_str()) {
+        return Ok(());
+    }
+    for word in those {
+        symbols.push(VersionSymbol {
+            name: in_place(alloc, version.as_str(), word)?,
+            version: version.clone()?,
+        })?;
+    }
+    Ok(())
+}
+
+/// The symbols of a default file of a folder that is this script.
+fn symbols_of(
+    alloc: Global,
+    text: &str,
+    folder: &str,
+    script: &Script<ByteRange>,
+) -> Result<Vec<VersionSymbol>, AllocError> {
+    let mut symbols = Vec::new(alloc);
+    for command in &script.commands {
+        let words = constant_words(alloc, text, command)?;
+        add_symbols(alloc, &mut symbols, folder, words.as_slice())?;
+    }
+    Ok(symbols)
+}
+
+/// The version symbols that a default file of a folder says by `module-version NAME WORD...`, outside of bodies.
+///
+/// The error: it is no script, or memory ran out.
+pub fn symbols_said(
+    alloc: Global,
+    text: &str,
+    folder: &str,
+) -> Result<Vec<VersionSymbol>, TextFault> {
+    let script = parse_pieces(alloc, &text)?;
+    match symbols_of(alloc, text, folder, &script) {
+        Ok(symbols) => Ok(symbols),
+        Err(_) => Err(TextFault::OutOfMemory),
+    }
+}
