@@ -122,7 +122,8 @@ if ! command -v apt-get > /dev/null 2>&1 || test "$(id -u)" != 0; then
     echo "missing, and not installed (no apt-get, or not root):$missing $unpacked" >&2
     exit 0
 fi
-echo "missing, and installed now by apt-get:$missing $unpacked"
+test -z "$missing" || echo "missing, and installed now by apt-get:$missing"
+test -z "$unpacked" || echo "missing, and unpacked now below build/bench:$unpacked"
 awk=$(readlink -f "$(command -v awk)") || true
 apt-get update > /dev/null 2>&1 || true
 for package in $missing; do

@@ -251,6 +251,7 @@ def test_without_end(place):
     same(found, (1, "", "ERROR: Missing one of 'endless/1001'\n"), "an endless chain")
 
 
+@pytest.mark.usefixtures("as_shipped")
 def test_memory(place, tmp_path):
     """A growth that is refused ends the command with its reason, and nothing is printed for the shell."""
     shim = refuser(os.fsencode(tmp_path))

@@ -309,6 +309,7 @@ def test_where_reading_failed(program, site):
     same(told(program, ["load", "ring"], env).startswith(f"  {site.modules}/ring: "), True, "what a user is told")
 
 
+@pytest.mark.usefixtures("as_shipped")
 def test_memory(program, site, tmp_path):
     """Where memory is refused less is said, and the status stays."""
     site("foo/1", "if {1} {\n  bogus\n}\n")

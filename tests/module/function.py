@@ -655,6 +655,7 @@ def test_characters_that_steer_reach_no_terminal_from_descriptions(program, fold
         same(said_to_a_terminal(program, ["sh", *words], env), shown, f"{words} on a terminal")
 
 
+@pytest.mark.usefixtures("as_shipped")
 def test_memory_of_listings(program, folder, modules, tmp_path):
     """Each growth that is refused ends it with its reason alone."""
     shim = refuser(os.fsencode(tmp_path))
@@ -717,6 +718,7 @@ def test_a_full_device(program):
     same((done.returncode, done.stderr), (1, b"ERROR: Writing failed\n"), "a device that is full")
 
 
+@pytest.mark.usefixtures("as_shipped")
 def test_memory(program, tmp_path):
     """Each growth that is refused ends it with its reason alone."""
     shim = refuser(os.fsencode(tmp_path))
@@ -729,6 +731,7 @@ def test_memory(program, tmp_path):
         refuses_each(shim, asked, (1, "", "ERROR: Out of memory\n").__eq__, words)
 
 
+@pytest.mark.usefixtures("as_shipped")
 def test_memory_of_collections(program, folder, tmp_path):
     """A growth that is refused ends a command of collections with a refusal, and nothing is printed for the shell."""
     shim = refuser(os.fsencode(tmp_path))
@@ -745,6 +748,7 @@ def test_memory_of_collections(program, folder, tmp_path):
         refuses_each(shim, asked, lambda it: it[0] == 1 and it[1] == "" and it[2].startswith("ERROR: "), words)
 
 
+@pytest.mark.usefixtures("as_shipped")
 def test_memory_of_descriptions(program, folder, tmp_path):
     """A growth that is refused ends a report with a refusal; a module isn't left out for want of memory."""
     shim = refuser(os.fsencode(tmp_path))

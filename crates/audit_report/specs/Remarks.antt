@@ -26,7 +26,7 @@ missing dir = codes "# no directory: " ++ (spelled dir ++ codes "\n")
 abbrev pub missing_line : List (String Global) → String Global → Text
 missing_line unreadable dir = if is_unreadable unreadable (string_bytes dir) then [] else missing (string_bytes dir)
 
--- the line of a directory that can be reached only through a module that isn't deterministic
+-- the line of a directory that neither MODULEPATH has nor a deterministic module adds
 unfoldable pub unreachable_line : AddedDirectory → Text
 unreachable_line added =
     codes "# " ++ (spelled (string_bytes added.name) ++ (codes " (" ++ (spelled (string_bytes added.path)

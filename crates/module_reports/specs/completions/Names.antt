@@ -23,15 +23,17 @@ audit_options = codes "--help" ∷ codes "--json" ∷ codes "--quiet" ∷ codes 
 
 unfoldable pub port_options : List Text
 port_options =
-    codes "--check"
+    codes "--alias-scripts"
+    ∷ codes "--check"
+    ∷ codes "--defaults"
     ∷ codes "--flatten"
     ∷ codes "--help"
     ∷ codes "--host"
     ∷ codes "--json"
     ∷ codes "--kept"
-    ∷ codes "--like"
     ∷ codes "--one-version"
     ∷ codes "--stdin"
+    ∷ codes "--strict"
     ∷ []
 
 -- those that aren't options

@@ -35,15 +35,17 @@ fn port_options() -> &'static [&'static str]
     ensures { slice_texts result.now ≡ spec.port_options }
 {
     &[
+        "--alias-scripts",
         "--check",
+        "--defaults",
         "--flatten",
         "--help",
         "--host",
         "--json",
         "--kept",
-        "--like",
         "--one-version",
         "--stdin",
+        "--strict",
     ]
 }
 
