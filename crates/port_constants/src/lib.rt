@@ -1,4 +1,5 @@
-//! What Tcl computes from constants: a folder over the tree of a command.
+//! What Tcl computes from constants: a folder over the tree of a command, with the few commands that answer by their
+//! words alone.
 //! Takes memory and touches nothing else.
 #![tactic(auto)]
 
