@@ -1,5 +1,4 @@
-//! What Tcl computes from constants: a folder over the tree of a command, with the few commands that answer by their
-//! words alone.
+//! What Tcl computes from constants: a folder over the tree of a command.
 //! Takes memory and touches nothing else.
 #![tactic(auto)]
 
