@@ -71,7 +71,6 @@ SUITES = (
     "audit/modaudit.py",
     "port/modport.py",
     "port/meanings.py",
-    "port/random_files.py",
     "port/moved.py",
     "faults/failed_allocations.py",
     "faults/device.py",
