@@ -71,6 +71,7 @@ SUITES = (
     "audit/modaudit.py",
     "port/modport.py",
     "port/meanings.py",
+    "port/random_files.py",
     "port/moved.py",
     "faults/failed_allocations.py",
     "faults/device.py",

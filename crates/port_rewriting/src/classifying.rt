@@ -94,8 +94,10 @@ impl<'f> Reader<'f> {
     fn is_missing(&self, ask: Ask, name: &str) -> Result<bool, AllocError> {
         match ask {
             Ask::Need => Ok(false),
-            Ask::Try if self.given.site.is_none() => Ok(self.has_search),
-            Ask::Try => Ok(!self.is_there(name)?),
+            Ask::Try => match self.given.site {
+                Some(site) => Ok(site.is_family(name) || !self.is_there(name)?),
+                None => Ok(self.has_search),
+            },
             Ask::Load => Ok(self.has_search && !self.is_there(name)?),
         }
     }

@@ -182,6 +182,15 @@ impl Site {
             .any(|module| means(name, module.as_str()))
     }
 
+    /// Whether a name is that of a family, and of no module: a search doesn't find it.
+    pub(crate) fn is_family(&self, name: &str) -> bool {
+        !self.has(name)
+            && self
+                .members
+                .iter()
+                .any(|member| member.family.as_str() == name)
+    }
+
     /// Whether a name may be that of a family whose members aren't all known.
     fn is_unsure(&self, name: &str) -> bool {
         self.members.iter().any(|member| member.family.as_str() == name

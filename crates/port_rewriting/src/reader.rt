@@ -127,6 +127,11 @@ fn adds_search(records: &[Record]) -> bool {
     })
 }
 
+/// Whether a place begins at a byte, or goes over it.
+fn has_inside(place: ByteRange, at: usize) -> bool {
+    place.start <= at && at < place.end
+}
+
 /// Whether parts are texts and scripts in brackets alone.
 fn are_spelled(parts: &[Part<ByteRange>]) -> bool {
     parts
@@ -456,6 +461,10 @@ impl<'f> Reader<'f> {
         for edit in edits {
             let Edit { place, text } = edit;
             let place = scope.range(place);
+            // What Tcl computes in it is written anew with it.
+            self.piece
+                .computed
+                .retain(|it| !has_inside(place, it.place.start));
             self.piece.edits.push(Edit { place, text })?;
         }
         let outcome = rewrite.outcome(self.alloc)?;
@@ -560,8 +569,11 @@ impl<'f> Reader<'f> {
     /// Whether a text is put in place of what stands there.
     fn is_computed(&self, scope: Scope, start: usize) -> bool {
         let at = scope.place(start);
-        self.piece.computed.iter().any(|computed| computed.place.start <= at
-            && at < computed.place.end)
+        self.piece
+            .computed
+            .iter()
+            .any(|it| has_inside(it.place, at))
+            || self.piece.edits.iter().any(|it| has_inside(it.place, at))
     }
 
     /// Whether a text is put in place of a script in brackets.
