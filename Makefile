@@ -12,7 +12,8 @@
 #                lays out the programs, the init files, completion and the pages below a prefix, and `make uninstall`
 #                takes them away
 #   make package leaves in build/dist an archive with an install.sh for every Linux, Debian's package and an RPM
-#   make demo    installs them below build/demo, and shows loads, a switch, a check, unloads and an audit in a POSIX shell
+#   make demo    proves what modulecmd needs and shows loads, a switch and unloads by it; then proves the rest, installs both
+#                programs below build/demo, and shows a check and an audit too, all in a POSIX shell
 #   make test    the merge gate `rt ci`, the tests over real folders and real shells, and what each part took; with
 #                ONLY="NAME..." those suites, or folders of tests/, alone, over the programs in build/bin, or in
 #                PROGRAMS=build/unproved
@@ -69,6 +70,8 @@ package:
 
 demo:
 	sh tools/deps.sh demo
+	python3 -B tools/build.py modulecmd_main
+	sh demo/modulecmd.sh build/bin/modulecmd
 	python3 -B tools/build.py
 	sh tools/product.sh install '' '$(CURDIR)/build/demo' $(BUILT)
 	sh demo/demo.sh build/demo

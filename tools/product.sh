@@ -106,9 +106,13 @@ make_file() {
 
 # Prints the text of a file, with what stands in the place of each mark.
 fill() {
-    name=${1##*/} zsh='/# zsh: /d'
+    name=${1##*/} zsh='/# zsh: /d' print=
     case $1 in
-        init/ksh) set -- init/sh ;;
+        init/ksh)
+            # mksh has no `printf`.
+            print="s/unset -f printf/unset -f print/;s/printf '%s.n' \"\$2\"/print -r -- \"\$2\"/"
+            set -- init/sh
+            ;;
         init/bash) set -- init/sh init/bash ;;
         init/zsh)
             zsh='s/# zsh: //'
@@ -129,7 +133,7 @@ fill() {
             ;;
         etc/modulespath.example) set -- etc/modulespath ;;
     esac
-    sed -e "$zsh" -e "s|@prefix@|$prefix|g" -e "s|@shell@|$name|g" -e "s|@version@|$version|g" -- "$@"
+    sed -e "$zsh" -e "$print" -e "s|@prefix@|$prefix|g" -e "s|@shell@|$name|g" -- "$@"
 }
 
 make_files() {

@@ -71,6 +71,11 @@ def same(found, wanted, what):
         raise Failed(f"{what}: found {found!r}, wanted {wanted!r}")
 
 
+# What the function's program says behind "Unknown subcommand 'WORD'", and of a word of Lmod's.
+LISTS = '"module help" lists the subcommands.\n'
+OF_SPIDER = 'Here: "module keyword TEXT" for names and descriptions, "module avail -C TEXT" for names.\n'
+
+
 def true(fact, what):
     __tracebackhide__ = True
     if not fact:

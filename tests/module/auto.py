@@ -169,11 +169,62 @@ def test_shells(place, shell):
 
 def test_the_variable_automates_each_command(place):
     for value in ("0", "", "yes", "11"):
-        found = place.run(place.module, ["load", "hdf5"], {**place.start, "MODULES_AUTO_HANDLING": value})
-        same(found, (1, "", "ERROR: This program doesn't do 'load'\n"), f"where it is {value!r}")
+        env = {**place.start, "MODULES_AUTO_HANDLING": value}
+        found = place.run(place.module, ["load", "hdf5"], env)
+        same(found, (1, "", "ERROR: Missing one of 'openmpi/4.1.6'\n"), f"where it is {value!r}")
+        same(place.run(place.module, ["load", "gcc"], env), place.run(place.modulecmd, ["load", "gcc"], env), "a load")
+    for word in ("switch", "purge"):
+        env = {**place.after(CHAIN), "MODULES_AUTO_HANDLING": "1"}
+        words = [word, "gcc/13.2.0", "gcc/12.3.0"] if word == "switch" else [word]
+        same(place.run(place.module, words, env), place.run(place.modulecmd, words, env), f"{word} isn't automated")
     place.does("load", LOADS[2], words=(), more=[("MODULES_AUTO_HANDLING", "1")])
     place.does("unload", UNLOADS[2], words=(), more=[("MODULES_AUTO_HANDLING", "1")])
     place.does("load", LOADS[2], more=[("MODULES_AUTO_HANDLING", "1")])
+
+
+# What is loaded, the words of `ml`, the names of the unload and of the load, and what is said.
+EXCHANGES = [
+    ("gcc/13.2.0", "-gcc gcc/12.3.0", "gcc", "gcc/12.3.0", None),
+    ("gcc/12.3.0 second", "-second openmpi --", None, None, None),
+    (CHAIN, "--auto folder -hdf5", "hdf5", "folder", None),
+    ("gcc/12.3.0", "--auto hdf5 -gcc/12.3.0", "gcc/12.3.0", "gcc/13.2.0 openmpi/4.1.6 hdf5",
+     "Loading hdf5/1.14 with gcc/13.2.0 openmpi/4.1.6\n"),
+]
+
+
+def exchanged(place, env, unloads, loads):
+    """The variables behind both commands, and what they say, by `modulecmd`."""
+    said = ""
+    for verb, names in (("unload", unloads), ("load", loads)):
+        status, text, more = place.run(place.modulecmd, [verb, *names.split()], env)
+        same(status, 0, f"{verb} {names}")
+        found = evaluated(text.encode(), {name.encode(): value.encode() for name, value in env.items()})
+        env, said = {name.decode(): value.decode() for name, value in found.items()}, said + more
+    return env, said
+
+
+@pytest.mark.parametrize("row", EXCHANGES, ids=lambda row: row[1])
+def test_an_exchange_is_an_unload_and_then_a_load(place, row):
+    names, words, unloads, loads, said = row
+    env = place.after(names)
+    status, text, messages = place.run(place.module, ["ml", *words.split()], env)
+    if unloads is None:
+        same((status, text, messages), (1, "", "ERROR: '--' is no option here\n"), "an option")
+        return
+    found = evaluated(text.encode(), {name.encode(): value.encode() for name, value in env.items()})
+    after, more = exchanged(place, env, unloads, loads)
+    same((status, {name.decode(): value.decode() for name, value in found.items()}), (0, after), f"ml {words}")
+    same(messages, (said or "") + more, f"what ml {words} says")
+
+
+def test_an_exchange_that_is_automated(place):
+    env = {**place.after(CHAIN), "MODULES_AUTO_HANDLING": "1"}
+    status, text, said = place.run(place.module, ["ml", "-gcc", "second"], env)
+    lines = "Unloading gcc/13.2.0 with hdf5/1.14 openmpi/4.1.6\nLoading second/1 with gcc/12.3.0\n"
+    after, more = exchanged(place, env, "hdf5/1.14 openmpi/4.1.6 gcc", "gcc/12.3.0 second")
+    found = evaluated(text.encode(), {name.encode(): value.encode() for name, value in env.items()})
+    same((status, said), (0, lines + more), "what is said")
+    same({name.decode(): value.decode() for name, value in found.items()}, after, "the variables")
 
 
 def test_other_names_of_the_subcommands(place):

@@ -59,13 +59,16 @@ def site(tmp_path):
     return write
 
 
-def explained(program, words, env):
+def refused(program, words, env):
     """What is said where standard error is no terminal."""
-    done = subprocess.run(
-        [program, "sh", "explain", *words], env=env, capture_output=True, text=True, timeout=SECONDS, check=False
-    )
-    same((done.returncode, done.stdout), (0, ""), "the status and standard output")
+    done = subprocess.run([program, "sh", *words], env=env, capture_output=True, text=True, timeout=SECONDS, check=False)
+    same((done.returncode, done.stdout), (1, ""), "the status and standard output")
     return done.stderr
+
+
+def explained(program, words, env):
+    """What is said behind the reason where standard error is no terminal."""
+    return behind_the_reason(refused(program, words, env))
 
 
 def at_terminal(command, env, status):
@@ -90,8 +93,8 @@ def at_terminal(command, env, status):
 
 
 def told(program, words, env, shell="sh"):
-    """What is said to a user at a terminal."""
-    return at_terminal([program, shell, "explain", *words], env, 0)
+    """What is said to a user at a terminal behind the reason."""
+    return behind_the_reason(at_terminal([program, shell, *words], env, 1))
 
 
 def behind_the_reason(said):
@@ -154,10 +157,41 @@ def test_nothing_of_what_is_accepted_or_unwanted(program, site):
     site("foo/1", "setenv A b\n")
     site("bar/1", "bogus\n")
     env = {"MODULEPATH": site.modules}
+    same(at_terminal([program, "sh", "explain", "load", "foo"], env, 0), "", "an accepted command")
     for tell in (explained, told):
-        same(tell(program, ["load", "foo"], env), "", "an accepted command")
         same(tell(program, ["load", "bar"], {**env, "MODULECMD_EXPLAIN": "no"}), "", "what isn't wanted")
     same(explained(program, ["load", "nothing"], env), "", "a name that isn't found, in a log")
+
+
+def test_the_word_of_older_functions(program, site):
+    """A function of an earlier version asks for it by itself, behind a refusal."""
+    path = site("bar/1", "bogus\n")
+    env = {"MODULEPATH": site.modules}
+    for words in (["load", "bar"], ["show", "bar"]):
+        command = [program, "sh", "explain", *words]
+        done = subprocess.run(command, env=env, capture_output=True, text=True, timeout=SECONDS, check=False)
+        same((done.returncode, done.stdout, done.stderr), (0, "", f"  in {path}, line 2\n"), "what a log has")
+        same(at_terminal(command, env, 0), told(program, words, env), "what a user is told")
+    same(at_terminal([program, "sh", "explain", "load"], env, 0), "usage: module load NAME...\n", "a load without names")
+
+
+def test_an_exchange(program, site):
+    """Its unload is explained, or the load behind it."""
+    bad = site("bad/1", "bogus\n")
+    stays = site("stays/1", "if {[module-info mode unload]} {bogus}\n")
+    site("gone/1", "setenv A b\n")
+    site("later/1", "if {[info exists env(A)]} {setenv B c} else {\n  bogus\n}\n")
+    later = os.path.join(site.modules, "later/1")
+    env = {**loaded(site.modules, "gone/1", "stays/1"), "A": "b"}
+    for words, where in (
+        ("ml -gone bad", f"{bad}, line 2"),
+        ("ml bad -stays", f"{stays}, line 2"),
+        ("ml later -gone", f"{later}, line 3"),
+        ("ml --auto later -gone", f"{later}, line 3"),
+    ):
+        same(explained(program, words.split(), env), f"  in {where}\n", words)
+    same(explained(program, ["ml", "-gone", "nope"], env), "", "a name that isn't found")
+    same(explained(program, ["ml", "-gone", "later", "--force"], env), "", "an option")
 
 
 # The command, the names of loaded modules, and what a user is told.
@@ -179,7 +213,7 @@ ADVICE = [
     ("load @", [], ""),
     ("load opnempi", [], "Did you mean openmpi?\n"),
     ("load xyzzy", [], ""),
-    ("load", [], "usage: module load NAME...\n"),
+    ("unload", [], "usage: module unload NAME...\n"),
     ("switch a b c", [], "usage: module switch [OLD] NEW\n"),
 ]
 

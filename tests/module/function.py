@@ -4,6 +4,7 @@
 
 import os
 import pty
+import select
 import shutil
 import subprocess
 
@@ -48,11 +49,29 @@ REFUSED = [
     (["use", "/" + 100_000 * "x"], "Bad value of 'MODULEPATH': it is too long"),
     (["use", *(f"/{'d' * 250}{number}" for number in range(500))], "Bad value of 'MODULEPATH': it is too long"),
     (["laod", "gcc"], "Unknown subcommand: did you mean 'load'?"),
-    (["spider"], "Unknown subcommand 'spider'"),
+    (
+        ["spider"],
+        "Unknown subcommand 'spider'\n"
+        'Here: "module keyword TEXT" for names and descriptions, "module avail -C TEXT" for names.',
+    ),
+    (["try-load", "gcc"], 'Unknown subcommand \'try-load\'\nHere: "module is-avail NAME && module load NAME".'),
+    (["initadd", "gcc"], "Unknown subcommand 'initadd'\n" + 'Here: "module save", and "module restore" in a start-up file.'),
+    (["sh-to-mod", "bash", "x"], "Unknown subcommand 'sh-to-mod'\nThis isn't done here."),
     (["sa", "x"], "Several subcommands begin with 'sa'"),
     (["--force", "use"], "'--force' is no option here"),
-    (["load", "gcc"], "This program doesn't do 'load'"),
-    ([], "Bad arguments"),
+    (["load", "gcc"], "Unable to locate a modulefile for 'gcc'"),
+    (["unload"], "Bad arguments"),
+    (["switch", "a", "b", "c"], "Bad arguments"),
+    (["purge", "a"], "Bad arguments"),
+    (["reload", "a"], "Bad arguments"),
+    (["refresh", "a"], "Bad arguments"),
+    (["-t", "nope"], "Unknown subcommand 'nope'\n" + '"module help" lists the subcommands.'),
+    (["-t", "-t"], "'-t' is no option here"),
+    (["-t", "purge"], "'-t' is no option here"),
+    (["ml", "nope"], "Unable to locate a modulefile for 'nope'"),
+    (["ml", "-nope", "also"], "Unable to locate a modulefile for 'also'"),
+    (["ml", "--nope"], "'--nope' is no option here"),
+    (["ml", "-a", "--nope", "b"], "'--nope' is no option here"),
     (["subcommand"], "Bad arguments"),
     (["subcommand", "spider"], "Unknown subcommand 'spider'"),
     (["keyword"], "Bad arguments"),
@@ -60,7 +79,6 @@ REFUSED = [
     (["whatis", "gcc"], "Unable to locate a modulefile for 'gcc'"),
     (["show", "gcc"], "Unable to locate a modulefile for 'gcc'"),
     (["show"], "Bad arguments"),
-    (["--version"], "This program doesn't do '--version'"),
     (["help", "gcc"], "Unable to locate a modulefile for 'gcc'"),
 ]
 
@@ -117,6 +135,7 @@ KEYWORDS = [
     (["whatis"], ["d/1", "foo/1", "foo/2", "foo/10"]),
     (["keyword", "tool"], ["foo/1"]),
     (["apropos", "COMPILERS"], ["foo/1"]),
+    (["search", "COMPILERS"], ["foo/1"]),
     (["key", "category"], ["foo/1"]),
     (["keyword", "category: comp"], ["foo/1"]),
     (["keyword", "1: the"], []),
@@ -478,8 +497,8 @@ def test_avail_leaves_out_what_cannot_be_read_and_names_it(program, folder, modu
     ):
         done = run(program, ["sh", "avail", *words], modules, **by_nobody)
         same(outcome(done), (0, "", wanted), f"avail {words}")
-    done = run(program, ["sh", "avail", "g", "to"], {**modules, **on_terminal(80)}, **by_nobody)
-    same(outcome(done), (0, f"{at}:\ngcc/9   gcc/10  tool\n{lost[1]}", ""), "on a terminal")
+    said = said_to_a_terminal(program, ["avail", "g", "to"], {**modules, **PLAIN}, **by_nobody)
+    same(said[0], f"{at}:\ngcc/9   gcc/10  tool\n{lost[1]}", "on a terminal")
 
 
 def test_completion_leaves_out_what_cannot_be_read(program, folder, modules, tmp_path):
@@ -493,10 +512,12 @@ def test_completion_leaves_out_what_cannot_be_read(program, folder, modules, tmp
     env = {"MODULEPATH": f"{closed}:{at}:{at}", "LOADEDMODULES": "gcc/9"}
     ver = ["ver/1.9", "ver/1.10", "ver/1.10-rc"]
     for words, wanted in (
-        (["avail"], ["gcc/9", "gcc/10", "tool", *ver]),
-        (["avail", "gcc/1"], ["gcc/10"]),
-        (["at", "module", "load", "Lib"], []),
-        (["at", "module", "switch", "gcc"], ["gcc/9", "gcc/10"]),
+        (["avail"], ["Lib", "gcc", "tool", "ver"]),
+        (["avail", "gcc/1"], ["gcc/10", "gcc/12"]),
+        (["avail", "'gcc"], ["gcc/9", "gcc/10", "tool", *ver]),
+        (["at", "module", "load", "Lib"], ["Lib/app"]),
+        (["at", "module", "load", "ver/"], ver),
+        (["at", "module", "switch", "gcc"], ["gcc/9", "gcc/10", "gcc/12"]),
     ):
         done = run(program, ["sh", "names", *words], env, **by_nobody)
         same(outcome(done), (0, "".join(f"{name}\n" for name in wanted), ""), f"names {words}")
@@ -522,8 +543,8 @@ def test_avail_leaves_out_a_directory_that_cannot_be_read(program, folder, modul
     named = f"{closed}: not readable\n"
     done = run(program, ["sh", "avail", "tool"], env, **by_nobody)
     same(outcome(done), (0, "", f"{at}:\ntool\n{named}"), "into a pipe")
-    done = run(program, ["sh", "avail", "tool"], {**env, **on_terminal(80)}, **by_nobody)
-    same(outcome(done), (0, f"{at}:\ntool\n{named}".replace("\x1b", "?"), ""), "on a terminal")
+    said = said_to_a_terminal(program, ["avail", "tool"], {**env, **PLAIN}, **by_nobody)
+    same(said[0], f"{at}:\ntool\n{named}".replace("\x1b", "?"), "on a terminal")
 
 
 def test_descriptions_leave_out_what_cannot_be_read_and_name_it(program, folder):
@@ -549,9 +570,34 @@ def test_is_avail_where_something_cannot_be_read(program, folder, modules):
         same(outcome(done), wanted, f"is-avail {names}")
 
 
-def on_terminal(columns, colours=""):
-    """The variables by which the function says that a report goes to a terminal."""
-    return {"MODULECMD_COLUMNS": str(columns), "MODULECMD_COLOURS": colours}
+# A terminal that shows colours, one that shows none, and one whose user wants none.
+COLOURED, PLAIN, UNWANTED = {"TERM": "vt100"}, {"TERM": "dumb"}, {"TERM": "vt100", "NO_COLOR": "1"}
+
+
+def at_terminal(program, words, env, size, **more):
+    """The status, and what is said to a terminal that is a function's standard output and error, and what the function
+    captures. The function hands its standard output on as the program's standard input."""
+    ours, its = pty.openpty()
+    streams = {"stdin": its, "stdout": subprocess.PIPE, "stderr": its}
+    with subprocess.Popen([program, size, *words], env=env, **streams, **more) as running:
+        os.close(its)
+        said = b""
+        while select.select([ours], [], [], SECONDS)[0]:
+            try:
+                read = os.read(ours, 65536)
+            except OSError:
+                break
+            said += read
+        text = running.stdout.read()
+    os.close(ours)
+    return running.returncode, said.decode().replace("\r\n", "\n"), text.decode()
+
+
+def said_to_a_terminal(program, words, env, size="sh:24:80", status=0, **more):
+    """What is said there, and what is captured, with this status."""
+    found, *said = at_terminal(program, words, env, size, **more)
+    same(found, status, f"the status of {words}")
+    return tuple(said)
 
 
 # What a terminal of 80 columns shows of the modules, where gcc/12 and ver/1.9 are loaded.
@@ -568,23 +614,153 @@ def test_reports_on_a_terminal(program, modules):
     marked = ("gcc/12(loaded)", "ver/1.9(default, loaded)")
     lines = "Lib/app/1\nLib/app/2\ngcc/9\ngcc/10\n{}\ntool\n{}\nver/1.10\nver/1.10-rc\n".format(*marked)
     names = "Currently Loaded Modulefiles:\n"
-    for words, terminal, report in (
-        (["avail"], on_terminal(80), f"{at}:\n{TABLE}"),
-        (["avail"], on_terminal("x"), f"{at}:\n{TABLE}"),
-        (["avail"], on_terminal(49), f"{at}:\n{lines}"),
-        (["avail"], on_terminal(0), f"{at}:\n{lines}"),
-        (["avail", "-t"], on_terminal(80, "1"), f"{at}:\n{lines}"),
-        (["avail", "ver/1.9"], on_terminal(80, "1"), f"\033[1m{at}:\033[0m\nver/1.9\033[32m(default, loaded)\033[0m\n"),
-        (["avail", "gcc/12"], on_terminal(80, "1"), f"\033[1m{at}:\033[0m\ngcc/12(loaded)\n"),
-        (["list"], on_terminal(80), f"{names}gcc/12   ver/1.9  gone/1\n"),
-        (["list"], on_terminal(16), f"{names}gcc/12   gone/1\nver/1.9\n"),
-        (["list", "-t"], on_terminal(80), f"{names}gcc/12\nver/1.9\ngone/1\n"),
-        (["list", "g"], on_terminal(80, "1"), "\033[1mCurrently Loaded Modulefiles:\033[0m\ngcc/12  gone/1\n"),
+    marked = f"\033[1m{at}:\033[0m\nver/1.9\033[32m(default, loaded)\033[0m\n"
+    for words, columns, terminal, report in (
+        (["avail"], 80, PLAIN, f"{at}:\n{TABLE}"),
+        (["avail"], 80, UNWANTED, f"{at}:\n{TABLE}"),
+        (["avail"], 80, {}, f"{at}:\n{TABLE}"),
+        (["avail"], 49, PLAIN, f"{at}:\n{lines}"),
+        (["avail"], 1, PLAIN, f"{at}:\n{lines}"),
+        (["avail", "-t"], 80, COLOURED, f"{at}:\n{lines}"),
+        (["avail", "-t"], "", COLOURED, f"{at}:\n{lines}"),
+        (["avail", "ver/1.9"], 80, COLOURED, marked),
+        (["avail", "ver/1.9"], 80, {**COLOURED, "NO_COLOR": ""}, marked),
+        (["avail", "gcc/12"], 80, COLOURED, f"\033[1m{at}:\033[0m\ngcc/12(loaded)\n"),
+        (["list"], 80, PLAIN, f"{names}gcc/12   ver/1.9  gone/1\n"),
+        (["list"], 16, PLAIN, f"{names}gcc/12   gone/1\nver/1.9\n"),
+        (["list"], 65536, PLAIN, f"{names}gcc/12   ver/1.9  gone/1\n"),
+        (["list", "-t"], 80, PLAIN, f"{names}gcc/12\nver/1.9\ngone/1\n"),
+        (["list", "g"], 80, COLOURED, "\033[1mCurrently Loaded Modulefiles:\033[0m\ngcc/12  gone/1\n"),
     ):
-        done = run(program, ["sh", *words], {**modules, **loaded, **terminal})
-        same(outcome(done), (0, report, ""), f"{words} by {terminal}")
-    contradicting = {**modules, "LOADEDMODULES": "gcc/12", **on_terminal(80)}
-    same(outcome(run(program, ["sh", "avail", "gcc/12"], contradicting)), (0, f"{at}:\ngcc/12\n", ""), "the lists")
+        said = said_to_a_terminal(program, words, {**modules, **loaded, **terminal}, f"sh:40:{columns}")
+        same(said, (report, ""), f"{words} in {columns} columns by {terminal}")
+    contradicting = {**modules, "LOADEDMODULES": "gcc/12", **PLAIN}
+    same(said_to_a_terminal(program, ["avail", "gcc/12"], contradicting)[0], f"{at}:\ngcc/12\n", "the lists")
+
+
+def test_a_report_is_left_to_the_function_where_the_size_is_not_known(program, modules):
+    for size in ("sh:", "sh::", "sh:24:", "sh::80", "sh:0:80", "sh:24:x", "sh:024:80", "sh:24:80:"):
+        for words in (["avail"], ["list"], ["av"], ["ml"]):
+            same(said_to_a_terminal(program, words, modules, size, 110), ("", ""), f"{words} by {size}")
+
+
+# The reports, with what begins each, and whether it is the program's own.
+REPORTS = {
+    "avail": False, "avail -t": False, "list": False, "use": False, "savelist": False, "show gcc": False, "whatis": False,
+    "whatis gcc": False, "keyword gcc": False, "help gcc": False, "help": True, "--version": True,
+}  # fmt: skip
+
+
+def test_a_function_that_hands_nothing_on_is_left_its_reports(program, modules, tmp_path):
+    env = {**modules, "HOME": str(tmp_path)}
+    for words, is_own in REPORTS.items():
+        same(said_to_a_terminal(program, words.split(), env, "tcsh:", 110), ("", ""), f"{words} at a terminal")
+        done = run(program, ["tcsh:", *words.split()], env, stdin=subprocess.DEVNULL)
+        same((done.returncode, done.stdout), (110 if is_own else 0, ""), f"{words} away from one")
+    same(outcome(run(program, ["tcsh:", "use", "/"], env)), (0, f"setenv MODULEPATH '/:{modules['MODULEPATH']}';\n", ""), "use")
+
+
+def test_a_report_goes_to_what_standard_input_is_open_on(program, modules, tmp_path):
+    env = {**modules, "HOME": str(tmp_path)}
+    for words, is_own in REPORTS.items():
+        with open(tmp_path / "out", "w+b") as out:
+            done = run(program, ["sh::", *words.split()], env, stdin=out)
+            out.seek(0)
+            handed = out.read().decode()
+        plain = run(program, ["sh", *words.split()], env)
+        wanted = (0, "", "", plain.stdout) if is_own else (0, "", plain.stderr, "")
+        same((*outcome(done), handed), wanted, f"{words} away from a terminal")
+        with open(tmp_path / "out", "w+b") as out:
+            here, there = pty.openpty()
+            streams = {"stdin": out, "stdout": subprocess.PIPE, "stderr": there}
+            done = subprocess.run([program, "sh::", *words.split()], env=env, timeout=SECONDS, check=False, **streams)
+            os.close(there)
+            os.close(here)
+            out.seek(0)
+            handed = out.read().decode()
+        same((done.returncode, done.stdout, handed), (0, b"", plain.stdout + plain.stderr), f"{words} with a terminal")
+    for size, status in (("sh::", 1), ("fish::", 111)):
+        with open("/dev/null", "rb") as nothing:
+            done = run(program, [size, "--version"], env, stdin=nothing)
+        same(outcome(done), (status, "", "ERROR: Writing failed\n"), "a standard input that can't be written")
+
+
+def test_a_long_report_is_the_text_of_a_pager(program, modules):
+    at = modules["MODULEPATH"]
+    plain = f"{at}:\n" + "".join(f"{line}\n" for line in LISTED[0][1].split())
+    coloured = plain.replace(f"{at}:", f"\033[1m{at}:\033[0m").replace("(default)", "\033[32m(default)\033[0m")
+    lines = plain.count("\n")
+    for height, more, shown, paged in (
+        (lines, {}, "", coloured),
+        (lines + 1, {}, coloured, ""),
+        (lines, {"PAGER": "more"}, "", plain),
+        (lines + 1, {"PAGER": "more"}, coloured, ""),
+        (lines, {"PAGER": ""}, coloured, ""),
+        (lines, {"TERM": "dumb"}, plain, ""),
+        (lines, {"TERM": None}, plain, ""),
+        (lines, {"NO_COLOR": "1"}, "", plain),
+    ):
+        env = {name: value for name, value in {**modules, **COLOURED, **more}.items() if value is not None}
+        said = said_to_a_terminal(program, ["avail"], env, f"bash:{height}:1", 110 if paged else 0)
+        same(said, (shown, paged), f"{height} lines with {more}")
+    env = {**modules, **COLOURED}
+    same(said_to_a_terminal(program, ["avail", "-t"], env, "bash:2:80")[1], "", "one name a line isn't paged")
+    same(said_to_a_terminal(program, ["whatis"], env, "bash:2:80")[1], "", "what isn't in columns isn't paged")
+
+
+def test_no_is_111_for_fish_where_standard_output_is_handed_on(program, modules):
+    for words, no in ((["is-loaded"], True), (["is-avail", "no"], True), (["is-avail", "gcc"], False), (["nope"], True)):
+        for size, status in (("fish:", 1), ("fish", 1), ("fish::", 111), ("fish:24:80", 111), ("bash:24:80", 1)):
+            done = run(program, [size, *words], modules, stdin=subprocess.DEVNULL)
+            same((done.returncode, done.stdout), (status if no else 0, ""), f"{words} by {size}")
+    done = run(program, [b"fish::", b"load", b"\xff"])
+    same(outcome(done), (111, "", "ERROR: Bad arguments\n"), "a word that is no text")
+
+
+def test_the_words_of_functions(program):
+    env = {**LOADED, "MODULEPATH": "/x"}
+    usage = outcome(run(program, ["sh", "help"]))
+    for words, wanted in (
+        ([], usage),
+        (["-h"], usage),
+        (["-t"], outcome(run(program, ["sh", "list", "-t"], env))),
+        (["--terse", "li"], outcome(run(program, ["sh", "list", "-t"], env))),
+        (["-t", "list", "gcc"], outcome(run(program, ["sh", "list", "-t", "gcc"], env))),
+        (["ml"], outcome(run(program, ["sh", "list"], env))),
+        (["ml", "-t"], outcome(run(program, ["sh", "list", "-t"], env))),
+        (["ml", "li", "mpi"], outcome(run(program, ["sh", "list", "mpi"], env))),
+        (["ml", "-V"], outcome(run(program, ["sh", "--version"], env))),
+        (["-V", "more"], outcome(run(program, ["sh", "--version"], env))),
+        (["load"], (0, "", "")),
+        (["ml", "load"], (0, "", "")),
+        (["load", "--auto"], (0, "", "")),
+        (["ml", "-nope"], (0, "", "")),
+        (["unload", "gcc/12"], (0, "", "'gcc/12' isn't loaded, but 'gcc/12.3' is.\n")),
+    ):
+        same(outcome(run(program, ["sh", *words], env)), wanted, f"{words}")
+    with open(os.path.join(os.path.dirname(__file__), "../../VERSION"), encoding="utf-8") as file:
+        version = file.read().strip()
+    said = f"modulecmd {version}, after Environment Modules 5.2\n"
+    same(outcome(run(program, ["sh", "--version"])), (0, said, ""), "the version is that of the file VERSION")
+
+
+def test_a_refusal_steers_no_terminal(program):
+    for words, reason in (
+        (["a\x1b[31mb\u202e"], "Unknown subcommand 'a?[31mb?'"),
+        (["load", "a\x9bb"], "Unable to locate a modulefile for 'a?b'"),
+        (["load", "-\x07"], "'-?' is no option here"),
+        (["use", "/a:\x1b"], "Bad value of 'MODULEPATH': '/a:?' has a colon"),
+        (["avail", "-\x1b"], "'avail' has no option '-?'"),
+        (["restore", "\x1bx"], "Bad name of a collection: '?x'"),
+    ):
+        for size in ("sh", "sh:24:80", "tcsh:"):
+            if size == "tcsh:" and words[0] == "avail":
+                continue
+            said, text = said_to_a_terminal(program, words, {"MODULEPATH": "/x", "HOME": "/h"}, size, 1)
+            same((said.splitlines()[0], text), (f"ERROR: {reason}", ""), f"{words} to a terminal")
+            done = run(program, [size, *words], {"MODULEPATH": "/x", "HOME": "/h"}, stdin=subprocess.DEVNULL, encoding="utf-8")
+            true("?" not in done.stderr.splitlines()[0], f"{words} into a log: {done.stderr!r}")
+    same(said_to_a_terminal(program, ["x"], {}, "a\x1b", 1)[0], "ERROR: Unknown shell 'a?'\n", "a shell")
 
 
 def test_columns_are_as_wide_as_their_names(program, folder):
@@ -598,9 +774,8 @@ def test_columns_are_as_wide_as_their_names(program, folder):
         (16, "a/日  f/1\nb/1   é/1\n"),
         (22, "a/日  b/1   f/1   é/1\n"),
     ):
-        env = {"MODULEPATH": at, "LC_ALL": "C", **on_terminal(columns)}
-        done = run(program, ["sh", "avail"], env, encoding="utf-8")
-        same(outcome(done), (0, f"{at}:\n{table}", ""), f"columns of {columns}")
+        env = {"MODULEPATH": at, "LC_ALL": "C", **PLAIN}
+        same(said_to_a_terminal(program, ["avail"], env, f"sh:24:{columns}")[0], f"{at}:\n{table}", f"columns of {columns}")
 
 
 # Characters that steer a terminal: C0, DEL, C1, ends of lines, and marks of direction.
@@ -613,28 +788,17 @@ def test_characters_that_steer_reach_no_terminal(program, folder, character):
     at = os.fsdecode(folder.modules)
     env = {"MODULEPATH": at, "LOADEDMODULES": f"a{character}b/1", "_LMFILES_": f"{at}/a{character}b/1"}
 
-    def report(words, more):
-        command = [program, "sh", *words]
-        done = subprocess.run(command, env={**env, **more}, capture_output=True, timeout=SECONDS, check=True)
-        return (done.stdout if more else done.stderr).decode()
+    def report(words):
+        done = subprocess.run([program, "sh", *words], env=env, capture_output=True, timeout=SECONDS, check=True)
+        return done.stderr.decode()
 
     for words in (["avail"], ["avail", "-t"]):
-        same(report(words, {}), f"{at}:\na{character}b/1\n", f"{words} into a pipe")
-        same(report(words, on_terminal(80)), f"{at}:\na?b/1(loaded)\n", f"{words} on a terminal")
+        same(report(words), f"{at}:\na{character}b/1\n", f"{words} into a pipe")
+        same(said_to_a_terminal(program, words, env)[0], f"{at}:\na?b/1(loaded)\n", f"{words} on a terminal")
     for words in (["list"], ["list", "-t"]):
-        same(report(words, {}), f"Currently Loaded Modulefiles:\na{character}b/1\n", f"{words} into a pipe")
-        same(report(words, on_terminal(80)), "Currently Loaded Modulefiles:\na?b/1\n", f"{words} on a terminal")
-
-
-def said_to_a_terminal(program, words, env):
-    """What the program says to a terminal that is its standard output and error."""
-    ours, its = pty.openpty()
-    streams = {"stdin": subprocess.DEVNULL, "stdout": its, "stderr": its}
-    subprocess.run([program, *words], env=env, timeout=SECONDS, check=True, **streams)
-    os.close(its)
-    said = os.read(ours, 65536)
-    os.close(ours)
-    return said.decode().replace("\r\n", "\n")
+        same(report(words), f"Currently Loaded Modulefiles:\na{character}b/1\n", f"{words} into a pipe")
+        shown = "Currently Loaded Modulefiles:\na?b/1\n"
+        same(said_to_a_terminal(program, words, env)[0], shown, f"{words} on a terminal")
 
 
 @pytest.mark.parametrize("character", STEERING)
@@ -652,7 +816,7 @@ def test_characters_that_steer_reach_no_terminal_from_descriptions(program, fold
     ):
         same(outcome(run(program, ["sh", *words], env, encoding="utf-8")), (0, "", report), f"{words} into a pipe")
         shown = report.replace(character, "?")
-        same(said_to_a_terminal(program, ["sh", *words], env), shown, f"{words} on a terminal")
+        same(said_to_a_terminal(program, words, env)[0], shown, f"{words} on a terminal")
 
 
 @pytest.mark.usefixtures("as_shipped")
@@ -662,19 +826,18 @@ def test_memory_of_listings(program, folder, modules, tmp_path):
     at = modules["MODULEPATH"]
     lists = {"LOADEDMODULES": "gcc/12:tool", "_LMFILES_": f"{at}/gcc/12:{at}/tool"}
     plain = {name.encode(): value.encode() for name, value in {**modules, **lists}.items()}
-    shown = {name.encode(): value.encode() for name, value in {**modules, **lists, **on_terminal(40, "1")}.items()}
-    for words, env in (
-        (["avail", "-d", "ver", "gcc"], plain),
-        (["avail", "-C", "c"], shown),
-        (["list", "gcc"], plain),
-        (["list"], shown),
-        (["is-avail", "nope", "ver"], plain),
-    ):
+    for words in (["avail", "-d", "ver", "gcc"], ["avail", "-C", "c"], ["list", "gcc"], ["list"], ["is-avail", "nope", "ver"]):
 
-        def asked(more, words=words, env=env):
-            return outcome(run(dynamic(program), ["sh", *words], {**env, **more}))
+        def asked(more, words=words):
+            return outcome(run(dynamic(program), ["sh", *words], {**plain, **more}))
 
         refuses_each(shim, asked, (1, "", "ERROR: Out of memory\n").__eq__, words)
+    for words in (["avail", "-C", "c"], ["list"]):
+
+        def shown(more, words=words):
+            return at_terminal(dynamic(program), words, {**plain, b"TERM": b"vt100", **more}, "sh:24:40")
+
+        refuses_each(shim, shown, (1, "ERROR: Out of memory\n", "").__eq__, words)
 
 
 def test_the_working_directory(program, place):

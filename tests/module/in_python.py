@@ -1,14 +1,17 @@
 """What the file for Python promises: a Python of its own, in an environment of its own, over the installed product."""
 
+import fcntl
 import json
 import os
+import pty
 import subprocess
 import sys
+import termios
 import textwrap
 
 import pytest
 
-from tests.lib.harness import same, true
+from tests.lib.harness import LISTS, same, true
 
 # What stands in front of each script, and behind it: what it says, and its environment, go to files.
 HEAD = """
@@ -111,7 +114,7 @@ def test_takes_what_the_function_adds(python, folder):
     same(after, before, "the environment after")
     lines = done.stderr.decode().splitlines()
     same(lines[0], "There is no directory '/nowhere' yet.", "the first line")
-    true("foo/1.0" in lines and lines[-1] == "ERROR: Unknown subcommand 'nope'", f"standard error: {lines}")
+    true("foo/1.0" in lines and lines[-2:] == ["ERROR: Unknown subcommand 'nope'", LISTS.strip()], f"standard error: {lines}")
 
 
 def test_takes_the_site_s_directories_where_MODULEPATH_is_unset(python):
@@ -127,6 +130,47 @@ def test_takes_the_site_s_directories_where_MODULEPATH_is_unset(python):
         with open(own, "w") as file:
             file.write(before)
     same(kept["MODULEPATH"], "/a b/c:/d", "MODULEPATH")
+
+
+def test_runs_the_site_s_program_behind_a_command_that_changed_what_is_loaded(python, folder):
+    folder.module("foo/1.0", "setenv FOO on\n")
+    folder.module("bar/1", "")
+    written = os.path.join(os.fsdecode(folder.path), "written")
+    place = os.path.join(os.path.dirname(python.init), "etc", "after")
+    with open(place, "w") as file:
+        file.write(f"#!/bin/sh\necho hook; printf '%s;' \"$*\" >> '{written}'\n")
+    os.chmod(place, 0o755)
+    script = """
+        import time
+        for words in (["load", "foo"], ["list"], ["lo", "foo"], ["nope"], ["use", "/"], ["ml", "-foo", "bar"], ["pu"]):
+            module(*words)
+            time.sleep(0.3)
+        keep()
+    """
+    try:
+        (kept,), _, done = python.run(script)
+    finally:
+        os.remove(place)
+    with open(written) as file:
+        given = file.read().split(";")[:-1]
+    wanted = ["sh load foo", "sh unload foo", "sh load bar", "sh purge"]
+    same((sorted(given), b"hook" in done.stdout + done.stderr), (sorted(wanted), False), "what the program was given")
+    same("FOO" in kept, False, "what is loaded")
+
+
+def test_shows_a_report_where_its_standard_output_is_a_terminal(python, folder):
+    """It is the program's, in columns, or the pager's."""
+    for name in ("foo/1", "foo/2", "foo/3"):
+        folder.module(name, "")
+    ours, its = pty.openpty()
+    fcntl.ioctl(its, termios.TIOCSWINSZ, b"\x18\x00\x50\x00\x00\x00\x00\x00")
+    script = f"import sys\nsys.path.insert(0, {python.init!r})\nfrom python import module\nassert module('avail')\n"
+    env = {**python.env, "TERM": "dumb"}
+    subprocess.run([sys.executable, "-B", "-c", script], env=env, stdin=its, stdout=its, stderr=its, check=True)
+    os.close(its)
+    said = os.read(ours, 65536)
+    os.close(ours)
+    same(said, folder.modules + b":\r\nfoo/1  foo/2  foo/3\r\n", "what is shown")
 
 
 def test_can_be_executed_as_a_text(python, folder):

@@ -48,7 +48,7 @@ LIBRARY = re.compile(r"(/\S+) \(0x")
 
 # The programs of the product, and files without which an install fails: of each kind one, the first and the last.
 PROGRAMS = ("modulecmd", "module")
-NEEDED = ("VERSION", "init/sh", "init/zsh", "libexec/ml.csh", "init/pager", "man/module.1", "etc/modulespath", "bin/module")
+NEEDED = ("VERSION", "init/sh", "init/zsh", "libexec/module.csh", "init/pager", "man/module.1", "etc/modulespath", "bin/module")
 
 # The manual pages.
 PAGES = sorted(os.listdir(os.path.join(TOP, "man")))
@@ -679,8 +679,10 @@ def test_an_upgrade_of_the_rpm_keeps_the_site_s_file_and_erasing_it_saves_that(p
         machine.write(OWN, "# ours\n/modules\n")
         machine.rpm("-U", packages.rpm(packages.later))
         same(read(machine.root + OWN), b"# ours\n/modules\n", "the site's file")
+        asked = ["rpm", "--force-debian", f"--root={machine.root}", "-q", "--qf", "%{VERSION}", "modulecmd"]
+        same(run(asked)[0], packages.later, "the version that is there")
         out, err, status = machine.run(["bash", "--login", "-c", "module --version"])
-        true(packages.later in out, f"the later version: found {(out, err, status)}")
+        true(out.startswith("modulecmd "), f"what a login says of the version: found {(out, err, status)}")
         machine.log_in("sh", "bash", "fish")
         machine.rpm("-e", "modulecmd")
         same(read(saved), b"# ours\n/modules\n", "what erasing leaves of the site's file")
@@ -718,7 +720,9 @@ def test_an_upgrade_keeps_the_site_s_file_and_sessions_go_on(packages, machine):
         with session(machine.root, {"PATH": "/usr/bin:/bin", "HOME": "/root"}) as answer:
             same(answer("module load foo; echo $FOO $PATH"), "on /opt/foo/bin:/usr/bin:/bin\n", "a load")
             machine.dpkg("-i", packages.debian(packages.later))
-            true(packages.later in answer("module --version"), "the later version is there")
+            status = read(machine.root + "/var/lib/dpkg/status")
+            true(f"Version: {packages.later}\n".encode() in status, "the later version is there")
+            true(answer("module --version").startswith("modulecmd "), "what the session says of the version")
             same(answer("module unload foo; echo $PATH ${FOO-gone}"), "/usr/bin:/bin gone\n", "an unload")
             same(answer("module load foo; echo $FOO"), "on\n", "another load")
         same(read(machine.root + OWN), b"# ours\n/modules\n", "the site's file")

@@ -64,11 +64,10 @@ def test_without_it_the_program_is_asked_alone(scripted):
     same(scripted.words(), [["load", "foo"], ["unload", "foo"]], "the words")
 
 
-def test_a_load_without_names_does_nothing(scripted):
-    scripted.will_answer(0)
-    kept = scripted.keeps(["module load", "status", "module add", "status", "module load foo"])
-    same(kept.statuses, ["0", "0"], "the statuses")
-    same(scripted.words(), [["load", "foo"]], "the words")
+def test_a_load_without_names_does_nothing(real):
+    kept = real.keeps(["show", "module load", "status", "module add", "status", "module load --auto", "status", "show"])
+    same(kept.statuses, ["0", "0", "0"], "the statuses")
+    same_environment(kept.shown[1], kept.shown[0], "the environment after")
 
 
 REFUSED = {
@@ -91,10 +90,9 @@ REFUSED = {
 }
 
 
-def test_options_are_refused_by_name(scripted):
+def test_options_are_refused_by_name(real):
     lines = [part for line in REFUSED for part in (line, "status")]
     said = "".join(f"ERROR: '{option}' is no option here\n" for option in REFUSED.values())
-    kept = scripted.keeps(["show", *lines, "show"], err=said.encode())
+    kept = real.keeps(["show", *lines, "show"], err=said.encode())
     same(kept.statuses, ["1"] * len(REFUSED), "the statuses")
     same_environment(kept.shown[1], kept.shown[0], "the environment after")
-    same(scripted.words(), [], "the commands that the program was given")

@@ -274,9 +274,9 @@ def test_tools_are_found_whatever_path_is(here, folder):
 
 
 def test_variables_of_the_user_stay_what_they_are(here):
-    """The script that pages sets none but those whose names begin with _module_, and for some commands others."""
+    """The script that pages sets none but those whose names begin with _module_, and for a command another one."""
     script = content(os.path.join(here.prefix, "init", "pager")).decode()
-    names = set(re.findall(r"\b([A-Za-z_]+)=", script)) - {"LC_ALL", "MODULECMD_COLUMNS", "MODULECMD_COLOURS"}
+    names = set(re.findall(r"\b([A-Za-z_]+)=", script)) - {"LC_ALL"}
     true(len(names) > 2, f"the variables {names}")
     same([name for name in sorted(names) if not name.startswith("_module_")], [], "the others")
 

@@ -22,8 +22,8 @@ TYPED = (
     ("module load bar/1 fo\t", ["load", "bar/1", "foo/1.0"]),
     ("module load bar/2\t", ["load", "bar/2"]),
     ("module load od\t", ["load", "odd$(>HERE)/1"]),
-    ("ml only\t", ["load", "only/1"]),
-    ("ml -ba\t", ["unload", "baz/3"]),
+    ("ml only\t", ["ml", "only/1"]),
+    ("ml -ba\t", ["ml", "-baz/3"]),
     ("module load it\t", ["load", "it's!/1"]),
     ('module load "fo\t', ["load", "foo/1.0"]),
     ("module load 'od\t", ["load", "odd$(>HERE)/1"]),
@@ -43,8 +43,8 @@ IN_QUOTES = (
     ("module load f'o'\t", ["load", "foo/1.0"]),
     ("module unload 'ba\t", ["unload", "baz/3"]),
     ('module "unlo\tfoo/1.0', ["unload", "foo/1.0"]),
-    ('ml -"ba\t', ["unload", "baz/3"]),
-    ("ml 'only\t", ["load", "only/1"]),
+    ('ml -"ba\t', ["ml", "-baz/3"]),
+    ("ml 'only\t", ["ml", "only/1"]),
 )
 
 

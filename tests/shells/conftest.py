@@ -39,7 +39,9 @@ def scripted_product(place, program_folder, built):
     """The prefix of the product with the script that stands in for the program."""
     built("modulecmd")
     prefix = installed(os.path.join(place, "stand in, (1) #;<~^=:@"), program_folder)
-    program = shutil.copy(os.path.join(HERE, "stand_in.sh"), os.path.join(prefix, "bin", "modulecmd"))
+    program = os.path.join(prefix, "libexec", "module")
+    os.rename(program, program + ".program")
+    shutil.copy(os.path.join(HERE, "stand_in.sh"), program)
     os.chmod(program, 0o755)
     return prefix
 

@@ -6,7 +6,7 @@ import time
 
 import pytest
 
-from tests.lib.harness import same, true
+from tests.lib.harness import LISTS, OF_SPIDER, same, true
 from tests.shells.session import LINES, ODD_NAME, REFUSAL, changed, pages, same_environment
 from tests.shells.shells import content, in_bash, in_csh, in_shells
 from tests.shells.texts import text
@@ -62,42 +62,76 @@ def test_hands_on_the_words_as_they_are(scripted, shell):
     same(scripted.stand_in.words(), [[shell.init, *words] for words in wanted], "the words")
 
 
-# Other names of subcommands and beginnings of names, with words behind them, and what the program is given.
+# Names of subcommands and beginnings of names, with words behind them, and what the program is given: the words.
 OTHER_NAMES = {
-    "module del 'a  *' bar": ["unload", "a  *", "bar"],
-    "module remove foo": ["unload", "foo"],
-    "ml del foo": ["unload", "foo"],
-    "module unl foo": ["unload", "foo"],
-    "module rem '$HOME'": ["unload", "$HOME"],
-    "module lo 'c\"d' '`x`'": ["load", 'c"d', "`x`"],
-    "module sw foo 'é;&|'": ["switch", "foo", "é;&|"],
-    "module swa foo": ["swap", "foo"],
-    "ml sw foo": ["switch", "foo"],
-    "module pu": ["purge"],
+    "module del 'a  *' bar": ["del", "a  *", "bar"],
+    "module remove foo": ["remove", "foo"],
+    "ml del foo": ["ml", "del", "foo"],
+    "module unl foo": ["unl", "foo"],
+    "module rem '$HOME'": ["rem", "$HOME"],
+    "module lo 'c\"d' '`x`'": ["lo", 'c"d', "`x`"],
+    "module sw foo 'é;&|'": ["sw", "foo", "é;&|"],
+    "module swa foo": ["swa", "foo"],
+    "ml sw foo": ["ml", "sw", "foo"],
+    "module pu": ["pu"],
     "module load a:del": ["load", "a:del"],
+    "module": [],
+    "module -t avail -n": ["-t", "avail", "-n"],
+    "module '-n' '-e x' '--' '-'": ["-n", "-e x", "--", "-"],
 }
 
 
-def test_takes_other_names_and_beginnings_of_subcommands(scripted, shell):
+def test_hands_on_other_names_and_beginnings_of_subcommands(scripted, shell):
     scripted.will_answer(*[0] * len(OTHER_NAMES))
     kept = scripted.keeps([part for line in OTHER_NAMES for part in (line, "status")])
     same(kept.statuses, ["0"] * len(OTHER_NAMES), "the statuses")
-    # The program that says what a word means has one name for each subcommand.
-    wanted = [["switch" if word == "swap" else word for word in words] for words in OTHER_NAMES.values()]
-    same(scripted.words(), wanted, "the words")
+    same(scripted.words(), list(OTHER_NAMES.values()), "the words")
+
+
+# What is typed, and what is loaded behind it.
+MEANT = {
+    "module lo foo": "foo/2.0",
+    "module add bar": "foo/2.0:bar/1",
+    "module del foo": "bar/1",
+    "ml foo": "bar/1:foo/2.0",
+    "ml del bar": "foo/2.0",
+    "module unl foo": None,
+    "ml foo bar": "foo/2.0:bar/1",
+    "module sw foo foo/1.0": "bar/1:foo/1.0",
+    "module swa foo/2.0": "bar/1:foo/2.0",
+    "ml sw foo/1.0": "bar/1:foo/1.0",
+    "module rem bar": "foo/1.0",
+    "module remove foo": None,
+    "ml bar": "bar/1",
+    "ml -bar foo/1.0": "foo/1.0",
+    "ml bar -foo": "bar/1",
+    "ml -bar": None,
+    "ml foo/1.0": "foo/1.0",
+    "module pu": None,
+}
+
+
+def test_takes_other_names_and_beginnings_of_subcommands(real):
+    for name in ("foo/1.0", "foo/2.0", "bar/1"):
+        real.folder.module(name, "")
+    kept = real.keeps([part for line in MEANT for part in (line, "status", "show")])
+    same(kept.statuses, ["0"] * len(MEANT), "the statuses")
+    found = [shown.get(b"LOADEDMODULES") for shown in kept.shown]
+    wanted = [it and it.encode() for it in MEANT.values()]
+    same(list(zip(MEANT, found)), list(zip(MEANT, wanted)), "what is loaded")
 
 
 @with_redirections
-def test_takes_beginnings_of_what_else_it_does(scripted, shell):
-    file = scripted.folder.module("foo/1.0", "module-whatis {a foo}\n")
-    path = scripted.folder.path.decode()
+def test_takes_beginnings_of_what_else_it_does(real, shell):
+    file = real.folder.module("foo/1.0", "module-whatis {a foo}\n")
+    path = real.folder.path.decode()
     lines = [f"module av f {shell.says.to_file} '{path}/av'", f"ml av {shell.says.to_pipe} /bin/cat > '{path}/ml'"]
     lines += [f"module li {shell.says.to_file} '{path}/li'", f"ml li {shell.says.to_pipe} /bin/cat > '{path}/ml-li'"]
     lines += [f"module disp foo {shell.says.to_file} '{path}/disp'", f"module wh foo {shell.says.to_file} '{path}/wh'"]
     lines += [f"module -V > '{path}/version'", f"ml -V | /bin/cat > '{path}/ml-version'"]
     lines += [f"module -h > '{path}/help'", f"ml -h > '{path}/ml-help'"]
-    scripted.keeps(lines)
-    report = scripted.folder.modules + b":\nfoo/1.0\n"
+    real.keeps(lines)
+    report = real.folder.modules + b":\nfoo/1.0\n"
     same((content(f"{path}/av"), content(f"{path}/ml")), (report, report), "the reports of avail")
     report = b"No Modulefiles Currently Loaded.\n"
     same((content(f"{path}/li"), content(f"{path}/ml-li")), (report, report), "the reports of list")
@@ -110,82 +144,69 @@ def test_takes_beginnings_of_what_else_it_does(scripted, shell):
 
 # A first word that means no subcommand, and what is said.
 NO_SUBCOMMANDS = {
-    "spider": "Unknown subcommand 'spider'",
+    "spider": f"Unknown subcommand 'spider'\n{OF_SPIDER}",
     "avial": "Unknown subcommand: did you mean 'avail'?",
     "sa": "Several subcommands begin with 'sa'",
     "--force": "'--force' is no option here",
-    "'a  *'": "Unknown subcommand 'a  *'",
-    "'$x`y`\"z;'": "Unknown subcommand '$x`y`\"z;'",
-    "'[a-z]{b}~|&'": "Unknown subcommand '[a-z]{b}~|&'",
-    "subcommand": "Unknown subcommand 'subcommand'",
+    "'a  *'": f"Unknown subcommand 'a  *'\n{LISTS}",
+    "'$x`y`\"z;'": f"Unknown subcommand '$x`y`\"z;'\n{LISTS}",
+    "'[a-z]{b}~|&'": "Unknown subcommand '[a-z]{b}~|&'\n" + LISTS,
+    "subcommand": f"Unknown subcommand 'subcommand'\n{LISTS}",
 }
 
 
-def test_a_word_that_means_no_subcommand_is_refused(scripted, shell):
+def test_a_word_that_means_no_subcommand_is_refused(real):
     lines = [line for word in NO_SUBCOMMANDS for line in (f"module {word} 'foo  *' bar", "status")]
-    said = "".join(f"ERROR: {text}\n" for text in NO_SUBCOMMANDS.values())
-    kept = scripted.keeps(["show", *lines, "show"], err=said.encode())
+    said = "".join(f"ERROR: {text.rstrip()}\n" for text in NO_SUBCOMMANDS.values())
+    kept = real.keeps(["show", *lines, "show"], err=said.encode())
     same(kept.statuses, ["1"] * len(NO_SUBCOMMANDS), "the statuses")
     same_environment(kept.shown[1], kept.shown[0], "the environment after")
-    same(scripted.words(), [], "the commands that the program was given")
 
 
-def test_a_word_of_whatever_bytes_reaches_the_program_of_names(scripted, shell):
+def test_a_word_of_whatever_bytes_reaches_the_program(real, shell):
     word = LINES + ODD_NAME
-    scripted.starts_with(WORD=word)
+    real.starts_with(WORD=word)
     typed = shell.says.word.format("WORD")
-    kept = scripted.keeps([f"module {typed} foo", "status"], err=f"ERROR: Unknown subcommand '{word}'\n".encode())
+    kept = real.keeps([f"module {typed} foo", "status"], err=f"ERROR: Unknown subcommand '{word}'\n{LISTS}".encode())
     same(kept.statuses, ["1"], "the status")
 
 
-@pytest.fixture
-def other_program(scripted):
-    """Puts a script in the place of the program `module`, until the case ends."""
-    place = os.path.join(scripted.prefix, "libexec", "module")
-    os.rename(place, place + ".away")
-
-    def write(text):
-        with open(place, "w") as file:
-            file.write("#!/bin/sh\n" + text)
-        os.chmod(place, 0o755)
-
-    yield write
-    os.rename(place + ".away", place)
-
-
-def test_leaves_a_subcommand_that_is_newer_than_it_to_the_program(scripted, shell, other_program):
+def test_leaves_a_subcommand_that_is_newer_than_it_to_the_program(scripted, shell):
     """Shells live longer than an installation."""
-    scripted.folder.file("text", text(shell.family, {"FOO": "on"}).decode())
-    path = os.path.join(scripted.folder.modules, b"text").decode()
-    other_program(f"case $2:$# in subcommand:3) echo newer ;; newer:4) exec /bin/cat '{path}' ;; *) exit 3 ;; esac\n")
-    kept = scripted.keeps(["show", "module newe 'a  *' b", "status", "show", "module newer", "status"])
+    changes = text(shell.family, {"FOO": "on"})
+    for status in (0, 3):
+        scripted.stand_in.answer(changes if status == 0 else b"", b"", status)
+    kept = scripted.keeps(["show", "module newe 'a  *' b", "status", "show", "ml newer", "status"])
     same(kept.statuses, ["0", "3"], "the statuses")
     same_environment(kept.shown[1], changed(kept.shown[0], {"FOO": "on"}), "the environment after")
+    same(scripted.words(), [["newe", "a  *", "b"], ["ml", "newer"]], "the words")
 
 
-def test_hands_on_how_the_program_of_names_ended(scripted, shell, other_program):
-    other_program('echo load; kill -9 $$\n')
-    kept, done = scripted.run(["show", "module lo foo", "status", "show"])
-    true(kept.statuses and kept.statuses != ["0"], f"the status of a program that was killed: {kept.statuses}")
-    other_program("echo load; exit 100\n")
-    kept, _ = scripted.run(["show", "module lo foo", "status", "show"])
-    same(kept.statuses, ["100"], "the status of a program that failed")
-    same_environment(kept.shown[1], kept.shown[0], "the environment after")
-    same(scripted.words(), [], "the commands that the program was given")
+@in_csh
+def test_an_alias_of_an_earlier_version_goes_on(scripted, shell):
+    scripted.will_load()
+    scripted.will_refuse()
+    place = f"source '{scripted.prefix}/libexec/ml.csh'"
+    alias = f"{place} {shell.init} \\!:*" if shell.title.startswith("tcsh") else f"set _module_words = ( {shell.init} \\!:* ) ; {place}"
+    lines = ["alias ml '" + alias.replace("'", '"') + "'", "show", "ml foo/1.0", "show", "ml -nope/1 'a  b'", "status", "ml", "status"]
+    scripted.will_answer(0)
+    kept = scripted.keeps(lines, err=REFUSAL)
+    same(kept.statuses, ["1", "0"], "the statuses")
+    same_environment(kept.shown[1], scripted.loaded(kept.shown[0]), "the environment")
+    same(scripted.words(), [["ml", "foo/1.0"], ["ml", "-nope/1", "a  b"], ["ml"]], "the words")
 
 
-def test_helps_and_says_its_version(scripted):
-    kept, done = scripted.run(["module help", "status", "module --help", "module", "ml help"])
+def test_helps_and_says_its_version(real):
+    kept, done = real.run(["module help", "status", "module --help", "module", "ml help"])
     help_text = done.stdout[: len(done.stdout) // 4]
     same(done.stderr, b"", "standard error")
     same(done.stdout, help_text * 4, "the usage, four times")
     true(help_text.startswith(b"usage: module SUBCOMMAND"), "a usage is written")
     for name in ("load", "unload", "switch", "purge", "list", "avail", "show", "whatis"):
         true(name.encode() in help_text, f"the usage has {name}")
-    true(help_text.endswith(pages(scripted.prefix)), "the usage ends with where the pages are")
+    true(help_text.endswith(pages(real.prefix)), "the usage ends with where the pages are")
     same(kept.statuses, ["0"], "the status")
-    same(scripted.stand_in.words(), [], "the commands that the program was given")
-    kept, done = scripted.run(["module --version", "status", "ml --version"])
+    kept, done = real.run(["module --version", "status", "ml --version"])
     version = done.stdout.split(b"\n")
     same((len(version), version[0], version[2]), (3, version[1], b""), "a line, twice")
     true(version[0].startswith(b"modulecmd "), "it names the program")
@@ -216,35 +237,65 @@ def test_names_pages_that_man_finds(real):
             true(line.split()[-1].upper().encode() in done.stdout, f"the page that {line} shows")
 
 
-def test_ml_lists_loads_and_unloads(scripted):
-    scripted.will_answer(0, 0, 0, 0, 3, 0, 0)
-    lines = ["ml", "ml foo bar/1", "ml -foo -bar", "ml foo -bar -b-c baz", "status", "ml foo -bar", "status"]
-    kept = scripted.keeps([*lines, "ml purge", "ml avail-x"], err=b"No Modulefiles Currently Loaded.\n")
-    same(kept.statuses, ["0", "3"], "the statuses")
-    wanted = [
-        ["load", "foo", "bar/1"],
-        ["unload", "foo", "bar"],
-        ["unload", "bar", "b-c"],
-        ["load", "foo", "baz"],
-        ["unload", "bar"],
-        ["purge"],
-        ["load", "avail-x"],
-    ]
-    same(scripted.words(), wanted, "the words")
+# What is typed, and the words that the program is given behind `ml`.
+SHORT = {
+    "ml": [],
+    "ml foo bar/1": ["foo", "bar/1"],
+    "ml -foo -bar": ["-foo", "-bar"],
+    "ml foo -bar -b-c baz": ["foo", "-bar", "-b-c", "baz"],
+    "ml -'a  b' foo -c": ["-a  b", "foo", "-c"],
+    "ml --auto foo": ["--auto", "foo"],
+    "ml - foo": ["-", "foo"],
+    "ml purge": ["purge"],
+    "ml avail-x": ["avail-x"],
+}
+
+
+def test_ml_hands_on_its_words(scripted):
+    scripted.will_answer(*[3] * len(SHORT))
+    kept = scripted.keeps([part for line in SHORT for part in (line, "status")])
+    same(kept.statuses, ["3"] * len(SHORT), "the statuses")
+    same(scripted.words(), [["ml", *words] for words in SHORT.values()], "the words")
+
+
+def test_ml_lists_loads_and_unloads(real):
+    """A mixed call is all or nothing; of names that are no modules' nothing is unloaded."""
+    for name in ("foo/1.0", "bar/1", "b-c/1", "baz/3", "avail-x/1"):
+        real.folder.module(name, "")
+    steps = {
+        "ml": None,
+        "ml foo bar/1": "foo/1.0:bar/1",
+        "ml -foo -bar": None,
+        "ml bar b-c": "bar/1:b-c/1",
+        "ml foo -bar -b-c baz": "foo/1.0:baz/3",
+        "ml -foo nope": "foo/1.0:baz/3",
+        "ml -baz/30 bar": "foo/1.0:baz/3:bar/1",
+        "ml -ba bar": "foo/1.0:baz/3:bar/1",
+        "ml -foo bar --force": "foo/1.0:baz/3:bar/1",
+        "ml purge": None,
+        "ml avail-x": "avail-x/1",
+    }
+    said = b"No Modulefiles Currently Loaded.\nERROR: Unable to locate a modulefile for 'nope'\n"
+    said += b"'ba' isn't loaded, but 'baz/3' is.\nERROR: '--force' is no option here\n"
+    kept = real.keeps([part for line in steps for part in (line, "status", "show")], err=said)
+    refused = ("ml -foo nope", "ml -foo bar --force")
+    same(kept.statuses, ["1" if line in refused else "0" for line in steps], "the statuses")
+    found = [shown.get(b"LOADEDMODULES") for shown in kept.shown]
+    same(list(zip(steps, found)), [(line, it and it.encode()) for line, it in steps.items()], "what is loaded")
 
 
 def test_ml_unloads_and_loads_where_PATH_leads_nowhere(scripted, shell):
-    scripted.will_answer(0, 0, 3)
+    scripted.will_answer(0, 3)
     lost = shell.says.sets.format("PATH", "/nowhere")
     scripted.keeps([lost, "ml bar -'a  b' foo -c", shell.may_fail("ml -foo bar"), "show"])
-    same(scripted.words(), [["unload", "a  b", "c"], ["load", "bar", "foo"], ["unload", "foo"]], "the words")
+    same(scripted.words(), [["ml", "bar", "-a  b", "foo", "-c"], ["ml", "-foo", "bar"]], "the words")
 
 
-def test_leaves_reports_on_standard_error_away_from_a_terminal(scripted):
-    path = scripted.folder.module("a/1", "module-whatis {an a}\n")
+def test_leaves_reports_on_standard_error_away_from_a_terminal(real):
+    path = real.folder.module("a/1", "module-whatis {an a}\n")
     report = os.fsencode(path) + b":\nmodule-whatis {an a}\n"
     lines = ["module show a", "module display a", "module whatis a", "module list", "ml", "status"]
-    kept = scripted.keeps(lines, err=report * 2 + b"a/1: an a\n" + b"No Modulefiles Currently Loaded.\n" * 2)
+    kept = real.keeps(lines, err=report * 2 + b"a/1: an a\n" + b"No Modulefiles Currently Loaded.\n" * 2)
     same(kept.statuses, ["0"], "the status")
 
 
@@ -253,7 +304,7 @@ COMMANDS = (
     "rm foo", "swap a b", "display foo", "del foo", "remove foo",
 )  # fmt: skip
 
-# What the program of the function says of some of them, and that `nope` is none.
+# What the program says of some of them.
 NOT_FOUND = b"ERROR: Unable to locate a modulefile for 'foo'\n"
 SAID = {
     "show foo": NOT_FOUND,
@@ -261,28 +312,34 @@ SAID = {
     "whatis foo": NOT_FOUND,
     "list": b"No Modulefiles Currently Loaded.\n",
     "avail -x": b"ERROR: 'avail' has no option '-x'\n",
-    "nope": b"ERROR: Unknown subcommand 'nope'\n",
+    "nope": b"ERROR: Unknown subcommand 'nope'\n" + LISTS.encode(),
 }
+
+
+# `ml` loads what isn't its own word.
+WAYS = {
+    "redirected": "module {{}} {} '{{}}'",
+    "piped": "module {{}} {} /bin/cat > '{{}}'",
+    "short": "ml {{}} {} '{{}}'",
+}
+
+
+def ways(shell, folder, commands):
+    """A line for each command and way, and the file that has what it says."""
+    for number, command in enumerate(commands):
+        for way, line in WAYS.items():
+            path = os.path.join(folder.path, f"{number}.{way}".encode()).decode()
+            where = shell.says.to_pipe if way == "piped" else shell.says.to_file
+            yield number, command, way, line.format(where).format(command, path), path
 
 
 @with_redirections
 def test_lets_every_subcommand_be_redirected_and_piped(scripted, shell):
     lines, wanted = [], {}
-    # `ml` loads what isn't its own word.
-    ways = {
-        "redirected": f"module {{}} {shell.says.to_file} '{{}}'",
-        "piped": f"module {{}} {shell.says.to_pipe} /bin/cat > '{{}}'",
-        "short": f"ml {{}} {shell.says.to_file} '{{}}'",
-    }
-    for number, command in enumerate(COMMANDS):
-        for way, line in ways.items():
-            path = os.path.join(scripted.folder.path, f"{number}.{way}".encode()).decode()
-            lines.append(line.format(command, path))
-            if command in SAID and not (command == "nope" and way == "short"):
-                wanted[path] = SAID[command]
-            else:
-                wanted[path] = f"said {number} {way}\n".encode()
-                scripted.stand_in.answer(b"", wanted[path], 1 if number % 2 else 0)
+    for number, _, way, line, path in ways(shell, scripted.folder, COMMANDS):
+        lines.append(line)
+        wanted[path] = f"said {number} {way}\n".encode()
+        scripted.stand_in.answer(b"", wanted[path], 1 if number % 2 else 0)
     kept, done = scripted.run(["show", *lines, "show"])
     same((done.stdout, done.stderr), (b"", b""), "what is written elsewhere")
     for path, err in wanted.items():
@@ -291,9 +348,23 @@ def test_lets_every_subcommand_be_redirected_and_piped(scripted, shell):
 
 
 @with_redirections
-def test_lets_the_usage_be_redirected_and_piped(scripted):
-    path = scripted.folder.path.decode()
-    scripted.run([f"module help > '{path}/help'", f"module --version | /bin/cat > '{path}/version'"])
+def test_lets_reports_and_refusals_be_redirected_and_piped(real, shell):
+    lines, wanted = [], {}
+    for _, command, way, line, path in ways(shell, real.folder, SAID):
+        if not (command == "nope" and way == "short"):
+            lines.append(line)
+            wanted[path] = SAID[command]
+    kept, done = real.run(["show", *lines, "show"])
+    same((done.stdout, done.stderr), (b"", b""), "what is written elsewhere")
+    for path, err in wanted.items():
+        same(content(path), err, f"what {path.split('/')[-1]} holds")
+    same_environment(kept.shown[1], kept.shown[0], "the environment after")
+
+
+@with_redirections
+def test_lets_the_usage_be_redirected_and_piped(real):
+    path = real.folder.path.decode()
+    real.run([f"module help > '{path}/help'", f"module --version | /bin/cat > '{path}/version'"])
     true(content(f"{path}/help").startswith(b"usage: module"), "the usage is there")
     true(content(f"{path}/version").startswith(b"modulecmd "), "the version is there")
 
@@ -337,13 +408,16 @@ def test_leaves_nothing_behind(scripted, shell):
     settings = ["set backslash_quote"] if shell.title.startswith("tcsh") else []
     commands = ["ml foo/1.0", shell.may_fail("ml nope/1"), "ml -foo", "module load foo/1.0", "module rem foo"]
     commands += ["module use /", "module unu /", shell.may_fail("module is-loaded"), shell.may_fail("module spider")]
+    scripted.will_answer(0, 0, 1)
+    scripted.stand_in.answer(b"", b"ERROR: Unknown subcommand 'spider'\n", 1)
     lines = [*settings, *looks.lines("before"), *commands, *looks.lines("after")]
     said = REFUSAL + b"ERROR: Unknown subcommand 'spider'\n"
     scripted.keeps(lines, before=[*warm, *looks.lines("start")], err=said)
     same(looks.new("before", "after"), [], "what a command leaves")
     same(looks.new("after", "before"), [], "what a command takes away")
     names = [name_of(line) for line in looks.new("start", "before")]
-    same([name for name in names if name.startswith(b"_module_")], [], "what the init file leaves")
+    # (bash and zsh show functions, too.)
+    same([name for name in names if name.startswith(b"_module_")], [b"_module_answer"] if shell.title in ("bash", "zsh") else [], "what the init file leaves")
 
 
 @pytest.fixture
@@ -381,7 +455,7 @@ def test_takes_the_site_s_directories_where_MODULEPATH_is_unset(scripted, shell,
 @pytest.fixture
 def no_program(scripted):
     """The program is gone until the case ends."""
-    program = os.path.join(scripted.prefix, "bin", "modulecmd")
+    program = os.path.join(scripted.prefix, "libexec", "module")
     os.rename(program, program + ".away")
     yield
     os.rename(program + ".away", program)
@@ -391,7 +465,7 @@ def no_program(scripted):
 def test_says_in_one_line_that_the_program_is_gone(scripted):
     kept, done = scripted.run(["show", "module load foo/1.0", "status", "show"])
     same(done.stdout, b"", "standard output")
-    true(b"modulecmd" in done.stderr, "the program is named")
+    true(b"libexec/module" in done.stderr, "the program is named")
     true(kept.statuses != ["0"], "the status isn't 0")
     same_environment(kept.shown[1], kept.shown[0], "the environment")
 
@@ -456,31 +530,39 @@ def test_refuses_a_text_that_read_doesn_t_take_whole(scripted):
 
 
 @pytest.fixture
-def after(scripted):
+def after(real):
     """The site has a program that is run behind commands. It writes its words to a file, whose path is given, and fails."""
-    written = os.path.join(scripted.folder.path, b"written").decode()
-    place = os.path.join(scripted.prefix, "etc", "after")
+    written = os.path.join(real.folder.path, b"written").decode()
+    place = os.path.join(real.prefix, "etc", "after")
     with open(place, "w") as file:
-        file.write(f"#!/bin/sh\necho hook; echo hook >&2; printf '%s,' \"$@\" >> '{written}'; exit 3\n")
+        file.write(f"#!/bin/sh\necho hook; echo hook >&2; printf '%s;' \"$(IFS=,; echo \"$*\")\" >> '{written}'; exit 3\n")
     os.chmod(place, 0o755)
     yield written
     os.remove(place)
 
 
-def test_runs_the_site_s_program_behind_each_command_that_changed_what_is_loaded(scripted, shell, after):
-    scripted.will_load()
-    scripted.will_refuse()
-    scripted.will_answer(0)
-    scripted.will_unload()
-    lines = ["show", "module load foo/1.0", "status", "sleep 0.2", shell.may_fail("module load nope/1")]
-    lines += ["module load foo/1.0", "module unload foo", "show"]
-    kept = scripted.keeps(lines, err=REFUSAL)
+def test_runs_the_site_s_program_behind_each_command_that_changed_what_is_loaded(real, shell, after):
+    """It is given the subcommand's own name, and the words as they are."""
+    for name in ("foo/1.0", "it's!*/1"):
+        real.folder.module(name, "")
+    lines = ["show", "module load foo/1.0", "status", shell.may_fail("module load nope/1")]
+    lines += ["module load foo/1.0", "module list", "module use /", "module unuse /"]
+    odd = "'it'\\''s'\\!'*'" if shell.family == "csh" else "\"it's!*\""
+    others = ["module del foo", "ml foo", f"ml -foo {odd}"]
+    others = [*others, "module pu", "module reload", "show"]
+    lines += [part for line in others for part in ("sleep 0.2", line)]
+    kept = real.keeps(lines, err=REFUSAL + b"Currently Loaded Modulefiles:\nfoo/1.0\n")
     same(kept.statuses, ["0"], "the status")
     same_environment(kept.shown[1], kept.shown[0], "the environment after")
-    wanted, until = f"{shell.init},load,foo/1.0,{shell.init},unload,foo,".encode(), time.monotonic() + 10
-    while content(after) != wanted and time.monotonic() < until:
+    given = ["load,foo/1.0", "unload,foo", "load,foo", "unload,foo", "load,it's!*", "purge"]
+    wanted, until = sorted(f"{shell.init},{it}" for it in given), time.monotonic() + 10
+
+    def found():
+        return sorted(content(after).decode().split(";")[:-1])
+
+    while found() != wanted and time.monotonic() < until:
         time.sleep(0.02)
-    same(content(after), wanted, "what the program was given")
+    same(found(), wanted, "what the program was given")
 
 
 @pytest.fixture
@@ -527,6 +609,7 @@ def test_has_both_functions_in_scripts_by_BASH_ENV(scripted):
 @in_bash
 def test_hands_both_functions_on_to_child_shells(scripted):
     scripted.will_load()
+    scripted.will_answer(0)
     inner = "module load foo/1.0 && ml --version > /dev/null && printf %s $FOO"
     scripted.keeps([f"bash --norc -c '{inner}'"], out=b"on")
 

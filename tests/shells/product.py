@@ -52,6 +52,7 @@ SCRIPTS = (
     "completion/bash",
     "init/pager",
     "demo/demo.sh",
+    "demo/modulecmd.sh",
     ".ci/run",
 )
 
@@ -62,7 +63,7 @@ SUBCOMMANDS = ("load", "add", "unload", "rm", "switch", "swap", "purge", "list",
 OF_FUNCTIONS = ("del", "remove", "help")
 ADDED = (
     "use", "unuse", "save", "restore", "savelist", "saverm", "saveshow", "reload", "is-loaded", "is-avail", "keyword",
-    "apropos",
+    "apropos", "refresh", "search",
 )  # fmt: skip
 
 
@@ -175,6 +176,26 @@ def test_the_usage_tells_what_the_program_does(folder, built):
         true(b"Unknown subcommand" not in done.stderr, f"the program knows {name}")
     for name in (*OF_FUNCTIONS, *ADDED):
         folder.refuses(["sh", name], f"Unknown subcommand '{name}'")
+
+
+def test_no_file_of_shells_has_a_list_of_subcommands():
+    """The program alone knows them. What these files name is what they run themselves."""
+    names = {*SUBCOMMANDS, *OF_FUNCTIONS, *ADDED} - {"help", "list", "use", "save", "load", "show", "add", "rm"}
+    for folder in ("init", "libexec", "completion"):
+        for name in os.listdir(os.path.join(TOP, folder)):
+            text = re.sub(r"--description '.*'", "", content(os.path.join(TOP, folder, name)).decode())
+            found = sorted(it for it in names if re.search(rf"(?<![\w-]){it}(?![\w-])", text))
+            same(found, ["restore"] if "etc/initial" in text else [], f"the subcommands in {folder}/{name}")
+
+
+# What a shell does is no library's, and nothing of it is proved.
+MOST_LINES = ((("init/sh",), 80), (("init/fish",), 70), (("libexec/module.csh", "libexec/ml.csh"), 90), (("init/pager",), 30))
+
+
+def test_the_functions_are_short():
+    for names, most in MOST_LINES:
+        count = sum(content(os.path.join(TOP, name)).count(b"\n") for name in names)
+        true(count <= most, f"{names} have {count} lines")
 
 
 def test_completion_offers_what_the_program_does(built):
@@ -336,11 +357,25 @@ def test_runs_the_demonstration(shell, folder, product):
     true(lines in done.stdout, "what a check says is shown")
 
 
+@in_shells(lambda it: it.init == "sh")
+def test_runs_the_demonstration_of_the_program_alone(shell, folder, product):
+    command = [*shell.command, "demo/modulecmd.sh", os.path.join(product, "bin", "modulecmd")]
+    done = subprocess.run(command, cwd=TOP, env=elsewhere(folder), capture_output=True, check=False)
+    same((done.stderr, done.returncode), (b"", 0), "standard error and status")
+    same(done.stdout.count(b"refused, with status 1\n"), 2, "the refusals that are shown")
+    true(b"LOADEDMODULES='hello/1.0:greet/1'" in done.stdout, "the load is shown")
+    true(done.stdout.endswith(b"The environment is as before.\n"), "what is said at the end")
+
+
 # What can stand at the end of a line, where foo/1.0 and baz/3 are loaded.
 COMPLETED = {
     "module load fo": ["foo/1.0", "foo/2.0"],
     "module show b": ["bar/1"],
-    "module whatis ": ["bar/1", "foo/1.0", "foo/2.0"],
+    "module whatis ": ["bar", "foo", "lang"],
+    "module load la": ["lang/c/1"],
+    "module load lang/c/": ["lang/c/1"],
+    "module load foo/2": ["foo/2.0"],
+    "module load foo/3": [],
     "module unload f": ["foo/1.0", "baz/3"],
     "module switch b": ["foo/1.0", "baz/3", "bar/1"],
     "module switch foo b": ["bar/1"],
@@ -371,7 +406,7 @@ COMPLETED = {
 
 
 def test_completion_offers_what_can_be_loaded_and_what_is(folder, product):
-    for name in ("foo/1.0", "foo/2.0", "bar/1"):
+    for name in ("foo/1.0", "foo/2.0", "bar/1", "lang/c/1"):
         folder.module(name, "")
     folder.file("foo/.version", "#%Module\nset ModulesVersion 1.0\n")
     home = os.path.join(folder.path, b"home")
@@ -388,9 +423,9 @@ def test_completion_offers_what_can_be_loaded_and_what_is(folder, product):
         same((done.stderr, done.returncode), (b"", 0), f"standard error and status of names {words}")
         return done.stdout.decode().split("\n")[:-1]
 
-    same(names("avail"), ["bar/1", "foo/1.0", "foo/2.0"], "what can be loaded")
+    same(names("avail"), ["bar", "foo", "lang"], "what can be loaded")
     same(names("avail", "fo"), ["foo/1.0", "foo/2.0"], "what can be loaded and begins so")
-    same(names("avail", "'fo"), ["bar/1", "foo/1.0", "foo/2.0"], "what can be loaded, where a quote is typed")
+    same(names("avail", "'fo"), ["bar/1", "foo/1.0", "foo/2.0", "lang/c/1"], "what can be loaded, where a quote is typed")
     same(names("loaded"), ["foo/1.0", "baz/3"], "what is loaded")
     same(sorted(names("shells")), sorted(FAMILIES), "the shells")
     for line, wanted in COMPLETED.items():

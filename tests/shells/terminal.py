@@ -47,6 +47,7 @@ def test_shows_nothing_that_steers_the_terminal(real, start):
 @at_terminals
 def test_hands_on_the_status_of_a_report_and_pipes_nothing_else(scripted, shell, start):
     at = start(scripted)
+    scripted.stand_in.answer(b"", ERROR, 1)
     at.types(f"module show nope; echo {shell.says.status} > '{at.at('status')}'")
     at.keeps("status", b"1\n", "the status")
     at.settle(0.1)
@@ -110,9 +111,9 @@ def test_does_what_is_typed_behind_a_command_that_was_broken_off(scripted, shell
     at = start(scripted)
     for slow, line, words in (
         ("module load slow", "module unload gcc", ["unload", "gcc"]),
-        ("ml slow", "ml -gcc", ["unload", "gcc"]),
+        ("ml slow", "ml -gcc", ["ml", "-gcc"]),
         ("ml -slow foo", "module purge", ["purge"]),
-        ("module load slow", "ml gcc", ["load", "gcc"]),
+        ("module load slow", "ml gcc", ["ml", "gcc"]),
     ):
         scripted.stand_in.hang()
         given = len(scripted.words())

@@ -69,11 +69,13 @@ class StandIn:
         os.mkfifo(pipe)
 
     def words(self):
-        """The words of each command so far."""
+        """The words of each command so far, behind the name of the shell."""
         with open(os.path.join(self.path, "number"), "rb") as file:
             count = int(file.read())
         given = []
         for number in range(1, count + 1):
             with open(os.path.join(self.path, f"{number}.words"), "rb") as file:
-                given.append([entry.decode(errors="surrogateescape") for entry in file.read().split(b"\0")[:-1]])
+                words = [entry.decode(errors="surrogateescape") for entry in file.read().split(b"\0")[:-1]]
+            # Behind the name stands the size of the terminal, as far as the function knows it.
+            given.append([words[0].split(":")[0], *words[1:]])
         return given

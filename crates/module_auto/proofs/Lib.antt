@@ -5,3 +5,4 @@ pub mod FindLemmas
 pub mod FinalLemmas
 pub mod PlanLemmas
 pub mod ResultLemmas
+pub mod SaidLemmas

@@ -16,8 +16,8 @@ use Rattle.modules.specs.Answers.{cause_of}
 use Rattle.modules.specs.Messages as texts
 use Rattle.shelltext.specs.Printing.{LacksText}
 use Rattle.module_auto.specs.declared.answer.AutomaticAnswer.{AutomaticAnswer}
-use Rattle.module_auto.specs.declared.fault.AutomaticFault.{AutomaticFault}
-use Rattle.module_auto.specs.declared.fault.AutomaticFault.TheVariants as faults
+use Rattle.module_auto.specs.declared.fault.RequestFault.{RequestFault}
+use Rattle.module_auto.specs.declared.fault.RequestFault.TheVariants as faults
 
 -- what something comes to over the files and directories of a tree
 abbrev pub Outcomes : Type 1
@@ -34,17 +34,17 @@ IsAnswer agrees shell e Comes answer =
 
 -- Why there is no answer: memory is wanting, the device has failed, it is refused for this reason in each pair of maps
 -- that agrees with the tree, or what it comes to has changes without a text in the shell.
-abbrev pub IsAutomaticFault : (Files → Listings → Type 0) → Type 0 → Shell → Environment → Outcomes → AutomaticFault
+abbrev pub IsRequestFault : (Files → Listings → Type 0) → Type 0 → Shell → Environment → Outcomes → RequestFault
     → Type 0
-IsAutomaticFault agrees failed shell e Comes (faults.Refused refusal) =
+IsRequestFault agrees failed shell e Comes (faults.Refused refusal) =
     Applies (cause_of refusal) failed
     (λ reason. InEachPair agrees (λ files listings. Comes files listings (Err reason)))
-IsAutomaticFault agrees failed shell e Comes (faults.Unprinted prints.OutOfMemory) = Unit {0}
-IsAutomaticFault agrees failed shell e Comes (faults.Unprinted (prints.NotSayable name)) =
+IsRequestFault agrees failed shell e Comes (faults.Unprinted prints.OutOfMemory) = Unit {0}
+IsRequestFault agrees failed shell e Comes (faults.Unprinted (prints.NotSayable name)) =
     (d : Done) × InEachPair agrees (λ files listings. Comes files listings (Ok d))
     × LacksText shell e d.env (string_bytes name)
 
 -- the number and the text of each fault
-abbrev pub refusal_of : AutomaticFault → NumberedText
+abbrev pub refusal_of : RequestFault → NumberedText
 refusal_of (faults.Refused refusal) = texts.refusal_of refusal
 refusal_of (faults.Unprinted fault) = printing.refusal_of fault

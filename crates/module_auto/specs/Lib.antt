@@ -5,3 +5,5 @@ pub mod Unloads
 pub mod Answers
 -- for this crate's own contracts alone
 pub mod Views
+pub mod Said
+pub mod Refused

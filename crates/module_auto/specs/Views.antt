@@ -15,8 +15,8 @@ use Rattle.module_auto.specs.Adding.{is_spent, most_added}
 use Rattle.module_auto.specs.Loads.{Completes, IsFirstFound, IsFound, IsMissed, LoadsTo}
 use Rattle.module_auto.specs.Unloads.{IsFinal}
 use Rattle.module_auto.specs.declared.plan.Plan.{Plan}
-use Rattle.module_auto.specs.declared.fault.AutomaticFault.{AutomaticFault}
-use Rattle.module_auto.specs.declared.fault.AutomaticFault.TheVariants as faults
+use Rattle.module_auto.specs.declared.fault.RequestFault.{RequestFault}
+use Rattle.module_auto.specs.declared.fault.RequestFault.TheVariants as faults
 
 -- the names of the plan complete those asked for, and the first of them, that are ready, can be loaded
 pub record IsPlan (s : RequestContext) (e : Environment) (asked : List Text) (plan : Plan) : Type 0 where
@@ -78,7 +78,7 @@ abbrev pub tries_left : Plan → ℕ
 tries_left plan = 2 * (most_added - vec_len plan.added) + (vec_len plan.names - plan.ready)
 
 -- why there is no text of the difference: want of memory, or no text says it
-abbrev pub IsUnsaid : Shell → (old new : Environment) → AutomaticFault → Type 0
+abbrev pub IsUnsaid : Shell → (old new : Environment) → RequestFault → Type 0
 IsUnsaid shell old new (faults.Refused refusal) = cause_of refusal ≡ memory
 IsUnsaid shell old new (faults.Unprinted prints.OutOfMemory) = Unit {0}
 IsUnsaid shell old new (faults.Unprinted (prints.NotSayable name)) = LacksText shell old new (string_bytes name)

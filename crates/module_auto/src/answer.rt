@@ -5,11 +5,11 @@ ghost use Rattle.envvars.specs.Texts.{texts_in};
 ghost use Rattle.modulefile.specs.Moves.{loaded_names};
 ghost use Rattle.modules.specs.MoveViews.{moves_of};
 ghost use Rattle.modules.specs.Replies.{changed_env};
-ghost use Rattle.shelltext.specs.Reading.{SaysDifference};
+ghost use Rattle.shelltext.specs.Reading.{SaysDifference, TextSays};
 ghost use Rattle.module_auto.specs.Views.{IsUnsaid};
 
-use crate::fault::AutomaticFault;
-use envvars::Env;
+use crate::fault::RequestFault;
+use envvars::{Change, Env};
 use modules::RequestChanges;
 use shelltext::{Shell, print_changes};
 use std::alloc::Global;
@@ -23,6 +23,8 @@ pub struct AutomaticAnswer {
     pub added: Vec<String>,
     /// The text for the shell.
     pub text: String,
+    /// The changes that the text says.
+    pub changes: Vec<Change>,
     /// The messages of the modulefiles, in order.
     pub messages: Vec<String>,
     /// The full names of the modules that were loaded, in order.
@@ -37,9 +39,10 @@ pub(crate) fn answer_of(
     names: Vec<String>,
     added: Vec<String>,
     changed: RequestChanges,
-) -> Result<AutomaticAnswer, AutomaticFault>
+) -> Result<AutomaticAnswer, RequestFault>
     requires { AreChanges env.now (changed_env env.now changed) (new_values_in changed.changes) }
     ensures said { IfOk result (λ a. SaysDifference shell (string_bytes a.text) env.now (changed_env env.now changed)) }
+    ensures changes { IfOk result (λ a. TextSays shell (string_bytes a.text) (new_values_in a.changes)) }
     ensures done { IfOk result (λ a. (texts_in a.messages ≡ texts_in changed.done.messages)
         × (texts_in a.loaded ≡ loaded_names (moves_of changed.done.moves))) }
     ensures names { IfOk result (λ a. (a.names ≡ names) × (a.added ≡ added)) }
@@ -51,6 +54,7 @@ pub(crate) fn answer_of(
         names,
         added,
         text,
+        changes,
         messages: done.messages,
         loaded: done.loaded,
     })

@@ -7,12 +7,16 @@ mod fault;
 mod finding;
 mod loading;
 mod plan;
+mod refused;
 mod requesting;
+mod said;
 mod spent;
 mod unloading;
 
 pub use answer::AutomaticAnswer;
-pub use fault::AutomaticFault;
+pub use fault::RequestFault;
 pub use finding::first_found;
 pub use loading::load_automatically;
+pub use refused::{refused_load, refused_unload};
+pub use said::{loading_line, unloading_line};
 pub use unloading::unload_automatically;

@@ -1,15 +1,17 @@
 //! `load --auto`: what is needed first is loaded with it.
 ghost use Rattle.std.specs.Prelude.{◌≡◌, ◌<◌, map, string_bytes, Ok, IfErr, IfOk};
+ghost use Rattle.envvars.specs.Changes.{new_values_in};
 ghost use Rattle.envvars.specs.Texts.{texts_in};
+ghost use Rattle.shelltext.specs.Reading.{TextSays};
 ghost use Rattle.filetree.specs.Agreement.{FailsOnlyAt, InEachPair, ReadsOn};
 ghost use Rattle.requests.specs.Requests as actions;
 ghost use Rattle.requests.specs.Steps.{Done, RequestStep, request_context_in};
-ghost use Rattle.module_auto.specs.Answers.{IsAnswer, IsAutomaticFault};
+ghost use Rattle.module_auto.specs.Answers.{IsAnswer, IsRequestFault};
 ghost use Rattle.module_auto.specs.Loads.{AutomaticLoad, AutomaticLoadLooksAt, AutomaticNames};
 ghost use Rattle.module_auto.specs.Loads.{CompletedLoad, Completes};
 
 use crate::answer::{AutomaticAnswer, answer_of};
-use crate::fault::AutomaticFault;
+use crate::fault::RequestFault;
 use crate::plan::Plan;
 use crate::requesting::load;
 use envvars::Env;
@@ -28,7 +30,7 @@ fn load_completed<T: Tree>(
     env: &Env,
     tree: &mut T,
     limits: Limits,
-) -> Result<AutomaticAnswer, AutomaticFault>
+) -> Result<AutomaticAnswer, RequestFault>
     ensures reads { ReadsOn T.agrees T.failures tree.old tree.new }
     ensures loaded { IfOk result (λ a. IsAnswer (T.agrees tree.new) shell env.now
         (λ files listings. RequestStep (request_context_in limits shell files listings) env.now
@@ -36,8 +38,9 @@ fn load_completed<T: Tree>(
     ensures completed { IfOk result (λ a. InEachPair (T.agrees tree.new) (λ files listings.
         Completes (request_context_in limits shell files listings) env.now (map string_bytes names.now)
         (texts_in a.added) (texts_in a.names))) }
+    ensures changes { IfOk result (λ a. TextSays shell (string_bytes a.text) (new_values_in a.changes)) }
     ensures refused { IfErr result (
-        IsAutomaticFault (T.agrees tree.new) (T.failures tree.old < T.failures tree.new) shell env.now
+        IsRequestFault (T.agrees tree.new) (T.failures tree.old < T.failures tree.new) shell env.now
         (λ files listings. CompletedLoad (request_context_in limits shell files listings) env.now
         (map string_bytes names.now))) }
     ensures failed { FailsOnlyAt T.agrees T.failed tree.old tree.new (λ files listings.
@@ -66,7 +69,7 @@ pub fn load_automatically<T: Tree>(
     env: &Env,
     tree: &mut T,
     limits: Limits,
-) -> Result<AutomaticAnswer, AutomaticFault>
+) -> Result<AutomaticAnswer, RequestFault>
     ensures reads { ReadsOn T.agrees T.failures tree.old tree.new }
     ensures loaded { IfOk result (λ a. IsAnswer (T.agrees tree.new) shell env.now
         (λ files listings. RequestStep (request_context_in limits shell files listings) env.now
@@ -77,8 +80,9 @@ pub fn load_automatically<T: Tree>(
     ensures as_asked { IfOk result (λ a. InEachPair (T.agrees tree.new) (λ files listings. (d : Done)
         → RequestStep (request_context_in limits shell files listings) env.now
         (actions.load (map string_bytes names.now)) (Ok d) → texts_in a.names ≡ map string_bytes names.now)) }
+    ensures changes { IfOk result (λ a. TextSays shell (string_bytes a.text) (new_values_in a.changes)) }
     ensures refused { IfErr result (
-        IsAutomaticFault (T.agrees tree.new) (T.failures tree.old < T.failures tree.new) shell env.now
+        IsRequestFault (T.agrees tree.new) (T.failures tree.old < T.failures tree.new) shell env.now
         (λ files listings. AutomaticLoad (request_context_in limits shell files listings) env.now
         (map string_bytes names.now))) }
     ensures failed { FailsOnlyAt T.agrees T.failed tree.old tree.new (λ files listings.
@@ -92,7 +96,7 @@ pub fn load_automatically<T: Tree>(
         }
         Err(refusal) => match refusal {
             Refusal::PrereqMissing(_) => load_completed(alloc, shell, names, env, tree, limits),
-            refusal => Err(AutomaticFault::Refused(refusal)),
+            refusal => Err(RequestFault::Refused(refusal)),
         },
     }
 }

@@ -27,9 +27,9 @@ pub(crate) struct Plan {
     /// The names, in the order in which they are to be loaded.
     pub(crate) names: Vec<String>,
     /// How many of the first of them can be loaded, one after another.
-    ready: usize,
+    pub(crate) ready: usize,
     /// The environment that these make.
-    after: Env,
+    pub(crate) after: Env,
     /// The names that were put in.
     pub(crate) added: Vec<String>,
 }
@@ -71,7 +71,7 @@ impl Plan {
     }
 
     /// Tries the next name behind those that can be loaded. It can be, or what it needs is put in before it.
-    fn advance<T: Tree>(
+    pub(crate) fn advance<T: Tree>(
         &mut self,
         alloc: Global,
         shell: Shell,

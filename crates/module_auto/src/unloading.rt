@@ -1,17 +1,19 @@
 //! `unload --auto`: what needs it is unloaded with it.
 ghost use Rattle.std.specs.Prelude.{◌≡◌, ◌<◌, ◌+◌, map, string_bytes, vec_len, IfErr, IfOk, OnOk};
+ghost use Rattle.envvars.specs.Changes.{new_values_in};
 ghost use Rattle.envvars.specs.Texts.{texts_in};
+ghost use Rattle.shelltext.specs.Reading.{TextSays};
 ghost use Rattle.filetree.specs.Agreement.{FailsOnlyAt, InEachPair, ReadsOn};
 ghost use Rattle.modules.specs.Answers.{cause_of};
 ghost use Rattle.requests.specs.Requests as actions;
 ghost use Rattle.requests.specs.Steps.{RequestStep, request_context_in};
 ghost use Rattle.module_auto.specs.Adding.{most_added};
-ghost use Rattle.module_auto.specs.Answers.{IsAnswer, IsAutomaticFault};
+ghost use Rattle.module_auto.specs.Answers.{IsAnswer, IsRequestFault};
 ghost use Rattle.module_auto.specs.Unloads.{AutomaticUnload, AutomaticUnloadLooksAt, StillNeed, in_front};
 ghost use Rattle.module_auto.specs.Views.{IsNotPut, PutsInFront};
 
 use crate::answer::{AutomaticAnswer, answer_of};
-use crate::fault::AutomaticFault;
+use crate::fault::RequestFault;
 use crate::requesting::unload;
 use crate::spent::is_spent;
 use envvars::Env;
@@ -23,7 +25,7 @@ use std::alloc::Global;
 use tclrules::Limits;
 
 /// Puts the module that still needs something in front of the names, where the refusal names one.
-fn put_in_front(
+pub(crate) fn put_in_front(
     names: &mut Vec<String>,
     added: &mut Vec<String>,
     refusal: Refusal,
@@ -64,7 +66,7 @@ pub fn unload_automatically<T: Tree>(
     env: &Env,
     tree: &mut T,
     limits: Limits,
-) -> Result<AutomaticAnswer, AutomaticFault>
+) -> Result<AutomaticAnswer, RequestFault>
     ensures reads { ReadsOn T.agrees T.failures tree.old tree.new }
     ensures unloaded { IfOk result (λ a. IsAnswer (T.agrees tree.new) shell env.now
         (λ files listings. RequestStep (request_context_in limits shell files listings) env.now
@@ -73,8 +75,9 @@ pub fn unload_automatically<T: Tree>(
         StillNeed (request_context_in limits shell files listings) env.now (map string_bytes asked.now)
         (texts_in a.added))) }
     ensures names { IfOk result (λ a. texts_in a.names ≡ in_front (texts_in a.added) (map string_bytes asked.now)) }
+    ensures changes { IfOk result (λ a. TextSays shell (string_bytes a.text) (new_values_in a.changes)) }
     ensures refused { IfErr result (
-        IsAutomaticFault (T.agrees tree.new) (T.failures tree.old < T.failures tree.new) shell env.now
+        IsRequestFault (T.agrees tree.new) (T.failures tree.old < T.failures tree.new) shell env.now
         (λ files listings. AutomaticUnload (request_context_in limits shell files listings) env.now
         (map string_bytes asked.now))) }
     ensures failed { FailsOnlyAt T.agrees T.failed tree.old tree.new (λ files listings.

@@ -19,11 +19,11 @@ use Rattle.requests.specs.Requests.{RequestedAction, load, unload}
 use Rattle.requests.specs.Steps.{RequestStep, request_context_in}
 use Rattle.requests.specs.declared.action.Action.{Action}
 use Rattle.requests.specs.declared.action.Action.TheVariants as actions
-use Rattle.module_auto.specs.Answers.{IsAnswer, IsAutomaticFault, Outcomes}
+use Rattle.module_auto.specs.Answers.{IsAnswer, IsRequestFault, Outcomes}
 use Rattle.module_auto.specs.Loads.{AutomaticNames}
 use Rattle.module_auto.specs.declared.answer.AutomaticAnswer.{AutomaticAnswer}
-use Rattle.module_auto.specs.declared.fault.AutomaticFault.{AutomaticFault}
-use Rattle.module_auto.specs.declared.fault.AutomaticFault.TheVariants as automatic
+use Rattle.module_auto.specs.declared.fault.RequestFault.{RequestFault}
+use Rattle.module_auto.specs.declared.fault.RequestFault.TheVariants as automatic
 use Rattle.module_explain.specs.Advised.{Among, ForNeed, ForNeeded, HasReason, IsCompletedLoad, IsCompletedUnload, IsKnown, IsNotAutomatic, LoadComes, none_is_found}
 use Rattle.module_explain.specs.Explained.{IsAccepted, IsSound}
 use Rattle.module_explain.specs.Views.{IsAutomated}
@@ -38,8 +38,8 @@ applies_later device failed P Q is less h = absurd (cc)
 applies_later (because r) failed P Q is less h = less r h
 
 -- what isn't done with the option, for a reason
-pub not_automatic : (before now : Files → Listings → Type 0) (failed : Type 0) (shell : Shell) (e : Environment) (Comes : Outcomes) (fault : AutomaticFault)
-    → Narrows before now → HasReason fault → IsAutomaticFault before failed shell e Comes fault → IsAutomaticFault now ⊥ shell e Comes fault
+pub not_automatic : (before now : Files → Listings → Type 0) (failed : Type 0) (shell : Shell) (e : Environment) (Comes : Outcomes) (fault : RequestFault)
+    → Narrows before now → HasReason fault → IsRequestFault before failed shell e Comes fault → IsRequestFault now ⊥ shell e Comes fault
 not_automatic before now failed shell e Comes (automatic.Refused refusal) narrows reason h =
     applies_later (cause_of refusal) failed (λ (r : RequestReason). InEachPair before (λ files listings. Comes files listings (Err r)))
     (λ (r : RequestReason). InEachPair now (λ files listings. Comes files listings (Err r))) reason
@@ -70,60 +70,60 @@ fits_needed agrees limits shell e asked action advice (typed, is, same) h =
 
 -- ---- what an automated load or unload answers
 
-abbrev pub IsDone : Result AutomaticAnswer AutomaticFault → Vec (String Global) Global → Type 0
+abbrev pub IsDone : Result AutomaticAnswer RequestFault → Vec (String Global) Global → Type 0
 IsDone r names = (a : AutomaticAnswer) × (r ≡ Ok a) × (names ≡ a.names)
 
-pub done_of : (r : Result AutomaticAnswer AutomaticFault) (o : Option (Vec (String Global) Global)) (names : Vec (String Global) Global)
+pub done_of : (r : Result AutomaticAnswer RequestFault) (o : Option (Vec (String Global) Global)) (names : Vec (String Global) Global)
     → IfSome o (IsDone r) → o ≡ Some names → IsDone r names
 done_of r o names h is = subst (λ (o : Option (Vec (String Global) Global)). IfSome o (IsDone r)) is h
 
-abbrev pub IsUndone : Result AutomaticAnswer AutomaticFault → Type 0
-IsUndone r = (fault : AutomaticFault) × (r ≡ Err fault) × HasReason fault
+abbrev pub IsUndone : Result AutomaticAnswer RequestFault → Type 0
+IsUndone r = (fault : RequestFault) × (r ≡ Err fault) × HasReason fault
 
-pub undone_of : (r : Result AutomaticAnswer AutomaticFault) (o : Option (Vec (String Global) Global)) → IfNone o (IsUndone r)
+pub undone_of : (r : Result AutomaticAnswer RequestFault) (o : Option (Vec (String Global) Global)) → IfNone o (IsUndone r)
     → ((names : Vec (String Global) Global) → o ≡ Some names → ⊥) → IsUndone r
 undone_of r None h not = h
 undone_of r (Some names) h not = absurd (not names refl)
 
 -- what is done is accepted
-pub accepted_load : (agrees : Files → Listings → Type 0) (limits : Limits) (shell : Shell) (e : Environment) (r : Result AutomaticAnswer AutomaticFault)
+pub accepted_load : (agrees : Files → Listings → Type 0) (limits : Limits) (shell : Shell) (e : Environment) (r : Result AutomaticAnswer RequestFault)
     (names : Vec (String Global) Global) → ((a : AutomaticAnswer) × (r ≡ Ok a) × (names ≡ a.names))
     → IfOk r (λ a. IsAnswer agrees shell e (λ files listings. RequestStep (request_context_in limits shell files listings) e (load (texts_in a.names))) a)
     → IsAccepted agrees limits shell e (action_view (actions.Load names))
 accepted_load agrees limits shell e r names (a, is, same) h =
-    let Loaded : Result AutomaticAnswer AutomaticFault → Type 0 =
+    let Loaded : Result AutomaticAnswer RequestFault → Type 0 =
     λ r. IfOk r (λ a. IsAnswer agrees shell e (λ files listings. RequestStep (request_context_in limits shell files listings) e (load (texts_in a.names))) a) in
     subst (λ (v : Vec (String Global) Global). IsAccepted agrees limits shell e (load (texts_in v))) (sym same)
     (accepted_answer agrees limits shell e (load (texts_in a.names)) a (subst Loaded is h))
 
-pub accepted_unload : (agrees : Files → Listings → Type 0) (limits : Limits) (shell : Shell) (e : Environment) (r : Result AutomaticAnswer AutomaticFault)
+pub accepted_unload : (agrees : Files → Listings → Type 0) (limits : Limits) (shell : Shell) (e : Environment) (r : Result AutomaticAnswer RequestFault)
     (names : Vec (String Global) Global) → ((a : AutomaticAnswer) × (r ≡ Ok a) × (names ≡ a.names))
     → IfOk r (λ a. IsAnswer agrees shell e (λ files listings. RequestStep (request_context_in limits shell files listings) e (unload (texts_in a.names))) a)
     → IsAccepted agrees limits shell e (action_view (actions.Unload names))
 accepted_unload agrees limits shell e r names (a, is, same) h =
-    let Unloaded : Result AutomaticAnswer AutomaticFault → Type 0 =
+    let Unloaded : Result AutomaticAnswer RequestFault → Type 0 =
     λ r. IfOk r (λ a. IsAnswer agrees shell e (λ files listings. RequestStep (request_context_in limits shell files listings) e (unload (texts_in a.names))) a) in
     subst (λ (v : Vec (String Global) Global). IsAccepted agrees limits shell e (unload (texts_in v))) (sym same)
     (accepted_answer agrees limits shell e (unload (texts_in a.names)) a (subst Unloaded is h))
 
 -- and the names are those of the answer
-pub completed_load : (agrees : Files → Listings → Type 0) (limits : Limits) (shell : Shell) (e : Environment) (asked : List Text) (r : Result AutomaticAnswer AutomaticFault)
+pub completed_load : (agrees : Files → Listings → Type 0) (limits : Limits) (shell : Shell) (e : Environment) (asked : List Text) (r : Result AutomaticAnswer RequestFault)
     (names : Vec (String Global) Global) → ((a : AutomaticAnswer) × (r ≡ Ok a) × (names ≡ a.names))
     → IfOk r (λ a. InEachPair agrees (λ files listings. AutomaticNames (request_context_in limits shell files listings) e asked (texts_in a.added) (texts_in a.names)))
     → IsCompletedLoad agrees limits shell e asked (action_view (actions.Load names))
 completed_load agrees limits shell e asked r names (a, is, same) h =
-    let Completed : Result AutomaticAnswer AutomaticFault → Type 0 =
+    let Completed : Result AutomaticAnswer RequestFault → Type 0 =
     λ r. IfOk r (λ a. InEachPair agrees (λ files listings. AutomaticNames (request_context_in limits shell files listings) e asked (texts_in a.added) (texts_in a.names))) in
     (texts_in a.added, texts_in a.names, ap (λ (v : Vec (String Global) Global). load (texts_in v)) same, subst Completed is h)
 
 -- ---- what isn't done
 
 -- what an answer was refused for
-pub undone : (before now : Files → Listings → Type 0) (failed : Type 0) (shell : Shell) (e : Environment) (Comes : Outcomes) (r : Result AutomaticAnswer AutomaticFault)
-    → Narrows before now → ((fault : AutomaticFault) × (r ≡ Err fault) × HasReason fault) → IfErr r (IsAutomaticFault before failed shell e Comes)
-    → (fault : AutomaticFault) × HasReason fault × IsAutomaticFault now ⊥ shell e Comes fault
+pub undone : (before now : Files → Listings → Type 0) (failed : Type 0) (shell : Shell) (e : Environment) (Comes : Outcomes) (r : Result AutomaticAnswer RequestFault)
+    → Narrows before now → ((fault : RequestFault) × (r ≡ Err fault) × HasReason fault) → IfErr r (IsRequestFault before failed shell e Comes)
+    → (fault : RequestFault) × HasReason fault × IsRequestFault now ⊥ shell e Comes fault
 undone before now failed shell e Comes r narrows (fault, is, reason) h =
-    let Refused : Result AutomaticAnswer AutomaticFault → Type 0 = λ r. IfErr r (IsAutomaticFault before failed shell e Comes) in
+    let Refused : Result AutomaticAnswer RequestFault → Type 0 = λ r. IfErr r (IsRequestFault before failed shell e Comes) in
     (fault, reason, not_automatic before now failed shell e Comes fault narrows reason (subst Refused is h))
 
 -- an alternative was found, or none was

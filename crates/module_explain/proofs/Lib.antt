@@ -2,7 +2,6 @@ pub mod LocationLemmas
 pub mod SemicolonLemmas
 pub mod LineLemmas
 pub mod AdviceLemmas
-mod AlikeLemmas
 pub mod AutomaticLemmas
 pub mod UnknownLemmas
 pub mod EvaluatedLemmas

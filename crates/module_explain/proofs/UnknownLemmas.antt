@@ -13,7 +13,7 @@ use Rattle.filetree.specs.Modulefiles.{directories}
 use Rattle.shelltext.specs.declared.shell.Shell.{Shell}
 use Rattle.tclrules.specs.declared.limits.Limits.{Limits}
 use Rattle.module_explain.specs.Advised.{ForUnknown, IsKnown, IsOneThere, NoneIsThere, none_is_there, nothing_searched, question}
-use Rattle.module_explain.specs.Alike.{AreLike}
+use Rattle.module_explain.specs.Alike.{AreLike, others}
 use Rattle.module_explain.specs.declared.advice.Advice.{Advice}
 
 -- what a listing answers
@@ -67,13 +67,13 @@ module _ (before now : Files → Listings → Type 0) (limits : Limits) (shell :
       go (b ∷ bs) o to full none h = inl ((λ files listings a. to none files listings (narrows files listings a)), h)
 
   pub likes_are_said : (o : Option Advice) (names : List Text) → (length path == 0) ≡ false → IsOneThere before searched
-      → InEachPair now (λ files listings. AreLike listings (directories path) typed names) → IsKnown (question names) o → ForUnknown now limits shell e path typed o
+      → InEachPair now (λ files listings. AreLike listings (directories path) typed names) → IsKnown (question (others typed names)) o → ForUnknown now limits shell e path typed o
   likes_are_said o names = go path o (subst (λ (l : List Text). IsOneThere before searched → IsOneThere before l) same (λ h. h))
     where
       later : (l : List Text) → IsOneThere before l → IsOneThere now l
       later l (directory, there, h) = (directory, there, λ files listings a. h files listings (narrows files listings a))
 
       go : (path : Text) (o : Option Advice) → (IsOneThere before searched → IsOneThere before (directories path)) → (length path == 0) ≡ false → IsOneThere before searched
-          → InEachPair now (λ files listings. AreLike listings (directories path) typed names) → IsKnown (question names) o → ForUnknown now limits shell e path typed o
+          → InEachPair now (λ files listings. AreLike listings (directories path) typed names) → IsKnown (question (others typed names)) o → ForUnknown now limits shell e path typed o
       go [] o to full one like h = absurd (cc)
       go (b ∷ bs) o to full one like h = inr (later (directories (b ∷ bs)) (to one), (names, like, h))

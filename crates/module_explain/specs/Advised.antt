@@ -23,12 +23,12 @@ use Rattle.shelltext.specs.declared.print.PrintFault.TheVariants as prints
 use Rattle.shelltext.specs.declared.shell.Shell.{Shell}
 use Rattle.tclrules.specs.Derivation.{Halt, LeftOut}
 use Rattle.tclrules.specs.declared.limits.Limits.{Limits}
-use Rattle.module_auto.specs.Answers.{IsAutomaticFault, Outcomes}
+use Rattle.module_auto.specs.Answers.{IsRequestFault, Outcomes}
 use Rattle.module_auto.specs.Loads.{AutomaticLoad, AutomaticNames, FoundAmong}
 use Rattle.module_auto.specs.Unloads.{AutomaticUnload, StillNeed, in_front}
-use Rattle.module_auto.specs.declared.fault.AutomaticFault.{AutomaticFault}
-use Rattle.module_auto.specs.declared.fault.AutomaticFault.TheVariants as automatic
-use Rattle.module_explain.specs.Alike.{AreLike, respelled}
+use Rattle.module_auto.specs.declared.fault.RequestFault.{RequestFault}
+use Rattle.module_auto.specs.declared.fault.RequestFault.TheVariants as automatic
+use Rattle.module_explain.specs.Alike.{AreLike, others, respelled}
 use Rattle.module_explain.specs.Replacements.{instead_of}
 use Rattle.module_explain.specs.declared.advice.Advice.{Advice}
 use Rattle.module_explain.specs.declared.advice.Advice.TheVariants as advices
@@ -79,7 +79,7 @@ names_or_none (Some names) = names
 -- ---- what is refused for itself, and where names are searched
 
 -- the fault is neither want of memory nor a failed device
-abbrev pub HasReason : AutomaticFault → Type 0
+abbrev pub HasReason : RequestFault → Type 0
 HasReason (automatic.Refused refusal) = is_transient (cause_of refusal) ≡ false
 HasReason (automatic.Unprinted prints.OutOfMemory) = ⊥
 HasReason (automatic.Unprinted (prints.NotSayable name)) = Unit {0}
@@ -171,7 +171,7 @@ module _ (agrees : Files → Listings → Type 0) (limits : Limits) (shell : She
   -- it isn't done with that option either, for a reason
   abbrev pub IsNotAutomatic : Outcomes → Type 0
   IsNotAutomatic Comes =
-      (fault : AutomaticFault) × HasReason fault × IsAutomaticFault agrees ⊥ shell e Comes fault
+      (fault : RequestFault) × HasReason fault × IsRequestFault agrees ⊥ shell e Comes fault
 
   abbrev pub LoadComes : List Text → Outcomes
   LoadComes names files listings o = AutomaticLoad (request_context_in limits shell files listings) e names o
@@ -215,14 +215,14 @@ module _ (agrees : Files → Listings → Type 0) (limits : Limits) (shell : She
 
   -- ---- a name that isn't found
 
-  -- Where nothing is searched that is said; else the question whether names are meant that are like it, if any are.
+  -- Where nothing is searched that is said; else the question whether other names are meant that are like it, if any are.
   abbrev pub ForUnknown : (path typed : Text) → Option Advice → Type 0
   ForUnknown [] typed o = IsKnown (Some nothing_searched) o
   ForUnknown (b ∷ path) typed o =
       (NoneIsThere agrees (directories (b ∷ path)) × IsKnown (Some (none_is_there (b ∷ path))) o)
       ⊎ (IsOneThere agrees (directories (b ∷ path)) × ((names : List Text)
       × InEachPair agrees (λ files listings. AreLike listings (directories (b ∷ path)) typed names)
-      × IsKnown (question names) o))
+      × IsKnown (question (others typed names)) o))
 
   -- For an ill-spelled name: the question whether names are meant that are like what it may stand for, if this is well
   -- spelled.

@@ -1,18 +1,15 @@
 -- Names that may be meant by one that isn't found (own). Only names are read: whether a module has them isn't asked.
-use Rattle.std.specs.Prelude.{◌≡◌, ℕ, ◌||◌, ◌==◌, nat_eq, not, Bool, length, if◌then◌else◌, List, [], ◌∷◌, ◌++◌}
-use Rattle.std.specs.Prelude.{filter, map, take, bytes_eq, Option, Some, None}
+use Rattle.std.specs.Prelude.{◌≡◌, ℕ, ◌||◌, ◌==◌, nat_eq, not, Bool, length, if◌then◌else◌, List, [], ◌∷◌}
+use Rattle.std.specs.Prelude.{filter, map, take, bytes_eq, Some, None}
 use Rattle.std.specs.Char.{to_ascii_lowercase}
 use Rattle.std.specs.List.{starts_with, slice_split, join_with_byte}
-use Rattle.std.specs.declared.alloc.Global.{Global}
-use Rattle.std.specs.declared.string.String.{String}
-use Rattle.std.specs.declared.vec.Vec.{Vec}
 use Rattle.envvars.specs.Fields.{without_repeats}
-use Rattle.envvars.specs.Texts.{Text, texts_in}
+use Rattle.envvars.specs.Texts.{Text}
 use Rattle.filetree.specs.Agreement.{Listings}
 use Rattle.module_words.specs.subcommands.Nearness.{differ_by_one}
 use Rattle.modulename.specs.ModuleName.{parts}
 use Rattle.requests.specs.Steps.{first_part}
-use Rattle.search.specs.NamesBelow.{AreNamesBelow}
+use Rattle.module_reports.specs.listings.Along.{AreNamesAlong}
 
 -- with small letters for the capitals of ASCII
 abbrev pub in_small_letters : Text → Text
@@ -45,18 +42,9 @@ most_names = 3
 abbrev pub first_names : List Text → List Text
 first_names names = take most_names (without_repeats names)
 
--- the names in a folder, or none where there is no folder
-abbrev pub names_or_none : Option (Vec (String Global) Global) → List Text
-names_or_none None = []
-names_or_none (Some names) = texts_in names
-
--- What stands in the folder of this name below each of the directories, one directory after another; without a name, in
--- the directories themselves.
-abbrev pub AreNamesAlong : Listings → Option Text → List Text → List Text → Type 0
-AreNamesAlong listings folder [] names = names ≡ []
-AreNamesAlong listings folder (dir ∷ dirs) names =
-    (first : Option (Vec (String Global) Global)) × (rest : List Text) × AreNamesBelow listings dir folder first
-    × AreNamesAlong listings folder dirs rest × (names ≡ names_or_none first ++ rest)
+-- the names that aren't the one that was typed
+abbrev pub others : Text → List Text → List Text
+others typed names = filter (λ name. not (bytes_eq name typed)) names
 
 -- the versions that are like what was typed; where none is, the folder, if a version was typed
 abbrev pub versions_or_folder : Text → Text → List Text → List Text

@@ -3,13 +3,14 @@ ghost use Rattle.std.specs.Prelude.{◌≡◌, List, None, map, take, IfOk, stri
 ghost use Rattle.std.specs.Option.{option_map};
 ghost use Rattle.envvars.specs.Texts.{Text, slice_texts, texts_in};
 ghost use Rattle.filetree.specs.Agreement.{FailsOnlyByDevice, InEachPair, Narrows};
+ghost use Rattle.module_reports.specs.listings.Along.{AreNamesAlong};
 ghost use Rattle.module_explain.specs.Alike as spec;
 
 use envvars::fields::{deduplicated, join, owned, parts, slices};
 use filetree::{Tree, TreeFault};
+use module_reports::listings::names_along;
 use module_words::subcommands::differ_by_one;
 use requests::first_part;
-use search::names_below;
 use std::alloc::{AllocError, Global};
 
 /// So many names are said at most.
@@ -91,29 +92,21 @@ fn first_names(alloc: Global, names: &[&str]) -> Result<Vec<String>, AllocError>
     owned(alloc, first_ones(once.as_slice(), MOST_NAMES))
 }
 
-/// What stands in this folder below each of the directories, one directory after another; without a folder, in the
-/// directories themselves.
-///
-/// Errors: as of the tree, which is asked only for these folders.
-fn names_along<T: Tree>(
+/// Those of the names that aren't the one that was typed.
+pub(crate) fn others(
     alloc: Global,
-    tree: &mut T,
-    directories: &[&str],
-    folder: Option<&str>,
-) -> Result<Vec<String>, TreeFault>
-    ensures narrows { Narrows (T.agrees tree.old) (T.agrees tree.new) }
-    ensures cause { FailsOnlyByDevice (T.failures tree.old) (T.failures tree.new) result }
-    ensures names { IfOk result (λ names. InEachPair (T.agrees tree.new) (λ files listings.
-        spec.AreNamesAlong listings (option_map (λ f. f.now) folder.entry) (slice_texts directories.now)
-        (texts_in names))) }
+    typed: &str,
+    names: &[String],
+) -> Result<Vec<String>, AllocError>
+    ensures { IfOk result (λ v. texts_in v ≡ spec.others typed.now (map string_bytes names.now)) }
 {
-    let mut names = Vec::new(alloc);
-    for directory in directories {
-        let below = names_below(alloc, tree, directory, folder)?;
-        let mut below = below.unwrap_or(Vec::new(alloc));
-        names.append(&mut below)?;
+    let mut found = Vec::new(alloc);
+    for name in names {
+        if name.as_str() != typed {
+            found.push(name.clone()?)?;
+        }
     }
-    Ok(names)
+    Ok(found)
 }
 
 /// The names that may be meant, where a folder has these entries: versions that are like what was typed. Where none is,
@@ -145,7 +138,7 @@ fn meant_in_directories<T: Tree>(
     ensures narrows { Narrows (T.agrees tree.old) (T.agrees tree.new) }
     ensures cause { FailsOnlyByDevice (T.failures tree.old) (T.failures tree.new) result }
     ensures meant { IfOk result (λ meant. InEachPair (T.agrees tree.new) (λ files listings. (names : List Text)
-        × spec.AreNamesAlong listings None (slice_texts directories.now) names
+        × AreNamesAlong listings None (slice_texts directories.now) names
         × (texts_in meant ≡ spec.first_names (spec.likes (spec.in_small_letters name.now) names)))) }
 {
     let names = names_along(alloc, tree, directories, None)?;

@@ -7,7 +7,7 @@ ghost use Rattle.filetree.specs.Causes.{memory};
 ghost use Rattle.filetree.specs.Agreement.{ReadsOn};
 ghost use Rattle.requests.specs.RequestViews.{action_view};
 ghost use Rattle.module_auto.specs.declared.answer.AutomaticAnswer.{AutomaticAnswer};
-ghost use Rattle.module_auto.specs.declared.fault.AutomaticFault.{AutomaticFault};
+ghost use Rattle.module_auto.specs.declared.fault.RequestFault.{RequestFault};
 ghost use Rattle.module_explain.specs.Advised as spec;
 ghost use Rattle.module_explain.specs.Explained.{IsSound};
 ghost use Rattle.module_explain.specs.Advised.{HasReason};
@@ -20,7 +20,7 @@ use crate::refused::RefusedRequest;
 use filetree::Tree;
 use message::texts::copies;
 use module_auto::{
-    AutomaticAnswer, AutomaticFault, first_found, load_automatically, unload_automatically,
+    AutomaticAnswer, RequestFault, first_found, load_automatically, unload_automatically,
 };
 use modules::transient_failures::is_transient;
 use modules::{Action, MissingNames, Refusal};
@@ -31,20 +31,20 @@ use std::alloc::{AllocError, Global};
 ///
 /// It fails where memory ran out, or the device failed.
 fn names_if_done(
-    answer: Result<AutomaticAnswer, AutomaticFault>,
+    answer: Result<AutomaticAnswer, RequestFault>,
 ) -> Result<Option<Vec<String>>, Refusal>
     ensures done { IfOk result (λ o. IfSome o (λ names.
         (a : AutomaticAnswer) × (answer ≡ Ok a) × (names ≡ a.names))) }
     ensures undone { IfOk result (λ o. IfNone o (
-        (fault : AutomaticFault) × (answer ≡ Err fault) × HasReason fault)) }
+        (fault : RequestFault) × (answer ≡ Err fault) × HasReason fault)) }
     ensures kept { IfErr result (λ refusal. (cause_of refusal ≡ memory)
-        ⊎ (answer ≡ Err (AutomaticFault.Refused refusal))) }
+        ⊎ (answer ≡ Err (RequestFault.Refused refusal))) }
 {
     match answer {
         Ok(answer) => Ok(Some(answer.names)),
-        Err(AutomaticFault::Unprinted(PrintFault::NotSayable(_))) => Ok(None),
-        Err(AutomaticFault::Unprinted(PrintFault::OutOfMemory)) => Err(Refusal::OutOfMemory),
-        Err(AutomaticFault::Refused(refusal)) => {
+        Err(RequestFault::Unprinted(PrintFault::NotSayable(_))) => Ok(None),
+        Err(RequestFault::Unprinted(PrintFault::OutOfMemory)) => Err(Refusal::OutOfMemory),
+        Err(RequestFault::Refused(refusal)) => {
             if is_transient(&refusal) {
                 Err(refusal)
             } else {

@@ -162,6 +162,7 @@ pub fn explain<T: Tree>(
     tree: &mut T,
     limits: Limits,
 ) -> Result<Explanation, Refusal>
+    ensures reads { ReadsOn T.agrees T.failures tree.old tree.new }
     ensures why { IfOk result (λ x. IfSome x.file (λ file. (action : RequestedAction)
         × (request_of (map string_bytes words.now) ≡ Ok action)
         × IsWhy (T.agrees tree.new) limits shell env.now action file)) }

@@ -11,7 +11,7 @@ ghost use Rattle.module_explain.specs.Views.{is_known};
 ghost use Rattle.module_explain.specs.FailedPaths.{IsDeviceOnlyIf};
 
 use crate::advice::Advice;
-use crate::alike::{names_like, respelled};
+use crate::alike::{names_like, others, respelled};
 use crate::known::{asked, known};
 use crate::refused::RefusedRequest;
 use filetree::{Tree, TreeFault};
@@ -64,7 +64,8 @@ pub(crate) fn for_unknown<T: Tree>(
         return Ok(known(alloc, Some(line.as_str()))?);
     }
     let names = names_like(alloc, tree, directories.as_slice(), name)?;
-    Ok(asked(alloc, names.as_slice())?)
+    let others = others(alloc, name, names.as_slice())?;
+    Ok(asked(alloc, others.as_slice())?)
 }
 
 /// For an ill-spelled name: names that are like what it may stand for, if this is well spelled.

@@ -1,108 +1,118 @@
-//! What the process is given: its arguments, its environment, and the working directory.
+//! What the process is given: its arguments, its environment, where it works, and by which path it was called.
 
-use message::{NumberedMessage, RefusalKind};
-use module_words::subcommands::{Subcommand, subcommand_of};
-use process::{arguments, environment_block};
+use crate::streams::say_refusal;
+use envvars::{Env, Vars};
+use module_commands::{Asking, Refusal, Site};
+use module_words::protocol::{Asker, Streams, read_asker, refusal_status};
+use process::{InputFault, arguments, environment_block};
+use shelltext::Shell;
+use std::alloc::AllocError;
 use std::env::VarError;
-use std::io::ErrorKind;
+use std::io::{ErrorKind, IsTerminal};
 use std::os::unix::fs::MetadataExt;
-use std::{env, fs};
+use std::rt::Env as _;
+use std::{env, fs, process as own, str};
 
-/// What the process is given.
-#[derive(Drop)]
-pub struct ProgramInput {
-    /// The arguments after the program's name.
-    pub arguments: Vec<String>,
-    /// The variables of its environment.
-    pub env: envvars::Env,
-    /// The working directory, where there is one.
-    pub working: Option<String>,
-}
+/// How many bytes a path of the system has at most, with its end (PATH_MAX of Linux).
+const LONGEST_PATH: usize = 4096;
 
-impl ProgramInput {
-    /// The arguments after the program's name, the environment, and the working directory.
-    ///
-    /// Errors: want of memory (31); a MODULEPATH that isn't UTF-8, where the command is about it (37); such an argument
-    /// (56).
-    pub fn read(rt: &HostRuntime) -> Result<ProgramInput, NumberedMessage<'static>> {
-        let arguments = match arguments(rt) {
-            Ok(arguments) => arguments,
-            Err(fault) => return Err(fault.numbered()),
-        };
-        let Ok(block) = environment_block(rt) else {
-            return Err(want_of_memory());
-        };
-        let Ok(env) = envvars::Env::from_block(rt.alloc(), block) else {
-            return Err(want_of_memory());
-        };
-        if is_about_modulepath(arguments.as_slice()) {
-            judge_modulepath(rt)?;
-        }
-        Ok(ProgramInput {
-            arguments,
-            env,
-            working: working_directory(rt)?,
-        })
+/// How many bytes of the first argument are looked at where not all arguments are texts.
+const SHORT: usize = 64;
+
+/// The path by which the process was called, as far as it has room.
+pub fn own_path<'a>(rt: &HostRuntime, room: &'a mut [u8; LONGEST_PATH]) -> &'a [u8] {
+    match rt.arg(0, room) {
+        Ok(length) => room.get(..length).unwrap_or(&[]),
+        Err(_) => &[],
     }
 }
 
-/// Want of memory, as a refusal.
-fn want_of_memory() -> NumberedMessage<'static> {
-    RefusalKind::MemoryForRequest.plain()
+/// Who asks by a word; a script, where the word says nothing.
+fn asker_in(word: &[u8]) -> (Shell, Asker) {
+    match str::from_utf8(word) {
+        Ok(word) => read_asker(word).unwrap_or((Shell::Sh, Asker::Script)),
+        Err(_) => (Shell::Sh, Asker::Script),
+    }
 }
 
-/// Whether a command with these arguments edits or keeps the directories of MODULEPATH. What loads and unloads takes it
-/// as `modulecmd` does, which reads a text that isn't UTF-8 as none.
-fn is_about_modulepath(arguments: &[String]) -> bool {
-    let [_, word, ..] = arguments else {
-        return false;
+/// Who asks, by the beginning of the first argument.
+fn first_asker(rt: &HostRuntime) -> (Shell, Asker) {
+    let mut room = [0; SHORT];
+    let length = match rt.arg(1, &mut room) {
+        Ok(length) => length.min(SHORT),
+        Err(_) => 0,
     };
-    match subcommand_of(word.as_str()) {
-        Ok(Subcommand::Use | Subcommand::Unuse | Subcommand::Save) => true,
+    asker_in(&room[..length])
+}
+
+/// Says that an argument is no text, and gives the status for who asks.
+fn refuse_arguments(rt: &HostRuntime, fault: InputFault) -> u8 {
+    let (shell, asker) = first_asker(rt);
+    say_refusal(rt, &Refusal::Numbered(fault.numbered()));
+    refusal_status(shell, asker)
+}
+
+/// The arguments after the program's name; else the status with which the process ends, when why is said.
+pub fn given_words(rt: &HostRuntime) -> Result<Vec<String>, u8> {
+    match arguments(rt) {
+        Ok(words) => Ok(words),
+        Err(fault) => Err(refuse_arguments(rt, fault)),
+    }
+}
+
+/// Which of the user's streams are terminals: a function hands its standard output on as standard input.
+fn streams(rt: &HostRuntime, asker: Asker) -> Streams {
+    let output = match asker {
+        Asker::Script => rt.stdout().is_terminal(),
+        Asker::Handing(_) | Asker::Unhanding => rt.stdin().is_terminal(),
+    };
+    let error = rt.stderr().is_terminal();
+    Streams { output, error }
+}
+
+/// The working directory by the system's name; nothing where it has none.
+fn directory(rt: &HostRuntime) -> Result<Option<String>, AllocError> {
+    match env::current_dir(rt) {
+        Ok(place) => Ok(Some(place.into_string())),
+        Err(fault) if fault.kind() == ErrorKind::OutOfMemory => Err(AllocError),
+        Err(_) => Ok(None),
+    }
+}
+
+/// Whether a path leads to the working directory.
+fn leads_here(rt: &HostRuntime, path: &str) -> bool {
+    match (fs::metadata(rt, path), fs::metadata(rt, ".")) {
+        (Ok(named), Ok(here)) => named.dev() == here.dev() && named.ino() == here.ino(),
         _ => false,
     }
 }
 
-/// Refuses a MODULEPATH that isn't UTF-8, which would be taken for one that is unset.
-fn judge_modulepath(rt: &HostRuntime) -> Result<(), NumberedMessage<'static>> {
-    match env::var(rt, "MODULEPATH") {
-        Ok(_) | Err(VarError::NotPresent) => Ok(()),
-        Err(VarError::NotUnicode) => Err(RefusalKind::BadValue.naming("MODULEPATH")),
-        Err(VarError::OutOfMemory) => Err(want_of_memory()),
-    }
+/// What the process is given beside its words and its environment.
+fn site(rt: &HostRuntime, asker: Asker, env: &Env) -> Result<Site, AllocError> {
+    let has_text_modulepath = match env::var(rt, "MODULEPATH") {
+        Ok(_) | Err(VarError::NotPresent) => true,
+        Err(VarError::NotUnicode) => false,
+        Err(VarError::OutOfMemory) => return Err(AllocError),
+    };
+    Ok(Site {
+        called_as: env::args(rt).ok().and_then(|mut all| all.next()),
+        streams: streams(rt, asker),
+        directory: directory(rt)?,
+        is_at_pwd: env.get("PWD").is_some_and(|path| leads_here(rt, path)),
+        has_text_modulepath,
+        number: own::id(rt.process()),
+    })
 }
 
-/// The working directory by the name that the shell has for it, where that is one, or by the system's.
-fn working_directory(rt: &HostRuntime) -> Result<Option<String>, NumberedMessage<'static>> {
-    let place = match env::current_dir(rt) {
-        Ok(place) => place,
-        Err(fault) => return without_place(fault.kind()),
-    };
-    match env::var(rt, "PWD") {
-        Ok(name) if is_here(rt, name.as_str()) => Ok(Some(name)),
-        Err(VarError::OutOfMemory) => Err(want_of_memory()),
-        Ok(_) | Err(VarError::NotPresent | VarError::NotUnicode) => Ok(Some(place.into_string())),
-    }
-}
-
-/// What is taken for the working directory where the system tells none.
-fn without_place(kind: ErrorKind) -> Result<Option<String>, NumberedMessage<'static>> {
-    match kind {
-        ErrorKind::OutOfMemory => Err(want_of_memory()),
-        _ => Ok(None),
-    }
-}
-
-/// Whether this is an absolute path, without points for parts, of the working directory.
-fn is_here(rt: &HostRuntime, path: &str) -> bool {
-    if !path.starts_with('/') || path.split('/').any(|part| part == "." || part == "..") {
-        return false;
-    }
-    let Ok(named) = fs::metadata(rt, path) else {
-        return false;
-    };
-    let Ok(here) = fs::metadata(rt, ".") else {
-        return false;
-    };
-    named.dev() == here.dev() && named.ino() == here.ino()
+/// Who asks, in which environment, and what the process is given besides.
+pub fn asking(rt: &HostRuntime, shell: Shell, asker: Asker) -> Result<Asking, Refusal<'static>> {
+    let block = environment_block(rt)?;
+    let env = Env::from_block(rt.alloc(), block)?;
+    let site = site(rt, asker, &env)?;
+    Ok(Asking {
+        shell,
+        asker,
+        env,
+        site,
+    })
 }

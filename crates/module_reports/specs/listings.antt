@@ -6,5 +6,8 @@ pub mod Finding
 pub mod Chosen
 pub mod Reports
 pub mod Available
+pub mod Hints
+pub mod Places
+pub mod Along
 -- for this crate's own contracts alone
 pub mod Views

@@ -3,11 +3,13 @@
 #![tactic(auto)]
 
 mod available;
+mod begun;
 mod kind;
 mod line;
 mod names;
 mod offered;
 mod place;
+mod readable;
 
 pub use available::names_offered;
 pub use kind::{NameKind, kind_named};

@@ -10,17 +10,19 @@ use Rattle.shelltext.specs.declared.print.PrintFault.TheVariants as prints
 use Rattle.shelltext.specs.declared.shell.Shell.{Shell}
 use Rattle.tclrules.specs.declared.limits.Limits.{Limits}
 use Rattle.requests.specs.Reasons.{RequestReason}
-use Rattle.requests.specs.Requests.{purge}
+use Rattle.requests.specs.Requests.{RequestedAction}
 use Rattle.requests.specs.Steps.{RequestContext, RequestStep, Done, entries_of, request_context_in}
 use Rattle.modules.specs.Answers.{cause_of}
 use Rattle.modules.specs.declared.refusal.Refusal.{Refusal}
 use Rattle.modules.proofs.StepLemmas.{stands_as}
 use Rattle.shelltext.specs.Printing.{LacksText}
-use Rattle.module_restore.specs.Answers.{IsRestored, IsRestoreFault, StepOutcomes}
-use Rattle.module_restore.specs.Restores.{LoadStep, LoadStepLooksAt, ReloadLooksAt, ReloadStep, RestoreLooksAt, RestoreStep, both, searching}
-use Rattle.module_restore.specs.Views.{IsUnsaid, named, loaded_names}
-use Rattle.module_restore.specs.declared.fault.RestoreFault.{RestoreFault}
-use Rattle.module_restore.specs.declared.fault.RestoreFault.TheVariants.{Refused, Unprinted}
+use Rattle.module_auto.specs.Answers.{IsRequestFault, Outcomes}
+use Rattle.module_auto.specs.Views.{IsUnsaid}
+use Rattle.module_restore.specs.Answers.{IsRestored}
+use Rattle.module_restore.specs.Restores.{LoadStep, LoadStepLooksAt, ReloadLooksAt, ReloadStep, ReplacingLooksAt, ReplacingStep, RestoreLooksAt, RestoreStep, both, searching}
+use Rattle.module_restore.specs.Views.{named, loaded_names}
+use Rattle.module_auto.specs.declared.fault.RequestFault.{RequestFault}
+use Rattle.module_auto.specs.declared.fault.RequestFault.TheVariants.{Refused, Unprinted}
 use Rattle.module_restore.specs.declared.restoring.Restored.{Restored}
 
 -- want of memory
@@ -31,47 +33,48 @@ memory_applies (because r) failed P h = absurd (cc)
 
 -- ---- the requests, one after the other
 
--- a purge that is refused
-pub purge_refused : (s : RequestContext) (e : Environment) (directories modules : List Text) (r : RequestReason) → RequestStep s e purge (Err r) → RestoreStep s e directories modules (Err r)
-purge_refused s e directories modules r first = (Err r, first, refl)
+-- a first request that is refused
+pub first_refused : (s : RequestContext) (e : Environment) (first : RequestedAction) (directories modules : List Text) (r : RequestReason) → RequestStep s e first (Err r)
+    → ReplacingStep s e first directories modules (Err r)
+first_refused s e first directories modules r refused = (Err r, refused, refl)
 
-module _ (s : RequestContext) (e before : Environment) (directories modules : List Text) (purged : Done) (first : RequestStep s e purge (Ok purged))
-    (searched : before ≡ searching directories purged.env) where
+module _ (s : RequestContext) (e before : Environment) (first : RequestedAction) (directories modules : List Text) (done : Done) (accepted : RequestStep s e first (Ok done))
+    (searched : before ≡ searching directories done.env) where
   -- a load that is refused
-  pub load_refused : (r : RequestReason) → LoadStep s modules before (Err r) → RestoreStep s e directories modules (Err r)
+  pub load_refused : (r : RequestReason) → LoadStep s modules before (Err r) → ReplacingStep s e first directories modules (Err r)
   load_refused r then =
       let P : Environment → Type 0 = λ x. LoadStep s modules x (Err r) in
-      (Ok purged, first, (Err r, subst P searched then, refl))
+      (Ok done, accepted, (Err r, subst P searched then, refl))
 
-  pub load_done : (loaded : Done) → LoadStep s modules before (Ok loaded) → RestoreStep s e directories modules (Ok (both purged loaded))
+  pub load_done : (loaded : Done) → LoadStep s modules before (Ok loaded) → ReplacingStep s e first directories modules (Ok (both done loaded))
   load_done loaded then =
       let P : Environment → Type 0 = λ x. LoadStep s modules x (Ok loaded) in
-      (Ok purged, first, (Ok loaded, subst P searched then, refl))
+      (Ok done, accepted, (Ok loaded, subst P searched then, refl))
 
   -- where the load looks
-  pub load_looks : (at : Text) → LoadStepLooksAt s modules before at → RestoreLooksAt s e directories modules at
+  pub load_looks : (at : Text) → LoadStepLooksAt s modules before at → ReplacingLooksAt s e first directories modules at
   load_looks at then =
       let P : Environment → Type 0 = λ x. LoadStepLooksAt s modules x at in
-      inr (purged, first, subst P searched then)
+      inr (done, accepted, subst P searched then)
 
 -- ---- the answer
 
 -- a text that isn't there
-pub unsaid : (agrees : Files → Listings → Type 0) (failed : Type 0) (shell : Shell) (e new : Environment) (d : Done) (Comes : StepOutcomes) (fault : RestoreFault)
-    → d.env ≡ new → InEachPair agrees (λ files listings. Comes files listings (Ok d)) → IsUnsaid shell e new fault → IsRestoreFault agrees failed shell e Comes fault
+pub unsaid : (agrees : Files → Listings → Type 0) (failed : Type 0) (shell : Shell) (e new : Environment) (d : Done) (Comes : Outcomes) (fault : RequestFault)
+    → d.env ≡ new → InEachPair agrees (λ files listings. Comes files listings (Ok d)) → IsUnsaid shell e new fault → IsRequestFault agrees failed shell e Comes fault
 unsaid agrees failed shell e new d Comes (Refused refusal) made step h =
     memory_applies (cause_of refusal) failed (λ reason. InEachPair agrees (λ files listings. Comes files listings (Err reason))) h
 unsaid agrees failed shell e new d Comes (Unprinted prints.OutOfMemory) made step h = tt
 unsaid agrees failed shell e new d Comes (Unprinted (prints.NotSayable name)) made step h =
     (d, step, subst (λ (x : Environment). LacksText shell e x (string_bytes name)) (sym made) h)
 
-module _ (agrees : Files → Listings → Type 0) (shell : Shell) (e : Environment) (d : Done) (Comes : StepOutcomes) (step : InEachPair agrees (λ files listings. Comes files listings (Ok d))) where
-  pub answered : (result : Result Restored RestoreFault) → IfOk result (λ a. SaysDifference shell (string_bytes a.text) e d.env) → IfOk result (λ a. texts_in a.messages ≡ d.messages)
+module _ (agrees : Files → Listings → Type 0) (shell : Shell) (e : Environment) (d : Done) (Comes : Outcomes) (step : InEachPair agrees (λ files listings. Comes files listings (Ok d))) where
+  pub answered : (result : Result Restored RequestFault) → IfOk result (λ a. SaysDifference shell (string_bytes a.text) e d.env) → IfOk result (λ a. texts_in a.messages ≡ d.messages)
       → IfOk result (λ a. IsRestored agrees shell e Comes (string_bytes a.text) (texts_in a.messages))
   answered (Ok a) said same = (d, step, said, same)
   answered (Err fault) said same = tt
 
-  pub unanswered : (failed : Type 0) (result : Result Restored RestoreFault) → IfErr result (IsUnsaid shell e d.env) → IfErr result (IsRestoreFault agrees failed shell e Comes)
+  pub unanswered : (failed : Type 0) (result : Result Restored RequestFault) → IfErr result (IsUnsaid shell e d.env) → IfErr result (IsRequestFault agrees failed shell e Comes)
   unanswered failed (Ok a) h = tt
   unanswered failed (Err fault) h = unsaid agrees failed shell e d.env d Comes fault refl step h
 
@@ -105,36 +108,36 @@ pub reload_looks : (s : RequestContext) (e : Environment) (names : List Text) (a
 reload_looks s e names at h k = looks_by s e names at (entries_of e) refl h k
 
 -- of wider outcomes
-restored_wider : (agrees : Files → Listings → Type 0) (shell : Shell) (e : Environment) (First Whole : StepOutcomes) (text : Text) (messages : List Text)
+restored_wider : (agrees : Files → Listings → Type 0) (shell : Shell) (e : Environment) (First Whole : Outcomes) (text : Text) (messages : List Text)
     → ((files : Files) (listings : Listings) (o : Result Done RequestReason) → First files listings o → Whole files listings o)
     → IsRestored agrees shell e First text messages → IsRestored agrees shell e Whole text messages
 restored_wider agrees shell e First Whole text messages wider (d, step, said, same) = (d, λ files listings a. wider files listings (Ok d) (step files listings a), said, same)
 
-fault_wider : (agrees : Files → Listings → Type 0) (failed : Type 0) (shell : Shell) (e : Environment) (First Whole : StepOutcomes) (fault : RestoreFault)
+fault_wider : (agrees : Files → Listings → Type 0) (failed : Type 0) (shell : Shell) (e : Environment) (First Whole : Outcomes) (fault : RequestFault)
     → ((files : Files) (listings : Listings) (o : Result Done RequestReason) → First files listings o → Whole files listings o)
-    → IsRestoreFault agrees failed shell e First fault → IsRestoreFault agrees failed shell e Whole fault
+    → IsRequestFault agrees failed shell e First fault → IsRequestFault agrees failed shell e Whole fault
 fault_wider agrees failed shell e First Whole (Refused refusal) wider h =
     stands_as (cause_of refusal) failed failed (λ r. InEachPair agrees (λ files listings. First files listings (Err r))) (λ r. InEachPair agrees (λ files listings. Whole files listings (Err r)))
     (λ q. q) (λ r k files listings a. wider files listings (Err r) (k files listings a)) h
 fault_wider agrees failed shell e First Whole (Unprinted prints.OutOfMemory) wider h = tt
 fault_wider agrees failed shell e First Whole (Unprinted (prints.NotSayable name)) wider (d, step, lacks) = (d, λ files listings a. wider files listings (Ok d) (step files listings a), lacks)
 
-module _ (agrees : Files → Listings → Type 0) (shell : Shell) (e : Environment) (First Whole : StepOutcomes)
+module _ (agrees : Files → Listings → Type 0) (shell : Shell) (e : Environment) (First Whole : Outcomes)
     (wider : (files : Files) (listings : Listings) (o : Result Done RequestReason) → First files listings o → Whole files listings o) where
-  pub answered_wider : (result : Result Restored RestoreFault) → IfOk result (λ a. IsRestored agrees shell e First (string_bytes a.text) (texts_in a.messages))
+  pub answered_wider : (result : Result Restored RequestFault) → IfOk result (λ a. IsRestored agrees shell e First (string_bytes a.text) (texts_in a.messages))
       → IfOk result (λ a. IsRestored agrees shell e Whole (string_bytes a.text) (texts_in a.messages))
   answered_wider (Ok a) h = restored_wider agrees shell e First Whole (string_bytes a.text) (texts_in a.messages) wider h
   answered_wider (Err fault) h = tt
 
-  pub unanswered_wider : (failed : Type 0) (result : Result Restored RestoreFault) → IfErr result (IsRestoreFault agrees failed shell e First)
-      → IfErr result (IsRestoreFault agrees failed shell e Whole)
+  pub unanswered_wider : (failed : Type 0) (result : Result Restored RequestFault) → IfErr result (IsRequestFault agrees failed shell e First)
+      → IfErr result (IsRequestFault agrees failed shell e Whole)
   unanswered_wider failed (Ok a) h = tt
   unanswered_wider failed (Err fault) h = fault_wider agrees failed shell e First Whole fault wider h
 
 -- lists that can't be read
 pub unread_fault : (agrees : Files → Listings → Type 0) (failed : Type 0) (limits : Limits) (shell : Shell) (e : Environment) (refusal : Refusal)
     → Applies (cause_of refusal) ⊥ (λ r. Err r ≡ loaded_names e)
-    → IsRestoreFault agrees failed shell e (λ files listings. ReloadStep (request_context_in limits shell files listings) e) (Refused refusal)
+    → IsRequestFault agrees failed shell e (λ files listings. ReloadStep (request_context_in limits shell files listings) e) (Refused refusal)
 unread_fault agrees failed limits shell e refusal h =
     stands_as (cause_of refusal) ⊥ failed (λ r. Err r ≡ loaded_names e)
     (λ r. InEachPair agrees (λ files listings. ReloadStep (request_context_in limits shell files listings) e (Err r))) (λ q. absurd q)

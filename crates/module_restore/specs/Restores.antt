@@ -8,7 +8,7 @@ use Rattle.module_words.specs.modulepath.Edits.{with_path}
 use Rattle.filetree.specs.Relations.{Is, ◌>>◌}
 use Rattle.requests.specs.Looked.{LooksInTurn, RequestLooksAt}
 use Rattle.requests.specs.Reasons.{RequestReason}
-use Rattle.requests.specs.Requests.{load, purge}
+use Rattle.requests.specs.Requests.{RequestedAction, load, purge, unload}
 use Rattle.requests.specs.Steps.{RequestContext, Done, RequestStep, entries_of, nothing_done}
 
 -- MODULEPATH with this text; without a text it stays
@@ -35,14 +35,24 @@ both first second =
       report = first.report ++ second.report;
     }
 
--- The step of a restore: a purge, then a change of MODULEPATH to the directories, and then the load of the modules.
--- Each is accepted, or the reason of the first that isn't is that of the whole.
+-- A first request, then a change of MODULEPATH to the directories, and then the load of the modules. Each is accepted,
+-- or the reason of the first that isn't is that of the whole.
+abbrev pub ReplacingStep : RequestContext → Environment → RequestedAction → (directories modules : List Text)
+    → Result Done RequestReason → Type 0
+ReplacingStep s e first directories modules =
+    RequestStep s e first >> (λ done.
+    LoadStep s modules (searching directories done.env) >> (λ loaded.
+    Is (Ok (both done loaded))))
+
+-- The step of a restore: a purge goes first.
 abbrev pub RestoreStep : RequestContext → Environment → (directories modules : List Text) → Result Done RequestReason
     → Type 0
-RestoreStep s e directories modules =
-    RequestStep s e purge >> (λ purged.
-    LoadStep s modules (searching directories purged.env) >> (λ loaded.
-    Is (Ok (both purged loaded))))
+RestoreStep s e directories modules = ReplacingStep s e purge directories modules
+
+-- The step of an exchange: the unload of some names, and then the load of others.
+abbrev pub ExchangeStep : RequestContext → Environment → (unloads loads : List Text) → Result Done RequestReason
+    → Type 0
+ExchangeStep s e unloads loads = ReplacingStep s e (unload unloads) [] loads
 
 -- The step of a reload: that of a restore of the modules that are loaded, in load order, where MODULEPATH stays.
 abbrev pub ReloadStep : RequestContext → Environment → Result Done RequestReason → Type 0
@@ -52,11 +62,19 @@ ReloadStep s e = Is (entries_of e) >> (λ entries. RestoreStep s e [] (names_of 
 abbrev pub LoadStepLooksAt : RequestContext → List Text → Environment → Text → Type 0
 LoadStepLooksAt s names e at = RequestLooksAt s e (load names) at
 
--- A restore looks at this path: the purge does, or the load in what the purge comes to.
+-- Such a step looks at this path: the first request does, or the load in what the former comes to.
+abbrev pub ReplacingLooksAt : RequestContext → Environment → RequestedAction → (directories modules : List Text) → Text
+    → Type 0
+ReplacingLooksAt s e first directories modules =
+    LooksInTurn (RequestLooksAt s e first) (λ done. RequestStep s e first (Ok done))
+    (λ done. LoadStepLooksAt s modules (searching directories done.env))
+
+-- A restore and an exchange look where these do.
 abbrev pub RestoreLooksAt : RequestContext → Environment → (directories modules : List Text) → Text → Type 0
-RestoreLooksAt s e directories modules =
-    LooksInTurn (RequestLooksAt s e purge) (λ purged. RequestStep s e purge (Ok purged))
-    (λ purged. LoadStepLooksAt s modules (searching directories purged.env))
+RestoreLooksAt s e directories modules = ReplacingLooksAt s e purge directories modules
+
+abbrev pub ExchangeLooksAt : RequestContext → Environment → (unloads loads : List Text) → Text → Type 0
+ExchangeLooksAt s e unloads loads = ReplacingLooksAt s e (unload unloads) [] loads
 
 -- A reload looks where that restore does.
 abbrev pub ReloadLooksAt : RequestContext → Environment → Text → Type 0

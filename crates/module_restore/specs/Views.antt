@@ -1,22 +1,14 @@
 -- What the values of the code stand for, for the contracts of this crate's private functions (own).
-use Rattle.std.specs.Prelude.{◌≡◌, Option, Some, None, Result, Ok, Err, string_bytes}
+use Rattle.std.specs.Prelude.{List, Option, Some, None, Result, Ok, Err}
 use Rattle.envvars.specs.Environment.{Environment}
 use Rattle.envvars.specs.Texts.{Text}
 use Rattle.envstate.specs.loaded_list.Loaded.{Entry, names_of}
-use Rattle.filetree.specs.Causes.{memory}
 use Rattle.requests.specs.Reasons.{RequestReason}
 use Rattle.requests.specs.Steps.{Done, entries_of, nothing_done}
-use Rattle.shelltext.specs.declared.print.PrintFault.TheVariants as prints
-use Rattle.shelltext.specs.declared.shell.Shell.{Shell}
-use Rattle.modules.specs.Answers.{cause_of}
 use Rattle.modules.specs.Views.{done_view}
 use Rattle.modules.specs.declared.done.RequestResults.{RequestResults}
-use Rattle.shelltext.specs.Printing.{LacksText}
 use Rattle.module_restore.specs.Restores.{both}
-use Rattle.module_restore.specs.declared.fault.RestoreFault.{RestoreFault}
-use Rattle.module_restore.specs.declared.fault.RestoreFault.TheVariants.{Refused, Unprinted}
 use Rattle.module_restore.specs.declared.running.RestoreRun.{RestoreRun}
-use Rattle.std.specs.Prelude.{List}
 
 -- what a load has done, if there was one, with the environment that results
 abbrev pub loading_view : Environment → Option RequestResults → Done
@@ -35,9 +27,3 @@ named (Err reason) = Err reason
 -- the names of the loaded modules, or the reason that the loaded lists don't fit together
 abbrev pub loaded_names : Environment → Result (List Text) RequestReason
 loaded_names e = named (entries_of e)
-
--- why there is no text of the difference: want of memory, or no text says it
-abbrev pub IsUnsaid : Shell → (old new : Environment) → RestoreFault → Type 0
-IsUnsaid shell old new (Refused refusal) = cause_of refusal ≡ memory
-IsUnsaid shell old new (Unprinted prints.OutOfMemory) = Unit {0}
-IsUnsaid shell old new (Unprinted (prints.NotSayable name)) = LacksText shell old new (string_bytes name)

@@ -1,84 +1,18 @@
-//! Why a restore answers nothing, and why nothing is kept, with the texts.
+//! Why nothing is kept as a collection, with the texts.
 ghost use Rattle.std.specs.Prelude.{◌≡◌, Some};
 ghost use Rattle.message.specs.Messages.{text_of};
-ghost use Rattle.message.specs.Refusals.{numbered_text};
 ghost use Rattle.modules.specs.declared.refusal.Refusal.TheVariants as refusals;
-ghost use Rattle.module_restore.specs.Answers.{keep_message, refusal_of};
-ghost use Rattle.module_restore.specs.declared.fault.RestoreFault.TheVariants as restores;
+ghost use Rattle.module_restore.specs.Answers.{keep_message};
 ghost use Rattle.module_restore.specs.declared.fault.KeepFault.TheVariants as keeps;
 
 use envvars::EnvFault;
-use message::{Message, NumberedMessage};
+use message::Message;
 use module_words::modulepath::ModulePathFault;
 use modules::Refusal;
-use shelltext::PrintFault;
 use std::alloc::AllocError;
 use std::error::Error;
 use std::fmt;
 use std::fmt::Display;
-
-/// Why a restore or a reload answers nothing. Its `Display` is what follows `ERROR: `.
-#[derive(Debug, Drop)]
-pub enum RestoreFault {
-    /// 2 to 56: one of its requests is refused, or memory ran out (31).
-    Refused(Refusal),
-    /// 61 and 62: the changes have no text for the shell.
-    Unprinted(PrintFault),
-}
-
-impl RestoreFault {
-    /// The number of the fault and its text.
-    pub fn numbered(&self) -> NumberedMessage<'_>
-        ensures { numbered_text result ≡ refusal_of self.now }
-    {
-        match self {
-            RestoreFault::Refused(refusal) => refusal.numbered(),
-            RestoreFault::Unprinted(fault) => fault.numbered(),
-        }
-    }
-}
-
-impl fmt::Display for RestoreFault {
-    ghost output = { λ fault. Some (refusal_of fault).text };
-
-    fn fmt<W: fmt::Write>(&self, f: &mut fmt::Formatter<W>) -> fmt::Result {
-        self.numbered().message.fmt(f)
-    }
-}
-
-impl Error for RestoreFault {}
-
-impl From<Refusal> for RestoreFault {
-    ghost from_gives = { λ refusal e. e ≡ restores.Refused refusal };
-
-    fn from(refusal: Refusal) -> RestoreFault {
-        RestoreFault::Refused(refusal)
-    }
-}
-
-impl From<PrintFault> for RestoreFault {
-    ghost from_gives = { λ fault e. e ≡ restores.Unprinted fault };
-
-    fn from(fault: PrintFault) -> RestoreFault {
-        RestoreFault::Unprinted(fault)
-    }
-}
-
-impl From<EnvFault> for RestoreFault {
-    ghost from_gives = { λ fault e. e ≡ restores.Refused (refusals.Env fault) };
-
-    fn from(fault: EnvFault) -> RestoreFault {
-        RestoreFault::Refused(Refusal::Env(fault))
-    }
-}
-
-impl From<AllocError> for RestoreFault {
-    ghost from_gives = { λ _ e. e ≡ restores.Refused refusals.OutOfMemory };
-
-    fn from(_e: AllocError) -> RestoreFault {
-        RestoreFault::Refused(Refusal::OutOfMemory)
-    }
-}
 
 /// Why nothing can be kept as a collection. Its `Display` is what follows `ERROR: `.
 #[derive(Debug, Drop)]

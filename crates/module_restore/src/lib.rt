@@ -8,6 +8,6 @@ mod loaded;
 mod restoring;
 mod running;
 
-pub use fault::{KeepFault, RestoreFault};
+pub use fault::KeepFault;
 pub use keeping::collection_of;
-pub use restoring::{Restored, reload, restore};
+pub use restoring::{Restored, exchange, reload, restore};

@@ -3,19 +3,25 @@ ghost use Rattle.std.specs.Prelude.{◌≡◌, ◌<◌, ◌++◌, [], IfErr, IfO
 ghost use Rattle.envvars.specs.Texts.{texts_in};
 ghost use Rattle.filetree.specs.Agreement.{FailsOnlyAt, ReadsOn};
 ghost use Rattle.requests.specs.Steps.{request_context_in};
-ghost use Rattle.shelltext.specs.Reading.{SaysDifference};
-ghost use Rattle.module_restore.specs.Answers.{IsRestoreFault, IsRestored};
+ghost use Rattle.envvars.specs.Changes.{new_values_in};
+ghost use Rattle.shelltext.specs.Reading.{SaysDifference, TextSays};
+ghost use Rattle.module_auto.specs.Answers.{IsRequestFault};
+ghost use Rattle.module_auto.specs.Views.{IsUnsaid};
+ghost use Rattle.module_restore.specs.Answers.{IsRestored};
 ghost use Rattle.module_restore.specs.Restores.{ReloadLooksAt, ReloadStep, RestoreLooksAt, RestoreStep};
+ghost use Rattle.module_restore.specs.Restores.{ExchangeLooksAt, ExchangeStep};
+ghost use Rattle.std.specs.Prelude.{map};
 ghost use Rattle.envvars.specs.Environment.{Environment};
-ghost use Rattle.module_restore.specs.Views.{IsUnsaid, loading_view, run_view};
+ghost use Rattle.module_restore.specs.Views.{loading_view, run_view};
 
-use crate::fault::RestoreFault;
 use crate::loaded::loaded_names;
 use crate::running::{RestoreRun, run_restore};
-use envvars::{Env, changes};
+use envvars::{Change, Env, changes};
 use filetree::Tree;
+use message::texts::copies;
+use module_auto::RequestFault;
 use module_collections::texts::Collection;
-use modules::RequestResults;
+use modules::{Action, Request, RequestResults};
 use shelltext::{Shell, print_changes};
 use std::alloc::{AllocError, Global};
 use tclrules::Limits;
@@ -25,17 +31,26 @@ use tclrules::Limits;
 pub struct Restored {
     /// The text for the shell.
     pub text: String,
+    /// The changes that the text says.
+    pub changes: Vec<Change>,
     /// The messages of the modulefiles, in order: of those that were unloaded, and then of those that were loaded.
     pub messages: Vec<String>,
 }
 
-/// The text for the shell of what the run has changed in the environment.
-fn text_of(alloc: Global, shell: Shell, env: &Env, new: &Env) -> Result<String, RestoreFault>
-    ensures said { IfOk result (λ text. SaysDifference shell (string_bytes text) env.now new.now) }
+/// The text for the shell of what the run has changed in the environment, and the changes.
+fn text_of(
+    alloc: Global,
+    shell: Shell,
+    env: &Env,
+    new: &Env,
+) -> Result<(String, Vec<Change>), RequestFault>
+    ensures said { IfOk result (λ p. SaysDifference shell (string_bytes p.0) env.now new.now) }
+    ensures changes { IfOk result (λ p. TextSays shell (string_bytes p.0) (new_values_in p.1)) }
     ensures fault { IfErr result (IsUnsaid shell env.now new.now) }
 {
     let difference = changes(alloc, env, new)?;
-    Ok(print_changes(alloc, shell, difference.as_slice())?)
+    let text = print_changes(alloc, shell, difference.as_slice())?;
+    Ok((text, difference))
 }
 
 /// All messages of a run.
@@ -60,8 +75,9 @@ fn answer_of(
     shell: Shell,
     env: &Env,
     run: RestoreRun,
-) -> Result<Restored, RestoreFault>
+) -> Result<Restored, RequestFault>
     ensures said { IfOk result (λ a. SaysDifference shell (string_bytes a.text) env.now (run_view run).env) }
+    ensures changes { IfOk result (λ a. TextSays shell (string_bytes a.text) (new_values_in a.changes)) }
     ensures messages { IfOk result (λ a. texts_in a.messages ≡ (run_view run).messages) }
     ensures fault { IfErr result (IsUnsaid shell env.now (run_view run).env) }
 {
@@ -70,9 +86,13 @@ fn answer_of(
         unloads,
         loads,
     } = run;
-    let text = text_of(alloc, shell, env, &new)?;
+    let (text, changes) = text_of(alloc, shell, env, &new)?;
     let messages = messages_of(unloads, loads)?;
-    Ok(Restored { text, messages })
+    Ok(Restored {
+        text,
+        changes,
+        messages,
+    })
 }
 
 /// Does what `restore` does with a collection: a purge, then MODULEPATH becomes the collection's directories (it stays
@@ -91,15 +111,16 @@ pub fn restore<T: Tree>(
     env: &Env,
     tree: &mut T,
     limits: Limits,
-) -> Result<Restored, RestoreFault>
+) -> Result<Restored, RequestFault>
     ensures reads { ReadsOn T.agrees T.failures tree.old tree.new }
     ensures restored { IfOk result (λ a.
         IsRestored (T.agrees tree.new) shell env.now
         (λ files listings. RestoreStep (request_context_in limits shell files listings) env.now
         (texts_in collection.now.directories) (texts_in collection.now.modules))
         (string_bytes a.text) (texts_in a.messages)) }
+    ensures changes { IfOk result (λ a. TextSays shell (string_bytes a.text) (new_values_in a.changes)) }
     ensures refused { IfErr result (
-        IsRestoreFault (T.agrees tree.new) (T.failures tree.old < T.failures tree.new) shell env.now
+        IsRequestFault (T.agrees tree.new) (T.failures tree.old < T.failures tree.new) shell env.now
         (λ files listings. RestoreStep (request_context_in limits shell files listings) env.now
         (texts_in collection.now.directories) (texts_in collection.now.modules))) }
     ensures failed { FailsOnlyAt T.agrees T.failed tree.old tree.new (λ files listings.
@@ -108,7 +129,11 @@ pub fn restore<T: Tree>(
 {
     let directories = collection.directories.as_slice();
     let modules = collection.modules.as_slice();
-    let run = run_restore(alloc, shell, directories, modules, env, tree, limits)?;
+    let purge = Request {
+        shell,
+        action: Action::Purge,
+    };
+    let run = run_restore(alloc, &purge, directories, modules, env, tree, limits)?;
     answer_of(alloc, shell, env, run)
 }
 
@@ -120,14 +145,15 @@ pub fn reload<T: Tree>(
     env: &Env,
     tree: &mut T,
     limits: Limits,
-) -> Result<Restored, RestoreFault>
+) -> Result<Restored, RequestFault>
     ensures reads { ReadsOn T.agrees T.failures tree.old tree.new }
     ensures restored { IfOk result (λ a.
         IsRestored (T.agrees tree.new) shell env.now
         (λ files listings. ReloadStep (request_context_in limits shell files listings) env.now)
         (string_bytes a.text) (texts_in a.messages)) }
+    ensures changes { IfOk result (λ a. TextSays shell (string_bytes a.text) (new_values_in a.changes)) }
     ensures refused { IfErr result (
-        IsRestoreFault (T.agrees tree.new) (T.failures tree.old < T.failures tree.new) shell env.now
+        IsRequestFault (T.agrees tree.new) (T.failures tree.old < T.failures tree.new) shell env.now
         (λ files listings. ReloadStep (request_context_in limits shell files listings) env.now)) }
     ensures failed { FailsOnlyAt T.agrees T.failed tree.old tree.new (λ files listings.
         ReloadLooksAt (request_context_in limits shell files listings) env.now) }
@@ -138,4 +164,38 @@ pub fn reload<T: Tree>(
         modules,
     };
     restore(alloc, shell, &loaded, env, tree, limits)
+}
+
+/// Unloads the modules that names mean, and then loads others, as a request each. All is as with `restore`, of which the
+/// first request is an unload in the place of a purge, and MODULEPATH is only what these make of it.
+pub fn exchange<T: Tree>(
+    alloc: Global,
+    shell: Shell,
+    unloads: &[String],
+    loads: &[String],
+    env: &Env,
+    tree: &mut T,
+    limits: Limits,
+) -> Result<Restored, RequestFault>
+    ensures reads { ReadsOn T.agrees T.failures tree.old tree.new }
+    ensures exchanged { IfOk result (λ a.
+        IsRestored (T.agrees tree.new) shell env.now
+        (λ files listings. ExchangeStep (request_context_in limits shell files listings) env.now
+        (map string_bytes unloads.now) (map string_bytes loads.now))
+        (string_bytes a.text) (texts_in a.messages)) }
+    ensures changes { IfOk result (λ a. TextSays shell (string_bytes a.text) (new_values_in a.changes)) }
+    ensures refused { IfErr result (
+        IsRequestFault (T.agrees tree.new) (T.failures tree.old < T.failures tree.new) shell env.now
+        (λ files listings. ExchangeStep (request_context_in limits shell files listings) env.now
+        (map string_bytes unloads.now) (map string_bytes loads.now))) }
+    ensures failed { FailsOnlyAt T.agrees T.failed tree.old tree.new (λ files listings.
+        ExchangeLooksAt (request_context_in limits shell files listings) env.now
+        (map string_bytes unloads.now) (map string_bytes loads.now)) }
+{
+    let unload = Request {
+        shell,
+        action: Action::Unload(copies(alloc, unloads)?),
+    };
+    let run = run_restore(alloc, &unload, &[], loads, env, tree, limits)?;
+    answer_of(alloc, shell, env, run)
 }

@@ -3,8 +3,9 @@ ghost use Rattle.std.specs.Prelude.{◌≡◌, ◌<◌, map, string_bytes, IfErr
 ghost use Rattle.filetree.specs.Agreement.{FailsAt, InEachPair, ReadsOn};
 ghost use Rattle.filetree.specs.Causes.{memory};
 ghost use Rattle.requests.specs.Steps.{request_context_in};
+ghost use Rattle.requests.specs.RequestViews.{action_view};
 ghost use Rattle.modules.specs.Answers.{StepAnswersOverTree, cause_of, is_failure};
-ghost use Rattle.module_restore.specs.Restores.{LoadStep, LoadStepLooksAt, RestoreLooksAt, RestoreStep, searching};
+ghost use Rattle.module_restore.specs.Restores.{LoadStep, LoadStepLooksAt, ReplacingLooksAt, ReplacingStep, searching};
 ghost use Rattle.module_restore.specs.Views.{loading_view, run_view};
 
 use envvars::fields::{slices, text_of_elements};
@@ -24,7 +25,7 @@ pub(crate) const MODULEPATH: &str = "MODULEPATH";
 pub(crate) struct RestoreRun {
     /// The environment that results.
     pub(crate) env: Env,
-    /// What the purge did besides.
+    /// What the first request did besides.
     pub(crate) unloads: RequestResults,
     /// What the load did besides, where there was one.
     pub(crate) loads: Option<RequestResults>,
@@ -70,10 +71,10 @@ fn load_modules<T: Tree>(
     Ok(Some(make_changes(alloc, &request, env, tree, limits)?))
 }
 
-/// Unloads all modules, has these directories searched, and loads these modules, in a copy of the environment.
+/// Makes a first request, has these directories searched, and loads these modules, in a copy of the environment.
 pub(crate) fn run_restore<T: Tree>(
     alloc: Global,
-    shell: Shell,
+    first: &Request,
     directories: &[String],
     modules: &[String],
     env: &Env,
@@ -83,21 +84,17 @@ pub(crate) fn run_restore<T: Tree>(
     ensures reads { ReadsOn T.agrees T.failures tree.old tree.new }
     ensures over_tree { StepAnswersOverTree (T.agrees tree.new) (T.failures tree.old < T.failures tree.new)
         run_view result
-        (λ files listings. RestoreStep (request_context_in limits shell files listings) env.now
-        (map string_bytes directories.now) (map string_bytes modules.now)) }
+        (λ files listings. ReplacingStep (request_context_in limits first.now.shell files listings) env.now
+        (action_view first.now.action) (map string_bytes directories.now) (map string_bytes modules.now)) }
     ensures failed { FailsAt is_failure (T.failed tree.old) (T.failed tree.new) result (λ at.
         InEachPair (T.agrees tree.new) (λ files listings.
-        RestoreLooksAt (request_context_in limits shell files listings) env.now
-        (map string_bytes directories.now) (map string_bytes modules.now) at)) }
+        ReplacingLooksAt (request_context_in limits first.now.shell files listings) env.now
+        (action_view first.now.action) (map string_bytes directories.now) (map string_bytes modules.now) at)) }
 {
     let mut after = env.copy()?;
-    let purge = Request {
-        shell,
-        action: Action::Purge,
-    };
-    let unloads = make_changes(alloc, &purge, &mut after, tree, limits)?;
+    let unloads = make_changes(alloc, first, &mut after, tree, limits)?;
     search_in(alloc, &mut after, directories)?;
-    let loads = load_modules(alloc, shell, modules, &mut after, tree, limits)?;
+    let loads = load_modules(alloc, first.shell, modules, &mut after, tree, limits)?;
     Ok(RestoreRun {
         env: after,
         unloads,

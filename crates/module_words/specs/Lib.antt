@@ -1,3 +1,4 @@
 pub mod subcommands
 pub mod function
 pub mod modulepath
+pub mod protocol

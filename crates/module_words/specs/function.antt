@@ -4,3 +4,6 @@ pub mod Answers
 pub mod Outputs
 pub mod Sites
 pub mod Views
+pub mod Asked
+pub mod Moved
+pub mod Advice

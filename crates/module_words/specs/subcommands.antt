@@ -4,3 +4,4 @@ pub mod Views
 pub mod Nearness
 pub mod Meanings
 pub mod Faults
+pub mod Elsewhere

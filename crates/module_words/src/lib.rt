@@ -4,4 +4,5 @@
 
 pub mod function;
 pub mod modulepath;
+pub mod protocol;
 pub mod subcommands;

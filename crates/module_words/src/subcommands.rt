@@ -7,11 +7,15 @@ mod laws;
 mod meaning;
 mod nearness;
 mod options;
+mod other_tools;
 mod table;
+mod usage;
 
 pub use fault::WordFault;
 pub use laws::words_mean;
 pub use meaning::subcommand_of;
 pub use nearness::differ_by_one;
 pub use options::{CommandOption, OptionName, option_of, options_of};
+pub use other_tools::elsewhere;
 pub use table::{Subcommand, SubcommandName, subcommand_names};
+pub use usage::{USAGE, VERSION};

@@ -2,3 +2,4 @@
 pub mod Shown
 pub mod Tables
 pub mod CellViews
+pub mod Bytes

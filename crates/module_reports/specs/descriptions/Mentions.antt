@@ -1,4 +1,4 @@
--- Whether a report mentions a text (own). Small letters of ASCII and capitals are alike; other letters are as they are.
+-- Whether a report mentions a text, of which each is in small letters of ASCII when it comes here (own).
 use Rattle.std.specs.Prelude.{Bool, ◌==◌, ◌||◌, [], ◌∷◌, map, nat_eq}
 use Rattle.std.specs.List.{after_first, before_first, list_any, slice_split, starts_with}
 use Rattle.std.specs.Char.{to_ascii_lowercase}

@@ -11,13 +11,14 @@ ghost use Rattle.module_reports.specs.completions.Offered as spec;
 
 use crate::completions::kind::NameKind;
 use crate::completions::offered::{ask_for_modules, offered};
+use crate::completions::readable::readable_names;
 use crate::listings::readable_modules;
 use envvars::Env;
 use filetree::hiding::HidingTree;
 use filetree::{Tree, TreeFault};
 use lookup::EvaluatedDefaultFiles;
 use requests::modulepath;
-use search::{DirectoryListing, ListingEntry};
+use search::{DirectoryListing, ListingEntry, directories};
 use std::alloc::{AllocError, Global};
 use tclrules::Limits;
 
@@ -33,18 +34,6 @@ fn is_quoted(word: &str) -> bool
     ensures { result ≡ spec.is_quoted word.now }
 {
     word.as_bytes().iter().any(|byte| is_quote(*byte))
-}
-
-/// The texts with which the names of modules begin: the word, but none where it is typed with quotes, since the shell
-/// takes those that begin with what it means.
-fn searched(alloc: Global, word: &str) -> Result<Vec<String>, AllocError>
-    ensures { IfOk result (λ v. texts_in v ≡ spec.searched word.now) }
-{
-    if is_quoted(word) {
-        return Ok(Vec::new(alloc));
-    }
-    let word = String::from_str(alloc, word)?;
-    Ok(vec![in alloc; word]?)
 }
 
 /// Adds the names of modules.
@@ -73,8 +62,63 @@ fn names_in(alloc: Global, listings: &[DirectoryListing]) -> Result<Vec<String>,
     Ok(names)
 }
 
-/// The names of some kinds, in turn, each once; of the modules that can be loaded those that begin with a word. What can't
-/// be read is left out. Collections lie on the disk, where this crate doesn't look: there are none.
+/// The names of all modules along MODULEPATH, in the order of `avail`. What can't be read is left out.
+fn listed_names<T: Tree + Drop>(
+    alloc: Global,
+    env: &Env,
+    tree: &mut HidingTree<T>,
+    limits: Limits,
+) -> Result<Vec<String>, TreeFault>
+    ensures cause { FailsOnlyByDevice (T.failures tree.old.tree) (T.failures tree.new.tree) result }
+    ensures given_up { IsErrOf result faults.Device → 1000 ≤ T.failures tree.new.tree }
+    ensures listed { IfOk result (λ names. spec.AreListed (HasResult limits) (T.agrees tree.new.tree)
+        (T.failed tree.new.tree) (T.failures tree.old.tree) (T.failures tree.new.tree) env.now (texts_in names)) }
+{
+    let default_files = EvaluatedDefaultFiles { limits };
+    let readable = readable_modules(alloc, tree, &default_files, &[], modulepath(env))?;
+    Ok(names_in(alloc, &readable.listings)?)
+}
+
+/// The names along MODULEPATH for a word. What can't be read is left out.
+fn named<T: Tree + Drop>(
+    alloc: Global,
+    env: &Env,
+    word: &str,
+    tree: &mut HidingTree<T>,
+) -> Result<Vec<String>, TreeFault>
+    ensures cause { FailsOnlyByDevice (T.failures tree.old.tree) (T.failures tree.new.tree) result }
+    ensures given_up { IsErrOf result faults.Device → 1000 ≤ T.failures tree.new.tree }
+    ensures named { IfOk result (λ names. spec.AreNamed (T.agrees tree.new.tree) (T.failed tree.new.tree)
+        (T.failures tree.old.tree) (T.failures tree.new.tree) env.now word.now (texts_in names)) }
+{
+    let directories = directories(alloc, modulepath(env))?;
+    Ok(readable_names(alloc, tree, directories.as_slice(), word)?.names)
+}
+
+/// The names along MODULEPATH for a word, or of all modules where the word is typed with quotes.
+fn names_for_word<T: Tree + Drop>(
+    alloc: Global,
+    env: &Env,
+    word: &str,
+    tree: &mut HidingTree<T>,
+    limits: Limits,
+) -> Result<Vec<String>, TreeFault>
+    ensures cause { FailsOnlyByDevice (T.failures tree.old.tree) (T.failures tree.new.tree) result }
+    ensures given_up { IsErrOf result faults.Device → 1000 ≤ T.failures tree.new.tree }
+    ensures named { IfOk result (λ names. spec.AreForWord (spec.is_quoted word.now) (HasResult limits)
+        (T.agrees tree.new.tree) (T.failed tree.new.tree) (T.failures tree.old.tree) (T.failures tree.new.tree)
+        env.now word.now (texts_in names)) }
+{
+    if is_quoted(word) {
+        return listed_names(alloc, env, tree, limits);
+    }
+    named(alloc, env, word, tree)
+}
+
+/// The names of some kinds, in turn, each once. For modules that can be loaded these are the names of folders and files
+/// that begin with a word, and no file is opened. A word that is typed with quotes means another text, and then it is all
+/// modules, of which the shell takes its own. What can't be read is left out. Collections lie on the disk, where this crate
+/// doesn't look: there are none.
 ///
 /// It fails with `Device` only where the device failed in this call, and a thousand times in all, and for want of memory.
 pub fn names_offered<T: Tree + Drop>(
@@ -94,9 +138,6 @@ pub fn names_offered<T: Tree + Drop>(
     if !ask_for_modules(kinds) {
         return Ok(offered(alloc, env, &[], kinds)?);
     }
-    let default_files = EvaluatedDefaultFiles { limits };
-    let texts = searched(alloc, word)?;
-    let readable = readable_modules(alloc, tree, &default_files, &texts, modulepath(env))?;
-    let available = names_in(alloc, &readable.listings)?;
-    Ok(offered(alloc, env, &available, kinds)?)
+    let available = names_for_word(alloc, env, word, tree, limits)?;
+    Ok(offered(alloc, env, available.as_slice(), kinds)?)
 }

@@ -1,9 +1,13 @@
 //! Reports on a terminal: headings, and names in columns or one a line, with marks.
 ghost use Rattle.std.specs.Prelude.{◌≡◌, ◌++◌, map, flat_map, IfOk, OnOk, string_bytes};
 ghost use Rattle.terminal.specs.text.CellViews.{cell_view};
+ghost use Rattle.envvars.specs.Environment.{lookup};
+ghost use Rattle.module_reports.specs.listings.Places as places;
 ghost use Rattle.module_reports.specs.listings.Reports as spec;
 ghost use Rattle.module_reports.specs.listings.Views.{name_view, part_view};
 
+use envvars::Env;
+use module_words::protocol::{Asker, Place, Screen, has_colours};
 use std::alloc::{AllocError, Global};
 use terminal::text::{Cell, push_table, shown};
 use unicode_width::UnicodeWidthStr;
@@ -15,6 +19,32 @@ pub struct Terminal {
     pub width: u16,
     /// Whether it shows colours.
     pub coloured: bool,
+}
+
+/// How many columns a terminal has that doesn't say it.
+const USUAL_WIDTH: u16 = 80;
+
+/// How many columns a terminal of this size has.
+fn width_of(screen: Option<Screen>) -> u16
+    ensures { result ≡ places.width_of screen }
+{
+    match screen {
+        Some(screen) => screen.columns.min(u16::MAX as u32) as u16,
+        None => USUAL_WIDTH,
+    }
+}
+
+/// The terminal on which a report is shown that goes to a place, where it goes to one: a script sees no colours.
+pub fn terminal_at(asker: Asker, env: &Env, place: Place) -> Option<Terminal>
+    ensures { result ≡ places.terminal_at asker (lookup env.now) place }
+{
+    match place {
+        Place::Terminal(screen) => Some(Terminal {
+            width: width_of(screen),
+            coloured: asker != Asker::Script && has_colours(env),
+        }),
+        _ => None,
+    }
 }
 
 /// A name in a report.

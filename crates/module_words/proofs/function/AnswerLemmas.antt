@@ -1,5 +1,5 @@
 -- Edits, and what is printed of an answer.
-use Rattle.std.proofs.Common.{◌≡◌, ℕ, true, false, List, [], String, ap, subst, ◌∙◌, Option, Result, Ok}
+use Rattle.std.proofs.Common.{◌≡◌, ℕ, true, false, List, [], String, ap, subst, ◌∙◌, Option, Ok}
 use Rattle.std.specs.declared.alloc.Global.{Global}
 use Rattle.std.specs.declared.vec.Vec.{Vec}
 use Rattle.envvars.specs.Texts.{Text, texts_in}
@@ -12,10 +12,9 @@ use Rattle.shelltext.specs.declared.shell.Shell.{Shell}
 use Rattle.module_words.specs.modulepath.Edits.{unused_text, used_text, with_path}
 use Rattle.module_words.specs.modulepath.ModulePaths.{modulepath}
 use Rattle.module_words.specs.modulepath.Words.{each, holdable, named}
-use Rattle.module_words.specs.function.Answers.{Answer, makes, subcommand_is, truth, made, unused, unused_by, used, used_at, with_these, without_these}
-use Rattle.module_words.specs.function.Faults.{FunctionReason}
+use Rattle.module_words.specs.function.Answers.{Answer, Answered, makes, truth, made, unused, unused_by, used, used_at, with_these, without_these}
 use Rattle.module_words.specs.function.Options.{words_to_unuse, words_to_use}
-use Rattle.module_words.specs.function.Outputs.{IsCaused, IsOutput, name_line, status_of}
+use Rattle.module_words.specs.function.Outputs.{IsCaused, IsOutput, status_of}
 use Rattle.module_words.specs.function.Views.{IsAnswer, IsPrinted, IsUnprinted, added_in, status_in}
 use Rattle.module_words.specs.declared.function.output_fault.OutputFault.TheVariants.{Unprinted}
 use Rattle.shelltext.specs.declared.print.PrintFault.{PrintFault}
@@ -59,24 +58,17 @@ pub output_made : (shell : Shell) (a : code.Answer) (b : Answer) (text : Text) (
     → added ≡ added_in a → IsOutput shell b text status added
 output_made shell (answers.Changes changes paths) (makes old new directories) text status added h p q t =
     (record { changes = new_values_in changes; exact = h.0; says = p }, q, t ∙ h.1)
-output_made shell (answers.Changes changes paths) (subcommand_is s) text status added h p q t = absurd h
 output_made shell (answers.Changes changes paths) (truth b) text status added h p q t = absurd h
-output_made shell (answers.Name name) (makes old new directories) text status added h p q t = absurd h
-output_made shell (answers.Name name) (subcommand_is s) text status added h p q t = (p ∙ ap name_line h, q, t)
-output_made shell (answers.Name name) (truth b) text status added h p q t = absurd h
 output_made shell (answers.Truth a) (makes old new directories) text status added h p q t = absurd h
-output_made shell (answers.Truth a) (subcommand_is s) text status added h p q t = absurd h
 output_made shell (answers.Truth true) (truth b) text status added h p q t = (p, q ∙ ap status_of h, t)
 output_made shell (answers.Truth false) (truth b) text status added h p q t = (p, q ∙ ap status_of h, t)
 
 -- changes without a text
-pub unprinted : (shell : Shell) (a : code.Answer) (b : Answer) (outcome : Result (Shell × Answer) FunctionReason) (fault : PrintFault) → outcome ≡ Ok (shell, b) → IsAnswer a b
+pub unprinted : (shell : Shell) (a : code.Answer) (b : Answer) (outcome : Answered) (fault : PrintFault) → outcome ≡ Ok b → IsAnswer a b
     → IsUnprinted shell a fault
-    → IsCaused outcome (Unprinted fault)
+    → IsCaused shell outcome (Unprinted fault)
 unprinted shell a b outcome prints.OutOfMemory is h p = tt
 unprinted shell (answers.Changes changes paths) (makes old new added) outcome (prints.NotSayable name) is h p =
-    (shell, old, new, added, new_values_in changes, is, h.0, p)
-unprinted shell (answers.Changes changes paths) (subcommand_is s) outcome (prints.NotSayable name) is h p = absurd h
+    (old, new, added, new_values_in changes, is, h.0, p)
 unprinted shell (answers.Changes changes paths) (truth b) outcome (prints.NotSayable name) is h p = absurd h
-unprinted shell (answers.Name n) b outcome (prints.NotSayable name) is h p = cc
 unprinted shell (answers.Truth t) b outcome (prints.NotSayable name) is h p = cc

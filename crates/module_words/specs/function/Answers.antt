@@ -22,10 +22,9 @@ use Rattle.module_words.specs.function.Faults.{not_here, no_path}
 use Rattle.module_words.specs.function.Options.{words_to_unuse, words_to_use}
 
 -- what a command answers: of the environment that the shell has, the one that it is to have, with the directories that
--- are searched from then on; a subcommand that a word means; or yes or no
+-- are searched from then on; or yes or no
 pub data Answer : Type 0 where
   makes : (old new : Environment) → (added : List Text) → Answer
-  subcommand_is : Subcommand → Answer
   truth : Bool → Answer
 
 abbrev pub Answered : Type 0
@@ -80,13 +79,6 @@ loaded_among (Some entries) names = Ok (truth (is_one_loaded names entries))
 abbrev pub answer_of_loaded : Environment → List Text → Answered
 answer_of_loaded e names = loaded_among (loaded_in e) names
 
--- what a subcommand with these words answers; other subcommands are another program's
-abbrev pub answer_by : Option Text → Environment → Subcommand → List Text → Answered
-answer_by working e subcommands.Use words = used working e words
-answer_by working e subcommands.Unuse words = unused working e words
-answer_by working e subcommands.IsLoaded words = answer_of_loaded e words
-answer_by working e other words = Err (not_here other)
-
 -- the subcommand that a word means
 abbrev pub meant : Result Subcommand WordReason → Result Subcommand FunctionReason
 meant (Ok subcommand) = Ok subcommand
@@ -95,39 +87,9 @@ meant (Err reason) = Err (means_nothing reason)
 abbrev pub meaning_of : Text → Result Subcommand FunctionReason
 meaning_of word = meant (meaning word)
 
--- a subcommand as an answer
-abbrev pub as_subcommand : Result Subcommand FunctionReason → Answered
-as_subcommand (Ok subcommand) = Ok (subcommand_is subcommand)
-as_subcommand (Err reason) = Err reason
-
--- `subcommand WORD`: which subcommand the word means
-abbrev pub answer_of_word : List Text → Answered
-answer_of_word (word ∷ []) = as_subcommand (meaning_of word)
-answer_of_word words = Err bad_arguments
-
--- the answer of a subcommand, if there is one
-abbrev pub answer_if : Option Text → Environment → Result Subcommand FunctionReason → List Text → Answered
-answer_if working e (Ok subcommand) words = answer_by working e subcommand words
-answer_if working e (Err reason) words = Err reason
-
--- what the words of a command answer, of which the first is the subcommand, or `subcommand`
-abbrev pub answer_to : Option Text → Environment → List Text → Answered
-answer_to working e [] = Err bad_arguments
-answer_to working e (word ∷ words) =
-    if bytes_eq word (codes "subcommand") then answer_of_word words
-    else answer_if working e (meaning_of word) words
-
--- the answer with the shell that it is for
-abbrev pub in_shell : Shell → Answered → Result (Shell × Answer) FunctionReason
-in_shell shell (Ok answer) = Ok (shell, answer)
-in_shell shell (Err reason) = Err reason
-
-abbrev pub for_shell : Option Text → Environment → Text → Option Shell → List Text
-    → Result (Shell × Answer) FunctionReason
-for_shell working e word None words = Err (unknown_shell word)
-for_shell working e word (Some shell) words = in_shell shell (answer_to working e words)
-
--- What a command with these arguments answers: the first names the shell.
-abbrev pub answer_of : Option Text → Environment → List Text → Result (Shell × Answer) FunctionReason
-answer_of working e [] = Err bad_arguments
-answer_of working e (word ∷ words) = for_shell working e word (shell_named word) words
+-- What a subcommand with these words answers; other subcommands are another crate's.
+abbrev pub answer_of : Option Text → Environment → Subcommand → List Text → Answered
+answer_of working e subcommands.Use words = used working e words
+answer_of working e subcommands.Unuse words = unused working e words
+answer_of working e subcommands.IsLoaded words = answer_of_loaded e words
+answer_of working e other words = Err (not_here other)

@@ -1,7 +1,7 @@
 -- Why a command of the function has no answer, with the texts (docs/REFUSALS.md).
 use Rattle.std.specs.Prelude.{◌≡◌, [], codes, Option, Some, None, IfSome, Result, Err}
 use Rattle.std.specs.Option.{option_map}
-use Rattle.message.specs.Messages.{Text, around, quoting}
+use Rattle.message.specs.Messages.{Text, quoting}
 use Rattle.message.specs.Refusals.{about}
 use Rattle.message.specs.declared.refusals.RefusalKind.TheVariants as kinds
 use Rattle.envvars.specs.declared.fault.EnvFault.{EnvFault}
@@ -22,7 +22,6 @@ pub data FunctionReason : Type 0 where
   unknown_shell : (word : Text) → FunctionReason
   means_nothing : WordReason → FunctionReason
   not_here : Subcommand → FunctionReason
-  no_option : (word : Text) → FunctionReason
   no_path : PathReason → FunctionReason
 
 -- the reason of a fault; want of memory is none
@@ -33,7 +32,6 @@ reason_of faults.BadArguments = Some bad_arguments
 reason_of (faults.UnknownShell word) = Some (unknown_shell word.now)
 reason_of (faults.Word fault) = Some (means_nothing (words.reason_of fault))
 reason_of (faults.NotHere subcommand) = Some (not_here subcommand)
-reason_of (faults.NoOption word) = Some (no_option word.now)
 reason_of (faults.Path fault) = option_map no_path (paths.reason_of fault)
 
 -- the reason of a fault is that of the outcome
@@ -48,7 +46,6 @@ message_of faults.BadArguments = (about kinds.BadArguments []).text
 message_of (faults.UnknownShell word) = (about kinds.UnknownShell word.now).text
 message_of (faults.Word fault) = words.message_of (words.reason_of fault)
 message_of (faults.NotHere subcommand) = quoting (codes "This program doesn't do '") (name_of subcommand)
-message_of (faults.NoOption word) = around (codes "'") word.now (codes "' is no option here")
 message_of (faults.Path fault) = paths.message_of fault
 
 -- an edit or a reading of the environment that failed: it is inconsistent, or memory ran out

@@ -3,12 +3,12 @@ use Rattle.std.specs.Prelude.{List, [], ◌∷◌, if◌then◌else◌, Result, 
 use Rattle.message.specs.Messages.{Text}
 use Rattle.envstate.specs.declared.paths.adding.End.{End}
 use Rattle.envstate.specs.declared.paths.adding.End.TheVariants.{Front, Back}
-use Rattle.module_words.specs.subcommands.Meanings.{is_option}
+use Rattle.module_words.specs.subcommands.Meanings.{is_option, no_option}
 use Rattle.module_words.specs.subcommands.Options.{by_option, is_end, option_named}
 use Rattle.module_words.specs.declared.subcommands.options.CommandOption.{CommandOption}
 use Rattle.module_words.specs.declared.subcommands.options.CommandOption.TheVariants as options
 use Rattle.module_words.specs.declared.subcommands.table.Subcommand.TheVariants.{Use}
-use Rattle.module_words.specs.function.Faults.{FunctionReason, bad_arguments, no_option}
+use Rattle.module_words.specs.function.Faults.{FunctionReason, bad_arguments, means_nothing}
 
 -- the end at which an option of `use` puts directories; the other options are none of its own
 abbrev pub end_by : CommandOption → End → End
@@ -28,7 +28,7 @@ for_end end (Err reason) = Err reason
 
 -- words that are no option of the function
 abbrev pub without_option : {X : Type 0} → Text → X → Result X FunctionReason
-without_option word words = if is_option word then Err (no_option word) else Ok words
+without_option word words = if is_option word then Err (means_nothing (no_option word)) else Ok words
 
 -- The end of MODULEPATH and the words for it. Options stand first, the last of them counts, and `--` ends them.
 abbrev pub words_to_use : End → List Text → Result (End × List Text) FunctionReason

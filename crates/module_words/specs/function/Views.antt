@@ -11,11 +11,10 @@ use Rattle.shelltext.specs.declared.print.PrintFault.{PrintFault}
 use Rattle.shelltext.specs.declared.print.PrintFault.TheVariants as prints
 use Rattle.shelltext.specs.Printing.{IsPrintFault}
 use Rattle.shelltext.specs.Reading.{TextSays}
-use Rattle.module_words.specs.function.Answers.{Answer, Answered, makes, subcommand_is, truth}
-use Rattle.module_words.specs.function.Faults.{FunctionReason, HasReason}
+use Rattle.module_words.specs.function.Answers.{Answer, Answered, makes, truth}
+use Rattle.module_words.specs.function.Faults.{HasReason}
 use Rattle.module_words.specs.declared.function.answer.Answer as code
 use Rattle.module_words.specs.declared.function.answer.Answer.TheVariants as answers
-use Rattle.module_words.specs.function.Outputs.{name_line}
 use Rattle.module_words.specs.declared.function.fault.FunctionFault.{FunctionFault}
 
 -- the texts of words
@@ -30,13 +29,8 @@ end_view p = (p.0, texts_of p.1)
 abbrev pub IsAnswer : code.Answer → Answer → Type 0
 IsAnswer (answers.Changes changes added) (makes old new directories) =
     AreChanges old new (new_values_in changes) × (texts_in added ≡ directories)
-IsAnswer (answers.Changes changes added) (subcommand_is s) = ⊥
 IsAnswer (answers.Changes changes added) (truth b) = ⊥
-IsAnswer (answers.Name name) (makes old new directories) = ⊥
-IsAnswer (answers.Name name) (subcommand_is s) = name ≡ s
-IsAnswer (answers.Name name) (truth b) = ⊥
 IsAnswer (answers.Truth a) (makes old new directories) = ⊥
-IsAnswer (answers.Truth a) (subcommand_is s) = ⊥
 IsAnswer (answers.Truth a) (truth b) = a ≡ b
 
 -- the call answered what the definitions have
@@ -44,33 +38,23 @@ abbrev pub Answers : Result code.Answer FunctionFault → Answered → Type 0
 Answers (Ok a) outcome = (b : Answer) × (outcome ≡ Ok b) × IsAnswer a b
 Answers (Err fault) outcome = HasReason fault outcome
 
--- the same of an answer for a shell
-abbrev pub AnswersInShell : Result (Shell × code.Answer) FunctionFault
-    → Result (Shell × Answer) FunctionReason → Type 0
-AnswersInShell (Ok (shell, a)) outcome = (b : Answer) × (outcome ≡ Ok (shell, b)) × IsAnswer a b
-AnswersInShell (Err fault) outcome = HasReason fault outcome
-
 -- the text that is printed for an answer
 abbrev pub IsPrinted : Shell → code.Answer → Text → Type 0
 IsPrinted shell (answers.Changes changes added) text = TextSays shell text (new_values_in changes)
-IsPrinted shell (answers.Name subcommand) text = text ≡ name_line subcommand
 IsPrinted shell (answers.Truth b) text = text ≡ []
 
 -- why an answer has no text
 abbrev pub IsUnprinted : Shell → code.Answer → PrintFault → Type 0
 IsUnprinted shell (answers.Changes changes added) fault = IsPrintFault shell (new_values_in changes) fault
-IsUnprinted shell (answers.Name subcommand) fault = fault ≡ prints.OutOfMemory
 IsUnprinted shell (answers.Truth b) fault = fault ≡ prints.OutOfMemory
 
 -- the status of an answer
 abbrev pub status_in : code.Answer → ℕ
 status_in (answers.Changes changes added) = 0
-status_in (answers.Name subcommand) = 0
 status_in (answers.Truth true) = 0
 status_in (answers.Truth false) = 1
 
 -- the directories that are searched from then on
 abbrev pub added_in : code.Answer → List Text
 added_in (answers.Changes changes added) = texts_in added
-added_in (answers.Name subcommand) = []
 added_in (answers.Truth b) = []

@@ -1,6 +1,5 @@
 //! What a command of the function answers, before anything is printed.
 
-use crate::subcommands::Subcommand;
 use envvars::Change;
 
 /// What a command answers.
@@ -13,8 +12,6 @@ pub(crate) enum Answer {
         /// The directories that are searched from then on, each as often as it was named.
         added: Vec<String>,
     },
-    /// A subcommand, whose name is printed.
-    Name(Subcommand),
     /// Yes or no.
     Truth(bool),
 }

@@ -1,6 +1,6 @@
 //! Why a command of the function has no answer, with the texts.
 ghost use Rattle.std.specs.Prelude.{◌≡◌, Some, codes};
-ghost use Rattle.message.specs.Messages.{around, quoting, text_of};
+ghost use Rattle.message.specs.Messages.{quoting, text_of};
 ghost use Rattle.module_words.specs.subcommands.Subcommands.{name_of};
 ghost use Rattle.module_words.specs.function.Faults.{message_of, of_env};
 ghost use Rattle.module_words.specs.declared.function.fault.FunctionFault.TheVariants.{Path, OutOfMemory};
@@ -8,7 +8,7 @@ ghost use Rattle.module_words.specs.declared.function.fault.FunctionFault.TheVar
 use crate::modulepath::ModulePathFault;
 use crate::subcommands::{Subcommand, WordFault};
 use envvars::EnvFault;
-use message::{Message, RefusalKind, Subject};
+use message::{Message, RefusalKind};
 use std::alloc::{AllocError, AllocFailed};
 use std::error::Error;
 use std::fmt;
@@ -25,25 +25,12 @@ pub enum FunctionFault<'a> {
     BadArguments,
     /// 63: no shell has this name.
     UnknownShell(&'a str),
-    /// The word means no subcommand.
+    /// The word means no subcommand, or is an option that the subcommand doesn't have.
     Word(WordFault<'a>),
     /// This subcommand is another program's.
     NotHere(Subcommand),
-    /// The subcommand has no such option.
-    NoOption(&'a str),
     /// A word names no directory that MODULEPATH can hold, or MODULEPATH would be too long.
     Path(ModulePathFault),
-}
-
-/// The text of an option that isn't known.
-fn option_message(word: &str) -> Message<'_>
-    ensures { text_of result ≡ around (codes "'") word.now (codes "' is no option here") }
-{
-    Message {
-        before: "'",
-        subject: Subject::Name(word),
-        after: "' is no option here",
-    }
 }
 
 /// The text of a subcommand that is another program's.
@@ -68,10 +55,6 @@ impl<'a> FunctionFault<'a> {
             }
             FunctionFault::Word(fault) => fault.message(),
             FunctionFault::NotHere(subcommand) => not_here_message(*subcommand),
-            FunctionFault::NoOption(word) => {
-                let word: &'b str = word;
-                option_message(word)
-            }
             FunctionFault::Path(fault) => fault.message(),
         }
     }

@@ -6,7 +6,7 @@ ghost use Rattle.module_words.specs.function.Options as spec;
 ghost use Rattle.module_words.specs.function.Views.{texts_of, end_view};
 
 use crate::function::fault::FunctionFault;
-use crate::subcommands::{CommandOption, Subcommand, option_of};
+use crate::subcommands::{CommandOption, Subcommand, WordFault, option_of};
 use envstate::paths::End;
 
 /// The words, where there are some.
@@ -49,7 +49,7 @@ pub(crate) fn words_to_use<'a>(
         return words_to_use(end_by(option, end), rest);
     }
     if word.starts_with('-') {
-        return Err(FunctionFault::NoOption(word));
+        return Err(FunctionFault::Word(WordFault::NoOption(word)));
     }
     Ok((end, words))
 }
@@ -66,7 +66,7 @@ pub(crate) fn words_to_unuse<'a>(words: &'a [String]) -> Result<&'a [String], Fu
         return some_words(rest);
     }
     if word.starts_with('-') {
-        return Err(FunctionFault::NoOption(word));
+        return Err(FunctionFault::Word(WordFault::NoOption(word)));
     }
     Ok(words)
 }

@@ -3,7 +3,7 @@ ghost use Rattle.std.specs.Prelude.{◌≡◌, map, IfOk, IfErr, string_bytes};
 ghost use Rattle.std.specs.Option.{option_map};
 ghost use Rattle.envvars.specs.Texts.{texts_in};
 ghost use Rattle.module_words.specs.function.Answers.{answer_of};
-ghost use Rattle.module_words.specs.function.Outputs.{GivesOutput, name_line};
+ghost use Rattle.module_words.specs.function.Outputs.{GivesOutput};
 ghost use Rattle.module_words.specs.function.Views.{IsPrinted, IsUnprinted, added_in, status_in};
 
 use crate::function::answer::Answer;
@@ -25,15 +25,6 @@ pub struct FunctionOutput {
     pub added: Vec<String>,
 }
 
-/// The line with the name of a subcommand.
-fn name_line(alloc: Global, subcommand: Subcommand) -> Result<String, AllocError>
-    ensures { IfOk result (λ text. string_bytes text ≡ name_line subcommand) }
-{
-    let mut text = String::from_str(alloc, subcommand.name())?;
-    text.push('\n')?;
-    Ok(text)
-}
-
 /// The text of an answer for the shell.
 fn text_of(alloc: Global, shell: Shell, answer: &Answer) -> Result<String, PrintFault>
     ensures printed { IfOk result (λ text. IsPrinted shell answer.now (string_bytes text)) }
@@ -41,7 +32,6 @@ fn text_of(alloc: Global, shell: Shell, answer: &Answer) -> Result<String, Print
 {
     match answer {
         Answer::Changes { changes, .. } => print_changes(alloc, shell, changes.as_slice()),
-        Answer::Name(subcommand) => Ok(name_line(alloc, *subcommand)?),
         Answer::Truth(_) => Ok(String::new(alloc)),
     }
 }
@@ -52,7 +42,7 @@ fn status_of(answer: &Answer) -> u8
 {
     match answer {
         Answer::Truth(false) => 1,
-        Answer::Changes { .. } | Answer::Name(_) | Answer::Truth(true) => 0,
+        Answer::Changes { .. } | Answer::Truth(true) => 0,
     }
 }
 
@@ -62,31 +52,30 @@ fn added_by(alloc: Global, answer: Answer) -> Vec<String>
 {
     match answer {
         Answer::Changes { added, .. } => added,
-        Answer::Name(_) => Vec::new(alloc),
         Answer::Truth(_) => Vec::new(alloc),
     }
 }
 
-/// What the command with these arguments prints, with its status: the first names a shell, the others are the words of
-/// the command, and relative directories are taken from the working directory.
+/// What a subcommand with these words prints, with its status: relative directories are taken from the working directory.
 ///
 /// `use` and `unuse` print the text that makes of the environment, as the shell reads it, exactly the one in which
 /// MODULEPATH is the new list, and nothing else differs; of `use` the directories are named besides. `is-loaded` prints
 /// nothing, and its status says whether one of the names means a loaded module, or without names whether there is one.
-/// `subcommand` prints the name of the subcommand that its word means.
 ///
-/// The errors: `Refused`, the words name no shell or no subcommand of this program, or don't fit it, the loaded modules
-/// are inconsistent, or memory ran out; `Unprinted`, the shell has no text for the changes, or memory ran out.
+/// The errors: `Refused`, the subcommand is another one, or the words don't fit it, the loaded modules are inconsistent,
+/// or memory ran out; `Unprinted`, the shell has no text for the changes, or memory ran out.
 pub fn function_output<'a>(
     alloc: Global,
-    args: &'a [String],
+    shell: Shell,
+    subcommand: Subcommand,
+    words: &'a [String],
     env: &Env,
     working: Option<&str>,
 ) -> Result<FunctionOutput, OutputFault<'a>>
-    ensures { GivesOutput result
-        (answer_of (option_map (λ w. w.now) working.entry) env.now (map string_bytes args.entry.now)) }
+    ensures { GivesOutput shell result
+        (answer_of (option_map (λ w. w.now) working.entry) env.now subcommand (map string_bytes words.entry.now)) }
 {
-    let (shell, answer) = answer_of(alloc, args, env, working)?;
+    let answer = answer_of(alloc, subcommand, words, env, working)?;
     let text = text_of(alloc, shell, &answer)?;
     let status = status_of(&answer);
     let added = added_by(alloc, answer);

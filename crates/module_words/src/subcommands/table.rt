@@ -84,6 +84,7 @@ macro_rules! table {
             "swap" => Subcommand::Switch,
             "purge" => Subcommand::Purge,
             "reload" => Subcommand::Reload,
+            "refresh" => Subcommand::Reload,
             "list" => Subcommand::List,
             "avail" => Subcommand::Avail,
             "show" => Subcommand::Show,
@@ -91,6 +92,7 @@ macro_rules! table {
             "whatis" => Subcommand::Whatis,
             "keyword" => Subcommand::Keyword,
             "apropos" => Subcommand::Keyword,
+            "search" => Subcommand::Keyword,
             "is-loaded" => Subcommand::IsLoaded,
             "is-avail" => Subcommand::IsAvail,
             "use" => Subcommand::Use,
@@ -113,7 +115,7 @@ macro_rules! rows {
     ($($name:literal => $subcommand:expr,)*) => { [$(SubcommandName { name: $name, subcommand: $subcommand }),*] };
 }
 
-const ROWS: [SubcommandName; 31] = table!(rows);
+const ROWS: [SubcommandName; 33] = table!(rows);
 
 /// The names of all subcommands.
 #[tactic(auto, unfolding(crate::specs::subcommands::Subcommands::rows))]

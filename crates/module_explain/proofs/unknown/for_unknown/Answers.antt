@@ -4,12 +4,13 @@ use Rattle.envvars.specs.Texts.{Text, slice_texts, texts_in}
 use Rattle.requests.specs.Steps.{modulepath}
 use Rattle.filetree.specs.Agreement.{InEachPair}
 use Rattle.module_explain.specs.Advised.{ForUnknown, IsKnown, question}
-use Rattle.module_explain.specs.Alike.{AreLike}
+use Rattle.module_explain.specs.Alike.{AreLike, others}
 use Rattle.module_explain.proofs.UnknownLemmas.{likes_are_said}
 use Rattle.module_explain.proofs.unknown.for_unknown.Goals as goal
 
 pub returns-clause-fits : goal.returns-clause-fits
 returns-clause-fits g c =
+    let texts : List (String Global) → List Text = λ l. map (λ (s : String Global). string_bytes s) l in
     let before = g.T.Tree.agrees c.is_one_there.new.tree in
     let now = g.T.Tree.agrees c.names_like.new.tree in
     let limits = c.args.refused.limits in
@@ -23,4 +24,5 @@ returns-clause-fits g c =
     c.names_like.ensures.narrows c.in_ok-asked.field-0 (texts_in c.in_ok-names.names) (sym c.is_empty.ensures ∙ c.if-is_empty.false) (c.in_ok-is_one_there.ensures.one c.if-not-branch.false)
     (subst (λ (ds : List Text). InEachPair now (λ files listings. AreLike listings ds c.args.name.now (texts_in c.in_ok-names.names)))
     (ap (λ (l : List (Bor Text)). slice_texts l) c.as_slice-2.ensures.value ∙ c.in_ok-directories.ensures) c.in_ok-names.ensures.like)
-    (subst (λ (l : List (String Global)). IsKnown (question (map (λ (s : String Global). string_bytes s) l)) c.in_ok-asked.field-0) c.as_slice-3.ensures.value c.in_ok-asked.ensures.line))
+    (subst (λ (names : List Text). IsKnown (question names) c.in_ok-asked.field-0)
+    (ap texts c.as_slice-4.ensures.value ∙ (c.in_ok-others.ensures ∙ ap (λ (l : List (String Global)). others c.args.name.now (texts l)) c.as_slice-3.ensures.value)) c.in_ok-asked.ensures.line))

@@ -1,0 +1,5 @@
+use Rattle.module_auto.proofs.said.loading_line.Goals as goal
+
+pub returns : goal.returns
+returns c =
+    rw (c.as_slice.ensures.value, c.as_slice-2.ensures.value, c.in_ok-named.ensures, c.in_ok-more.ensures, c.as_slice-added.ensures.value, c.as_slice-loaded.ensures.value) at c.with_line.ensures

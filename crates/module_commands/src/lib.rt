@@ -1,0 +1,34 @@
+//! What the function `module` does: which call answers its words, what is written where, and the status (module(1)).
+//! Takes memory; reads the files and directories (`Tree`) that it is given; reads, saves and removes collections (`Storage`).
+#![tactic(auto)]
+
+mod after;
+mod answering;
+mod asking;
+mod changing;
+mod collections;
+mod command;
+mod completing;
+mod describing;
+mod editing;
+mod exchanging;
+mod explaining;
+mod lines;
+mod listing;
+mod moving;
+mod program;
+mod refusal;
+mod reply;
+mod reporting;
+mod requesting;
+mod scripts;
+mod site;
+mod writing;
+
+pub use answering::{Answer, answer_to, refusal_line};
+pub use asking::Asking;
+pub use explaining::{Cause, cause_line};
+pub use program::{Program, program_at};
+pub use refusal::Refusal;
+pub use site::Site;
+pub use writing::{Condition, Stream, Writing};
