@@ -4,16 +4,11 @@ use module_commands::{
     Answer, Cause, Condition, Refusal, Stream, Writing, cause_line, refusal_line,
 };
 use std::fs::{self, File};
-use std::io::{self, ErrorKind, IsTerminal, Write};
-use std::os::fd::AsFd;
+use std::io::{ErrorKind, IsTerminal, Result as IoResult, Write};
 use std::os::unix::fs::PermissionsExt;
-use std::process::ChildStdin;
 
-/// Writes to what standard input is open on.
-fn hand_over(rt: &HostRuntime, bytes: &[u8]) -> io::Result<()> {
-    let mut output = ChildStdin::from(rt.stdin().as_fd().try_clone_to_owned()?);
-    output.write_all(bytes)
-}
+/// The descriptor of standard input.
+const INPUT: i32 = 0;
 
 /// Whether something is to be written.
 fn holds(rt: &HostRuntime, condition: &Condition) -> bool {
@@ -30,16 +25,17 @@ fn holds(rt: &HostRuntime, condition: &Condition) -> bool {
     }
 }
 
-/// Writes bytes, where there are some and they are to be written.
-fn write(rt: &HostRuntime, writing: &Writing) -> io::Result<()> {
+/// Writes bytes, where there are some and they are to be written, and says whether all are.
+fn write(rt: &HostRuntime, writing: &Writing) -> bool {
     let bytes = writing.bytes.as_slice();
     if bytes.is_empty() || !holds(rt, &writing.condition) {
-        return Ok(());
+        return true;
     }
     match writing.stream {
-        Stream::Output => rt.stdout().write_all(bytes),
-        Stream::Handed => hand_over(rt, bytes),
-        Stream::Error => rt.stderr().write_all(bytes),
+        Stream::Output => rt.stdout().write_all(bytes).is_ok(),
+        // What is handed over as standard input is the user's standard output, and open for writing.
+        Stream::Handed => io::write_all(INPUT, bytes),
+        Stream::Error => rt.stderr().write_all(bytes).is_ok(),
     }
 }
 
@@ -59,7 +55,7 @@ pub fn say_refusal(rt: &HostRuntime, refusal: &Refusal<'_>) {
 }
 
 /// Opens what is at a path, as reading it does at first.
-fn open(rt: &HostRuntime, path: &str) -> io::Result<()> {
+fn open(rt: &HostRuntime, path: &str) -> IoResult<()> {
     if fs::metadata(rt, path)?.is_dir() {
         fs::read_dir(rt, path)?;
     } else {
@@ -82,7 +78,7 @@ fn cause_at(rt: &HostRuntime, path: &str) -> Cause {
 /// Writes an answer. The status is its own, unless something can't be written that has to be.
 pub fn write_answer(rt: &HostRuntime, answer: &Answer, refused: u8) -> u8 {
     for writing in &answer.writes {
-        if write(rt, writing).is_err() && !answer.is_quiet {
+        if !write(rt, writing) && !answer.is_quiet {
             say_refusal(rt, &Refusal::WriteFailed);
             return refused;
         }
