@@ -48,7 +48,7 @@ def program(built):
 
 
 def without_here(lines, wanted):
-    """The lines, each without its fifth field, what happens here, where the line that is wanted in its place has none."""
+    """The lines, each without its fifth field where the line that is wanted in its place has none."""
     pairs = itertools.zip_longest(lines, wanted[: len(lines)], fillvalue="")
     return [line.rpartition("\t")[0] if (line.count("\t"), other.count("\t")) == (4, 3) else line for line, other in pairs]
 
@@ -208,16 +208,16 @@ def leaves(*names):
     return {"dry_run": "leaves", "variables": list(names)}
 
 
-def refused(what, text):
-    return {"dry_run": f"{what}-refused", "refusal": text}
+def refused(what, text, **place):
+    return {"dry_run": f"{what}-refused", "refusal": text, **place}
 
 
 def loads(name, path):
     return {"dry_run": "another", "name": name, "path": path}
 
 
-# By what happens: modulefiles, the environment, and of each module that has a fifth field its place, the field, and what
-# the document has in its place.
+# By what happens: modulefiles, the environment, and of each module that is tried its place, its fifth field, and what the
+# document has in place of that.
 HERE_ROWS = {
     "it returns": ({"/m/a/1": "is-loaded\nsetenv V x\n"}, {}, [("/m/a/1", "returns", RETURNS)]),
     "an unload that doesn't undo the load": (
@@ -250,7 +250,23 @@ HERE_ROWS = {
     "an unload that is refused": (
         {"/m/a/1": 'if {[module-info mode unload]} {error "not\\tnow"}\n'},
         {},
-        [("/m/a/1", "its unload is refused: not\\tnow (line 2)", refused("unload", "not\tnow (line 2)"))],
+        [
+            (
+                "/m/a/1",
+                "its unload is refused: not\\tnow (line 2)",
+                refused("unload", "not\tnow (line 2)", line=2, path="/m/a/1"),
+            )
+        ],
+    ),
+    "an unload that is refused in a body": (
+        {"/m/a/1": "setenv A x\nif {[module-info mode unload]} {\n    puts stderr y\n    error gone\n}\n"},
+        {},
+        [("/m/a/1", "its unload is refused: gone (line 3)", refused("unload", "gone (line 3)", line=5, path="/m/a/1"))],
+    ),
+    "a load that is refused for the file of another": (
+        {"/m/a/1": "setenv A x\nif 1 {\n    error gone\n}\n", "/n/a/1": "is-loaded\n"},
+        {"MODULEPATH": "/m:/n"},
+        [("/n/a/1", "its load is refused: gone (line 3)", refused("load", "gone (line 3)", line=4, path="/m/a/1"))],
     ),
     "a module that is loaded": (
         {"/m/a/1": "is-loaded\n"},
@@ -300,7 +316,7 @@ def test_what_happens_here(folder, files, variables, rows):
     site = Site(folder, files, **variables)
     for words in ((), ("--quiet",)):
         lines = [line.split("\t") for line in site.run(*words).stdout.decode().splitlines()]
-        found = {line[3]: line[4] for line in lines if len(line) == 5}
+        found = {line[3]: line[4] for line in lines if len(line) == 5 and line[1] != "refused"}
         wanted = real(folder, "\n".join(f"{path}\t{text}" for path, text, _ in rows)).decode()
         same(found, dict(line.split("\t", 1) for line in wanted.splitlines()), "the fifth fields")
         modules = site.document(*words)["modules"]
@@ -314,6 +330,46 @@ def test_what_happens_in_the_directories_of_the_command(folder):
     there = os.fsdecode(real(folder, "/m"))
     lines = ["a/1\texcluded\t--without\t/m/a/1\treturns", "b/1\tunstable\tis-loaded\t/m/b/1\treturns"]
     site.says([*lines, "# 0 certified of 2", "# 1 unstable", "# 1 excluded"], "--without", "a", there)
+
+
+# Where refused files stopped.
+
+# By where that is: the file below its cookie, which is line 1; the refusal; and the line of the innermost command at which
+# the evaluation ended, if it is known. A text of Tcl names the line of the file's own command.
+STOPPED = {
+    "the file's own command": ("setenv A x\nnope\n", 'invalid command name "nope" (line 3)', 3),
+    "the first of a file of one line": ("error gone", "gone (line 2)", 2),
+    "the body of an if": ("if 1 {\n    setenv A x\n    nope\n}\n", 'invalid command name "nope" (line 2)', 4),
+    "the body of an else in a loop": (
+        "foreach x {1 2} {\n    if {$x == 1} {\n        setenv A x\n    } else {\n        exit\n    }\n}\n",
+        "Stopped by the modulefile",
+        6,
+    ),
+    "a procedure": ("proc f {} {\n    nope\n}\nsetenv A x\nf\n", 'invalid command name "nope" (line 6)', 3),
+    "behind a body of several lines": (
+        "if 1 {\n    setenv A x\n    setenv B y\n}\nerror gone\n",
+        "gone (line 6)",
+        6,
+    ),
+    "behind a caught error": ("catch {\n    nope\n}\nerror gone\n", "gone (line 5)", 5),
+    "behind a continued line": ("setenv A \\\n    x\nerror gone\n", "gone (line 4)", 4),
+    "a body that the file has put together": ('set x gone\nif 1 "error $x"\n', "gone (line 3)", 3),
+    "a command with too few words": ("while 1 {\n    setenv A x\n    setenv B\n}\n", "Bad arguments", 4),
+    "a file that is no script": ("setenv A x\nif 1 {\n", "Missing close-brace at byte 25", None),
+}
+
+
+@pytest.mark.parametrize("text, refusal, line", STOPPED.values(), ids=STOPPED)
+def test_where_a_refused_file_stopped(folder, text, refusal, line):
+    """The fifth field, and a member of the document. Neither is there where the line isn't known."""
+    site = Site(folder, {"/m/a/1": text})
+    where = [] if line is None else [f"line {line}"]
+    said = site.run().stdout.decode().splitlines()
+    path = os.fsdecode(real(folder, "/m/a/1"))
+    same(said, ["\t".join(["a/1", "refused", refusal, path, *where]), "# 0 certified of 1", "# 1 refused"], "the lines")
+    member = {} if line is None else {"line": line}
+    wanted = [{"name": "a/1", "path": path, "standing": "refused", "refusal": refusal, **member}]
+    same(site.document()["modules"], wanted, "the document")
 
 
 # Modules that are excluded by hand.
@@ -896,7 +952,7 @@ def test_control_characters_in_paths_and_reasons(folder):
         file.write('#%Module\nerror "x\\ny\\tz\\\\ \\r"\n')
     done = folder.run(directory)
     path = os.path.join(os.fsdecode(folder.path), "a\\tb\\nc\\\\d\\x01\\x7f\u00e9")
-    wanted = f"a/1\trefused\tx\\ny\\tz\\\\ \\x0d (line 2)\t{path}/a/1\n# 0 certified of 1\n# 1 refused\n"
+    wanted = f"a/1\trefused\tx\\ny\\tz\\\\ \\x0d (line 2)\t{path}/a/1\tline 2\n# 0 certified of 1\n# 1 refused\n"
     same((done.stdout.decode(), done.stderr, done.returncode), (wanted, b"", 1), "what is said")
     found = json.loads(folder.run("--json", directory).stdout)["modules"][0]
     same((found["path"], found["refusal"]), (f"{directory}/a/1", "x\ny\tz\\ \r (line 2)"), "the document")
@@ -1020,7 +1076,7 @@ def test_the_document_says_the_same(folder):
                 "here": RETURNS,
             },
             {"name": "f/1", "standing": "certified"},
-            {"name": "g/1", "standing": "refused", "refusal": 'invalid command name "nope" (line 2)'},
+            {"name": "g/1", "standing": "refused", "refusal": 'invalid command name "nope" (line 2)', "line": 2},
             {"name": "h/1", "standing": "certified", "reads": ["HOME", "USER"]},
             {
                 "name": "i/1",
@@ -1544,7 +1600,7 @@ e\u0301/1     certified                                        m/e\u0301/1
 gcc/13  certified                                        m/gcc/13
 x/1     unstable   is-loaded                             m/x/1     returns
 \u00fc/\uff12    certified  reads HOME                            m/\u00fc/\uff12
-\u65e5\u672c/2  refused    invalid command name "\u65e5\u672c" (line 2)  m/\u65e5\u672c/2
+\u65e5\u672c/2  refused    invalid command name "\u65e5\u672c" (line 2)  m/\u65e5\u672c/2  line 2
         refused    Reading failed                        m/\u65e5\u672c/3
 # 3 certified of 6
 # 1 unstable
@@ -1554,7 +1610,7 @@ x/1     unstable   is-loaded                             m/x/1     returns
 
 QUIET_IN_COLUMNS = """\
 x/1     unstable  is-loaded                             m/x/1     returns
-\u65e5\u672c/2  refused   invalid command name "\u65e5\u672c" (line 2)  m/\u65e5\u672c/2
+\u65e5\u672c/2  refused   invalid command name "\u65e5\u672c" (line 2)  m/\u65e5\u672c/2  line 2
         refused   Reading failed                        m/\u65e5\u672c/3
 # 3 certified of 6
 # 1 unstable
@@ -1567,7 +1623,7 @@ e\u0301/1\tcertified\t\tm/e\u0301/1
 gcc/13\tcertified\t\tm/gcc/13
 x/1\tunstable\tis-loaded\tm/x/1\treturns
 \u00fc/\uff12\tcertified\treads HOME\tm/\u00fc/\uff12
-\u65e5\u672c/2\trefused\tinvalid command name "\u65e5\u672c" (line 2)\tm/\u65e5\u672c/2
+\u65e5\u672c/2\trefused\tinvalid command name "\u65e5\u672c" (line 2)\tm/\u65e5\u672c/2\tline 2
 \trefused\tReading failed\tm/\u65e5\u672c/3
 # 3 certified of 6
 # 1 unstable
@@ -1611,7 +1667,7 @@ def test_columns_of_one_line(folder):
     same(on_a_terminal(folder, "--quiet", "m", stream="stdout"), (in_lines("# 1 certified of 1\n"), 0), "no module")
     word = "x" * 70
     write(folder, "/m/b/1", f"{word}\n")
-    wide = [f"a/1  certified  {' ' * 82}m/a/1", f'b/1  refused    invalid command name "{word}" (line 2)  m/b/1']
+    wide = [f"a/1  certified  {' ' * 82}m/a/1", f'b/1  refused    invalid command name "{word}" (line 2)  m/b/1  line 2']
     lines = [*wide, "# 1 certified of 2", "# 1 refused", ""]
     same(on_a_terminal(folder, "m", stream="stdout"), (in_lines("\n".join(lines)), 1), "a reason of 102 columns")
 

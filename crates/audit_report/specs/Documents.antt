@@ -14,6 +14,7 @@ use Rattle.audit_certificate.specs.declared.uses.VariableUse.{VariableUse}
 use Rattle.audit_certificate.specs.declared.uses.VariableUse.TheVariants.{Fixed, Absent, Pathed, Stacked, Read}
 use Rattle.modulefile.specs.declared.delimiter.Delimiter.{Delimiter}
 use Rattle.modules.specs.Messages.{message_of}
+use Rattle.modules.specs.declared.refusal.Refusal.{Refusal}
 use Rattle.audit_certificate.specs.declared.disagreement.Disagreement.{Disagreement}
 use Rattle.audit_certificate.specs.declared.disagreement.Disagreement.TheVariants.{LoadedTexts, IsSet, HasNotValue}
 use Rattle.audit_certificate.specs.declared.disagreement.Disagreement.TheVariants.{IsNotAbsent, PathNotInOrder}
@@ -27,6 +28,7 @@ use Rattle.audit_site.specs.declared.standing.AuditStanding.TheVariants.{Exclude
 use Rattle.audit_report.specs.declared.readable.ReadableAudit.{ReadableAudit}
 use Rattle.audit_report.specs.declared.selection.Selection.{Selection}
 use Rattle.audit_report.specs.Readable.{is_unreadable}
+use Rattle.audit_report.specs.Refused.{refused_at, refused_line}
 use Rattle.audit_report.specs.Remarks.{command_of}
 use Rattle.audit_report.specs.Tried.{TriedModule, with_dry_runs}
 use Rattle.modulefile_run.specs.Questions.{question_view}
@@ -93,6 +95,34 @@ abbrev pub two_uses_fields : String Global → VariableUse → VariableUse → L
 two_uses_fields variable one other =
     (codes "variable", text_value variable) ∷ (codes "uses", array_of (use_value one ∷ use_value other ∷ [])) ∷ []
 
+-- ---- refusals
+
+-- the text of a refusal
+abbrev pub refusal_field : Refusal → Field
+refusal_field refusal = (codes "refusal", string (message_of refusal))
+
+-- a line of a file
+abbrev pub line_member : ℕ → Field
+line_member line = (codes "line", number (decimal line))
+
+-- the line at which a file stopped; none where that isn't known
+abbrev pub line_fields : Option ℕ → List Field
+line_fields None = []
+line_fields (Some line) = line_member line ∷ []
+
+-- where a file stopped: the line, and its path; none where that isn't known
+abbrev pub place_fields : Option (Text × ℕ) → List Field
+place_fields None = []
+place_fields (Some (path, line)) = line_member line ∷ (codes "path", string path) ∷ []
+
+-- why a module is refused: the text, and the line of its file
+abbrev pub refused_module_fields : Refusal → List Field
+refused_module_fields refusal = refusal_field refusal ∷ line_fields (refused_line refusal)
+
+-- why a request is refused: the text, and where the file stopped, which needn't be that of the module in question
+abbrev pub refused_request_fields : Refusal → List Field
+refused_request_fields refusal = refusal_field refusal ∷ place_fields (refused_at refusal)
+
 -- ---- dry runs
 
 -- what the dry run finds, in one word
@@ -104,12 +134,12 @@ dry_run_word (UnloadRefused refusal) = codes "unload-refused"
 dry_run_word AlreadyLoaded = codes "loaded"
 dry_run_word (LoadsAnother name path) = codes "another"
 
--- the variables that are left, the refusal, or the other module
+-- the variables that are left, why a request is refused, or the other module
 abbrev pub found_fields : DryRun → List Field
 found_fields Returns = []
 found_fields (Leaves names) = texts_field (codes "variables") names.items ∷ []
-found_fields (LoadRefused refusal) = (codes "refusal", string (message_of refusal)) ∷ []
-found_fields (UnloadRefused refusal) = (codes "refusal", string (message_of refusal)) ∷ []
+found_fields (LoadRefused refusal) = refused_request_fields refusal
+found_fields (UnloadRefused refusal) = refused_request_fields refusal
 found_fields AlreadyLoaded = []
 found_fields (LoadsAnother name path) = (codes "name", text_value name) ∷ (codes "path", text_value path) ∷ []
 
@@ -151,7 +181,7 @@ standing_fields reads (OneWay first) = (codes "record", string (record_words fir
 standing_fields reads (Inconsistent variable one other) = two_uses_fields variable one other
 standing_fields reads Excluded = []
 standing_fields reads (Clashes c) = clash_fields c
-standing_fields reads (Refused refusal) = (codes "refusal", string (message_of refusal)) ∷ []
+standing_fields reads (Refused refusal) = refused_module_fields refusal
 
 -- another reason: how a module stands in one word, and why
 abbrev pub other_reasons_value : AuditStanding → Json

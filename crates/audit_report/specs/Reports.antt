@@ -6,17 +6,20 @@ use Rattle.audit_site.specs.declared.auditing.AuditedModule.{AuditedModule}
 use Rattle.audit_report.specs.declared.readable.ReadableAudit.{ReadableAudit}
 use Rattle.audit_report.specs.declared.selection.Selection.{Selection}
 use Rattle.audit_report.specs.Readable.{unreadable_line}
+use Rattle.audit_report.specs.Refused.{line_field, standing_line}
 use Rattle.audit_report.specs.Tried.{TriedModule, here, with_dry_runs}
 use Rattle.audit_report.specs.Words.{spelled, standing_word, reason, is_named, certified_count, standing_count}
 use Rattle.audit_report.specs.Remarks.{missing_line, unreachable_line, other_reasons_lines, no_modulefile_line, bad_file_line}
 use Rattle.audit_report.specs.Remarks.{conflict_lines, prereq_line, unread_file_line, environment_lines, not_utf8_line}
 use Rattle.audit_dry_runs.specs.declared.dry_run.DryRun.{DryRun}
 
--- the line of a module: its name, its standing in one word, the reason and its path, parted by tabs, and what happens here
+-- the line of a module: its name, its standing in one word, the reason and its path, parted by tabs; then the line at
+-- which it is refused, and what happens here
 unfoldable pub module_line : AuditedModule → Option DryRun → Text
 module_line m dry_run =
     spelled (string_bytes m.name) ++ (codes "\t" ++ (standing_word m.standing ++ (codes "\t"
-    ++ (spelled (reason m) ++ (codes "\t" ++ (spelled (string_bytes m.path) ++ (here dry_run ++ codes "\n")))))))
+    ++ (spelled (reason m) ++ (codes "\t" ++ (spelled (string_bytes m.path)
+    ++ (line_field (standing_line m.standing) ++ (here dry_run ++ codes "\n"))))))))
 
 -- the line of a module that the report names; else nothing
 abbrev pub named_line : Selection → TriedModule → Text

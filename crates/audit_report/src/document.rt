@@ -8,6 +8,7 @@ ghost use Rattle.audit_report.specs.Tokens.{AddsTokens, fields_tokens, field_tok
 ghost use Rattle.audit_report.specs.Tried.{with_dry_runs};
 
 use crate::readable::{ReadableAudit, is_unreadable};
+use crate::refused::write_refused_module;
 use crate::remarks::command_of;
 use crate::selection::{Selection, certified_count};
 use crate::tokens::{write_all_used, write_path_fields, write_text, write_text_array, write_use};
@@ -106,10 +107,7 @@ fn write_standing(
         } => write_two_uses(alloc, writer, variable, one, other),
         AuditStanding::Excluded => Ok(()),
         AuditStanding::Clashes(clash) => write_clash(alloc, writer, clash),
-        AuditStanding::Refused(refusal) => {
-            let text = format!(in alloc; "{refusal}")?;
-            write_text(writer, "refusal", text.as_str())
-        }
+        AuditStanding::Refused(refusal) => write_refused_module(alloc, writer, refusal),
     }
 }
 

@@ -6,6 +6,7 @@ mod conflicts;
 mod document;
 mod fields;
 mod readable;
+mod refused;
 mod remarks;
 mod report;
 mod selection;

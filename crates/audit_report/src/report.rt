@@ -5,6 +5,7 @@ ghost use Rattle.audit_report.specs.Reports as spec;
 use crate::conflicts::push_conflicts;
 use crate::fields::{push_field, push_text};
 use crate::readable::{ReadableAudit, push_unreadable};
+use crate::refused::push_refused_line;
 use crate::remarks::{
     push_all_other_reasons, push_bad_files, push_disagreements, push_missing, push_no_modulefiles,
     push_not_utf8, push_prereqs, push_unreachable_directories, push_unread_files,
@@ -16,7 +17,8 @@ use audit_dry_runs::DryRun;
 use audit_site::AuditedModule;
 use std::alloc::{AllocError, Global};
 
-/// Adds the line of a module: its name, how it stands, why, its path, and what happens here.
+/// Adds the line of a module: its name, how it stands, why, its path, at which line it is refused, and what happens
+/// here.
 fn push_line(
     alloc: Global,
     report: &mut Vec<u8>,
@@ -34,6 +36,7 @@ fn push_line(
     push_field(report, why.as_str())?;
     push_text(report, "\t")?;
     push_field(report, module.path.as_str())?;
+    push_refused_line(alloc, report, &module.standing)?;
     push_here(alloc, report, dry_run)?;
     push_text(report, "\n")
 }

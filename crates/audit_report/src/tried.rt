@@ -1,18 +1,16 @@
 //! What happens here: what the load and then the unload of each module that is tried do in the environment at hand.
-ghost use Rattle.std.specs.Prelude.{◌≡◌, [], ◌∷◌, ◌++◌, codes, OnOk, IfOk, option_map, string_bytes};
-ghost use Rattle.json.specs.Token.{key, string};
+ghost use Rattle.std.specs.Prelude.{◌≡◌, ◌++◌, OnOk, IfOk, option_map, string_bytes};
 ghost use Rattle.json.specs.Tree.{json_tokens};
-ghost use Rattle.modules.specs.Messages.{message_of};
 ghost use Rattle.audit_report.specs.Documents.{found_fields, here_fields, dry_run_value, dry_run_word};
 ghost use Rattle.audit_report.specs.Tokens.{AddsTokens, fields_tokens};
 ghost use Rattle.audit_report.specs.Tried as spec;
 
 use crate::fields::{push_field, push_text};
+use crate::refused::write_refused_request;
 use crate::tokens::{write_text, write_text_array};
 use crate::words::listed;
 use audit_dry_runs::DryRun;
 use json::Writer;
-use modules::Refusal;
 use std::alloc::{AllocError, Global};
 
 /// The first of the dry runs; `None` where there is none, or its module isn't tried.
@@ -92,16 +90,7 @@ fn dry_run_word(dry_run: &DryRun) -> &'static str
     }
 }
 
-/// Writes a refusal as a member.
-fn write_refusal(alloc: Global, writer: &mut Writer, refusal: &Refusal) -> Result<(), AllocError>
-    ensures { OnOk result (AddsTokens writer.old writer.new
-        (key (codes "refusal") ∷ string (message_of refusal.now) ∷ [])) }
-{
-    let text = format!(in alloc; "{refusal}")?;
-    write_text(writer, "refusal", text.as_str())
-}
-
-/// Writes the variables that are left, the refusal, or the other module, as members.
+/// Writes the variables that are left, why a request is refused, or the other module, as members.
 fn write_found(alloc: Global, writer: &mut Writer, dry_run: &DryRun) -> Result<(), AllocError>
     ensures { OnOk result (AddsTokens writer.old writer.new (fields_tokens (found_fields dry_run.now))) }
 {
@@ -109,7 +98,7 @@ fn write_found(alloc: Global, writer: &mut Writer, dry_run: &DryRun) -> Result<(
         DryRun::Returns | DryRun::AlreadyLoaded => Ok(()),
         DryRun::Leaves(names) => write_text_array(writer, "variables", names.as_slice()),
         DryRun::LoadRefused(refusal) | DryRun::UnloadRefused(refusal) => {
-            write_refusal(alloc, writer, refusal)
+            write_refused_request(alloc, writer, refusal)
         }
         DryRun::LoadsAnother { name, path } => {
             write_text(writer, "name", name.as_str())?;

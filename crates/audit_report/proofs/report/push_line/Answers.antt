@@ -13,4 +13,5 @@ returns c =
     (more r c.push_text-3.new.report.items c.push_field-2.new.report.items c.push_text-5.new.report.items _ _ (rw (c.as_str-2.ensures.value, c.in_ok-why.ensures) at c.in_ok-push_field-2.ensures)
     (more r c.push_field-2.new.report.items c.push_text-4.new.report.items c.push_text-5.new.report.items _ _ c.in_ok-push_text-4.ensures
     (more r c.push_text-4.new.report.items c.push_field-3.new.report.items c.push_text-5.new.report.items _ _ (rw c.as_str-3.ensures.value at c.in_ok-push_field-3.ensures)
-    (more r c.push_field-3.new.report.items c.push_here.new.report.items c.push_text-5.new.report.items _ _ c.in_ok-push_here.ensures c.push_text-5.ensures)))))))
+    (more r c.push_field-3.new.report.items c.push_refused_line.new.report.items c.push_text-5.new.report.items _ _ c.in_ok-push_refused_line.ensures
+    (more r c.push_refused_line.new.report.items c.push_here.new.report.items c.push_text-5.new.report.items _ _ c.in_ok-push_here.ensures c.push_text-5.ensures))))))))
