@@ -64,6 +64,7 @@ SUITES = (
     "module/explanations.py",
     "module/saving.py",
     "module/auto.py",
+    "module/forgetting.py",
     "module/in_python.py",
     "audit/certified.py",
     "audit/losses.py",

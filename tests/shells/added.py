@@ -253,12 +253,26 @@ def test_saves_through_a_link_and_nothing_where_it_is_refused(here):
     os.symlink(store, link)
     lines = ["module load foo", "module save", "status", "module load bar", f"/bin/rm {here.paths['bar/1']}"]
     lines += [*step("module save"), *step("module restore"), *step("module reload")]
-    kept = here.keeps(["show", *lines], f"ERROR: No file at '{here.paths['bar/1']}'\n" * 3)
+    kept = here.keeps(["show", *lines], f"ERROR: No file at '{here.paths['bar/1']}'\nTry: module forget bar/1\n" * 3)
     same(kept.statuses, ["0", "1", "1", "1"], "the statuses")
     for found in kept.shown[1:]:
         same_environment(found, changed(kept.shown[0], here.lists("foo/1", "bar/1")), "the environment")
     same((os.path.islink(link), os.listdir(os.path.dirname(link))), (True, ["default"]), "the link, and what is beside")
     same(content(store).decode(), f"module use --append {here.start}\nmodule load foo/1\n", "the file")
+
+
+def test_forgets_a_module_whose_file_is_gone(here):
+    here.module("foo/1", "setenv FOO 1\npushenv CC foo\n")
+    here.module("bar/1", "setenv BAR 1\n")
+    lines = ["show", *step("module load foo bar"), f"/bin/rm {here.paths['foo/1']}", *step("module purge")]
+    said = f"ERROR: No file at '{here.paths['foo/1']}'\nTry: module forget foo/1\n"
+    said += "Forgotten: foo/1. What modulefiles set may stay; a new login is clean.\n"
+    kept = here.keeps([*lines, *step("module forget foo"), *step("module purge")], said)
+    same(kept.statuses, ["0", "1", "0", "0"], "the statuses")
+    before, loaded, refused, forgotten, purged = kept.shown
+    same_environment(refused, loaded, "the environment behind the refusal")
+    same_environment(forgotten, changed(before, {"FOO": "1", "BAR": "1", **here.lists("bar/1")}), "without foo")
+    same_environment(purged, changed(before, {"FOO": "1"}), "the environment that stays")
 
 
 def test_changes_nothing_where_a_restore_or_a_reload_is_refused(here):

@@ -62,8 +62,8 @@ SUBCOMMANDS = ("load", "add", "unload", "rm", "switch", "swap", "purge", "list",
 # What the functions of the shells replace, and what they add.
 OF_FUNCTIONS = ("del", "remove", "help")
 ADDED = (
-    "use", "unuse", "save", "restore", "savelist", "saverm", "saveshow", "reload", "is-loaded", "is-avail", "keyword",
-    "apropos", "refresh", "search",
+    "use", "unuse", "save", "restore", "savelist", "saverm", "saveshow", "reload", "forget", "is-loaded", "is-avail",
+    "keyword", "apropos", "refresh", "search",
 )  # fmt: skip
 
 

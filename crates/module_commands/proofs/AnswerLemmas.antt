@@ -9,7 +9,7 @@ use Rattle.module_words.specs.declared.function.fault.FunctionFault.{FunctionFau
 use Rattle.module_words.specs.function.Advice.{advice_on}
 use Rattle.module_words.specs.function.Asked.{Asked, Command, both, one}
 use Rattle.module_words.specs.function.Faults.{FunctionReason, reason_of}
-use Rattle.module_commands.specs.Answers.{Answered, WritesAsked, WritesCommand, WritesExchange, advice_line, answer_view, refused, refused_words}
+use Rattle.module_commands.specs.Answers.{Answered, IsRefused, WritesAsked, WritesCommand, WritesExchange, advice_line, answer_view, refused, refused_words}
 use Rattle.module_commands.specs.Explanations.{AreRefusedWords, Explains, ExplainsMove, Told, explained_view, lines_alone}
 use Rattle.module_commands.specs.declared.answering.Answer.{Answer}
 use Rattle.module_commands.specs.declared.asking.Asking.{Asking}
@@ -24,10 +24,15 @@ move_explained before now narrows asking e command words (Ok x) are explains =
     inr (words, refused_narrowed before now narrows asking.shell e command _ words are, explains)
 move_explained before now narrows asking e command words (Err fault) are explains = explains
 
-pub exchange_refused : (agrees : Files → Listings → Type 0) (asking : Asking) (unloads loads : Command) (refusal : Refusal) (more : Told) (r : Result Answer AllocError)
-    → IfOk r (λ a. answer_view a ≡ refused asking refusal more) → IfOk r (λ a. WritesExchange agrees asking unloads loads (answer_view a))
-exchange_refused agrees asking unloads loads refusal more (Ok a) h = inr (refusal, more, h)
-exchange_refused agrees asking unloads loads refusal more (Err fault) h = h
+pub is_refused : (asking : Asking) (refusal : Refusal) (more : Told) (r : Result Answer AllocError)
+    → IfOk r (λ a. answer_view a ≡ refused asking refusal more) → IfOk r (λ a. IsRefused asking (answer_view a))
+is_refused asking refusal more (Ok a) h = (refusal, more, h)
+is_refused asking refusal more (Err fault) h = h
+
+pub exchange_refused : (agrees : Files → Listings → Type 0) (asking : Asking) (unloads loads : Command) (r : Result Answer AllocError)
+    → IfOk r (λ a. IsRefused asking (answer_view a)) → IfOk r (λ a. WritesExchange agrees asking unloads loads (answer_view a))
+exchange_refused agrees asking unloads loads (Ok a) h = inr h
+exchange_refused agrees asking unloads loads (Err fault) h = h
 
 abbrev IsReason : FunctionReason → Result Asked FunctionReason → Type 0
 IsReason reason (Ok asked) = reason ≡ reason
@@ -41,10 +46,10 @@ is_reason None reason h = h
 is_reason (Some other) reason h = subst (IsReason reason) h refl
 
 module _ (agrees readable : Files → Listings → Type 0) (has_failed : Text → Bool) (before now : ℕ) (files_before files_now : Entries → Type 0) (usage version : Text) (asking : Asking) where
-  pub command_refused : (command : Command) (refusal : Refusal) (more : Told) (r : Result Answer AllocError) → IfOk r (λ a. answer_view a ≡ refused asking refusal more)
+  pub command_refused : (command : Command) (r : Result Answer AllocError) → IfOk r (λ a. IsRefused asking (answer_view a))
       → IfOk r (λ a. WritesCommand agrees readable has_failed before now files_before files_now usage version asking command (answer_view a))
-  command_refused command refusal more (Ok a) h = inr (refusal, more, h)
-  command_refused command refusal more (Err fault) h = h
+  command_refused command (Ok a) h = inr h
+  command_refused command (Err fault) h = h
 
   asked_refused : (outcome : Result Asked FunctionReason) (fault : FunctionFault) (a : Answered) → IfSome (reason_of fault) (λ r. outcome ≡ Err r) → a ≡ refused_words asking fault
       → WritesAsked agrees readable has_failed before now files_before files_now usage version asking outcome a

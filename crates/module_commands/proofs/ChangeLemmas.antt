@@ -37,4 +37,5 @@ module _ (agrees agrees' : Files → Listings → Type 0) (narrows : Narrows agr
   refusal_wider (refusals.Requested fault) h = fault_wider fault h
   refusal_wider (refusals.Restore fault) h = fault_wider fault h
   refusal_wider (refusals.Keep fault) h = absurd h
+  refusal_wider (refusals.Forget fault) h = absurd h
   refusal_wider (refusals.Files fault) h = absurd h

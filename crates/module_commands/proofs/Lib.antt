@@ -7,3 +7,4 @@ pub mod ExchangeLemmas
 pub mod ReportLemmas
 pub mod PlaceLemmas
 pub mod AnswerLemmas
+pub mod ForgettingLemmas

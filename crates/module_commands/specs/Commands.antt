@@ -11,6 +11,7 @@ use Rattle.module_words.specs.function.Asked.{Command}
 use Rattle.module_commands.specs.Collections.{ListsSaved, Reloads, RemovesSaved, RestoresSaved, SavesModules, ShowsSaved}
 use Rattle.module_commands.specs.Descriptions.{DescribesAll, DescribesSought, HelpsOn, ReportsModules, SaysUsage, SaysVersion}
 use Rattle.module_commands.specs.Edits.{Edits, TestsLoaded}
+use Rattle.module_commands.specs.Forgettings.{ForgetsModules}
 use Rattle.module_commands.specs.Listings.{ReportsDirectories, ReportsLoaded, ReportsWhatIsThere, TestsAvailable}
 use Rattle.module_commands.specs.Moves.{MovesModules}
 use Rattle.module_commands.specs.Reports.{IsPaged, destination_of}
@@ -45,6 +46,7 @@ module _ (agrees readable : Files → Listings → Type 0) (has_failed : Text �
   AnswersOf subcommands.Switch to command reply = MovesModules agrees asking command reply
   AnswersOf subcommands.Purge to command reply = MovesModules agrees asking command reply
   AnswersOf subcommands.Reload to command reply = Reloads agrees asking command reply
+  AnswersOf subcommands.Forget to command reply = ForgetsModules agrees asking command reply
   AnswersOf subcommands.List to command reply = ReportsLoaded asking to.kind to.place command.1 reply
   AnswersOf subcommands.Avail to command reply =
       ReportsWhatIsThere readable has_failed before now asking to.kind to.place command.1 reply

@@ -13,7 +13,7 @@ use Rattle.module_explain.specs.Explained.{IsExplained}
 use Rattle.module_explain.specs.FileLines.{log_text, user_text}
 use Rattle.module_explain.specs.declared.advice.Advice.{Advice}
 use Rattle.module_explain.specs.declared.explanation.Explanation.{Explanation}
-use Rattle.module_failures.specs.declared.location.FileExplanation.{FileExplanation}
+use Rattle.module_explain.specs.declared.location.FileExplanation.{FileExplanation}
 use Rattle.module_words.specs.declared.subcommands.table.Subcommand.{Subcommand}
 use Rattle.module_words.specs.function.Asked.{Command}
 use Rattle.module_words.specs.function.Faults.{FunctionReason}

@@ -16,6 +16,7 @@ pub mod Listings
 pub mod Descriptions
 pub mod Collections
 pub mod Explanations
+pub mod Forgettings
 pub mod Commands
 pub mod Answers
 pub mod Scripts

@@ -9,6 +9,7 @@ use Rattle.modules.specs.declared.refusal.Refusal.TheVariants as reasons
 use Rattle.module_auto.specs.Answers as automated
 use Rattle.module_auto.specs.declared.fault.RequestFault.TheVariants as faults
 use Rattle.module_collections.specs.files.Failures as files
+use Rattle.module_restore.specs.forgetting.Answers as forgotten
 use Rattle.module_reports.specs.listings.Faults as listings
 use Rattle.module_restore.specs.Answers as restored
 use Rattle.module_words.specs.function.Faults as words
@@ -29,6 +30,7 @@ message_of (refusals.Described refusal) = requests.message_of refusal
 message_of (refusals.Requested fault) = (automated.refusal_of fault).text
 message_of (refusals.Restore fault) = (automated.refusal_of fault).text
 message_of (refusals.Keep fault) = restored.keep_message fault
+message_of (refusals.Forget fault) = forgotten.message_of fault
 message_of (refusals.Files fault) = files.message_of fault
 
 -- The line of a refusal.

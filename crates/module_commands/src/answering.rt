@@ -9,6 +9,7 @@ use crate::asking::Asking;
 use crate::command::answer_of;
 use crate::exchanging::exchange_modules;
 use crate::explaining::{Explained, explained_exchange, explained_move};
+use crate::forgetting::with_way_out;
 use crate::refusal::{Refusal, error_line};
 use crate::reply::{Reply, hints_of, own_line, status_of, writings_of};
 use crate::scripts::answer_script;
@@ -108,6 +109,60 @@ fn if_found(alloc: Global, found: Result<Explained, AllocError>) -> Explained {
     }
 }
 
+/// The answer to a command that is refused, with what explains it, and the way out behind that where there is one.
+fn refused_with_way_out<T: Tree>(
+    alloc: Global,
+    asking: &Asking,
+    refusal: Refusal<'_>,
+    explained: Explained,
+    tree: &mut T,
+) -> Result<Answer, AllocError>
+    ensures { IfOk result (λ a. spec.IsRefused asking.now (spec.answer_view a)) }
+{
+    let more = with_way_out(alloc, asking, &refusal, explained, tree)?;
+    refused(alloc, asking, &refusal, more)
+}
+
+/// What explains why a command is refused.
+fn explained_refusal<T: Tree + Drop>(
+    alloc: Global,
+    asking: &Asking,
+    command: &AskedCommand,
+    refusal: &Refusal<'_>,
+    tree: &mut T,
+    spare: T,
+) -> Explained {
+    match refusal {
+        Refusal::Requested(_) => {
+            let env = &asking.env;
+            if_found(
+                alloc,
+                explained_move(alloc, asking, env, command, tree, spare),
+            )
+        }
+        _ => Explained::nothing(alloc),
+    }
+}
+
+/// What explains why an unload and a load are refused.
+fn explained_refusals<T: Tree + Drop>(
+    alloc: Global,
+    asking: &Asking,
+    unloads: &AskedCommand,
+    loads: &AskedCommand,
+    refusal: &Refusal<'_>,
+    tree: &mut T,
+    spare: T,
+) -> Explained {
+    match refusal {
+        Refusal::Requested(_) => if_found(
+            alloc,
+            explained_exchange(alloc, asking, unloads, loads, tree, spare),
+        ),
+        _ => Explained::nothing(alloc),
+    }
+}
+
 /// The answer to a command. If it is refused, what explains that follows the reason.
 fn answer_command<T: Tree + Drop, S: Storage>(
     alloc: Global,
@@ -126,17 +181,8 @@ fn answer_command<T: Tree + Drop, S: Storage>(
     match answer_of(alloc, asking, command, tree, readable, storage) {
         Ok(reply) => accepted(alloc, asking, reply),
         Err(refusal) => {
-            let more = match refusal {
-                Refusal::Requested(_) => {
-                    let env = &asking.env;
-                    if_found(
-                        alloc,
-                        explained_move(alloc, asking, env, command, tree, spare),
-                    )
-                }
-                _ => Explained::nothing(alloc),
-            };
-            refused(alloc, asking, &refusal, more)
+            let more = explained_refusal(alloc, asking, command, &refusal, tree, spare);
+            refused_with_way_out(alloc, asking, refusal, more, tree)
         }
     }
 }
@@ -156,14 +202,8 @@ fn answer_exchange<T: Tree + Drop>(
     match exchange_modules(alloc, asking, unloads, loads, tree) {
         Ok(reply) => accepted(alloc, asking, reply),
         Err(refusal) => {
-            let more = match refusal {
-                Refusal::Requested(_) => if_found(
-                    alloc,
-                    explained_exchange(alloc, asking, unloads, loads, tree, spare),
-                ),
-                _ => Explained::nothing(alloc),
-            };
-            refused(alloc, asking, &refusal, more)
+            let more = explained_refusals(alloc, asking, unloads, loads, &refusal, tree, spare);
+            refused_with_way_out(alloc, asking, refusal, more, tree)
         }
     }
 }

@@ -11,6 +11,7 @@ use crate::describing::{
     describe_all, describe_sought, help_on, report_modules, say_usage, say_version,
 };
 use crate::editing::{edit, is_loaded};
+use crate::forgetting::forget_modules;
 use crate::listing::{is_one_available, report_available, report_directories, report_loaded};
 use crate::moving::move_modules;
 use crate::refusal::Refusal;
@@ -45,6 +46,7 @@ fn answer_at<'a, T: Tree + Drop, S: Storage>(
             move_modules(alloc, asking, command, tree)
         }
         (Subcommand::Reload, _) => reload_modules(alloc, asking, command, tree),
+        (Subcommand::Forget, _) => forget_modules(alloc, asking, command, tree),
         (Subcommand::List, _) => report_loaded(alloc, asking, to, words),
         (Subcommand::Avail, _) => report_available(alloc, asking, to, words, readable),
         (Subcommand::Whatis, []) => describe_all(alloc, asking, to.place, None, readable),

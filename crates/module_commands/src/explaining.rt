@@ -159,7 +159,7 @@ fn explained_path<T: Tree + Drop>(
 }
 
 /// Whether the user wants no explanations.
-fn is_unwanted(env: &Env) -> bool
+pub(crate) fn is_unwanted(env: &Env) -> bool
     ensures { result ≡ spec.is_unwanted (lookup env.now) }
 {
     env.get("MODULECMD_EXPLAIN") == Some("no")

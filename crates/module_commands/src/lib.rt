@@ -13,6 +13,7 @@ mod describing;
 mod editing;
 mod exchanging;
 mod explaining;
+mod forgetting;
 mod lines;
 mod listing;
 mod moving;

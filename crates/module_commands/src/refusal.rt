@@ -10,6 +10,7 @@ use module_auto::RequestFault;
 use module_collections::files::FileFault;
 use module_reports::listings::ListingFault;
 use module_restore::KeepFault;
+use module_restore::forgetting::ForgetFault;
 use module_words::function::{FunctionFault, OutputFault};
 use modules::Refusal as RequestRefusal;
 use shelltext::PrintFault;
@@ -43,6 +44,8 @@ pub enum Refusal<'a> {
     Restore(RequestFault),
     /// Nothing can be kept.
     Keep(KeepFault),
+    /// Nothing is forgotten.
+    Forget(ForgetFault),
     /// This is wrong with the files of collections.
     Files(FileFault),
 }
@@ -127,6 +130,14 @@ impl<'a> From<KeepFault> for Refusal<'a> {
     }
 }
 
+impl<'a> From<ForgetFault> for Refusal<'a> {
+    ghost from_gives = { λ fault e. e ≡ refusals.Forget fault };
+
+    fn from(fault: ForgetFault) -> Refusal<'a> {
+        Refusal::Forget(fault)
+    }
+}
+
 impl<'a> From<FileFault> for Refusal<'a> {
     ghost from_gives = { λ fault e. e ≡ refusals.Files fault };
 
@@ -151,6 +162,7 @@ impl<'a> fmt::Display for Refusal<'a> {
             Refusal::Requested(fault) => fault.fmt(f),
             Refusal::Restore(fault) => fault.fmt(f),
             Refusal::Keep(fault) => fault.fmt(f),
+            Refusal::Forget(fault) => fault.fmt(f),
             Refusal::Files(fault) => fault.fmt(f),
         }
     }

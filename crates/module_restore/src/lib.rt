@@ -1,8 +1,9 @@
-//! Collections as requests: what `restore` and `reload` make of an environment, what `save` keeps of it (module(1)).
+//! Collections as requests, and modules that are forgotten: what `restore`, `reload`, `forget` and `save` do (module(1)).
 //! Takes memory; reads the files and directories (`Tree`) that it is given. The environment doesn't change.
 #![tactic(auto)]
 
 mod fault;
+pub mod forgetting;
 mod keeping;
 mod loaded;
 mod restoring;

@@ -6,4 +6,5 @@ pub mod Sites
 pub mod Views
 pub mod Asked
 pub mod Moved
+pub mod Forgotten
 pub mod Advice

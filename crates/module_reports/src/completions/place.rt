@@ -69,7 +69,9 @@ fn kinds_behind(subcommand: Subcommand, is_first: bool) -> &'static [NameKind]
         | Subcommand::Avail
         | Subcommand::Help
         | Subcommand::IsAvail => &[NameKind::Available],
-        Subcommand::Unload | Subcommand::IsLoaded | Subcommand::List => &[NameKind::Loaded],
+        Subcommand::Unload | Subcommand::Forget | Subcommand::IsLoaded | Subcommand::List => {
+            &[NameKind::Loaded]
+        }
         Subcommand::Switch if is_first => &[NameKind::Loaded, NameKind::Available],
         Subcommand::Switch => &[NameKind::Available],
         Subcommand::Unuse => &[NameKind::Directories],

@@ -56,7 +56,7 @@ impl Options {
             CommandOption::Latest => options.versions = Versions::Latest,
             CommandOption::Within => options.within = true,
             CommandOption::AnyCase => options.any_case = true,
-            CommandOption::Automatic | CommandOption::Behind | CommandOption::InFront => {}
+            _ => {}
         }
         options
     }

@@ -14,6 +14,7 @@ OptionRow = Text × CommandOption
 unfoldable pub options_of : Subcommand → List OptionRow
 options_of subcommands.Load = (codes "--auto", options.Automatic) ∷ []
 options_of subcommands.Unload = (codes "--auto", options.Automatic) ∷ []
+options_of subcommands.Forget = (codes "--settings-stay", options.SettingsStay) ∷ []
 options_of subcommands.List = (codes "--terse", options.Lines) ∷ (codes "-t", options.Lines) ∷ []
 options_of subcommands.Avail =
     (codes "--contains", options.Within)

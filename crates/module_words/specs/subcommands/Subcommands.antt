@@ -22,6 +22,7 @@ rows =
     ∷ (codes "purge", subcommands.Purge)
     ∷ (codes "reload", subcommands.Reload)
     ∷ (codes "refresh", subcommands.Reload)
+    ∷ (codes "forget", subcommands.Forget)
     ∷ (codes "list", subcommands.List)
     ∷ (codes "avail", subcommands.Avail)
     ∷ (codes "show", subcommands.Show)
@@ -53,6 +54,7 @@ name_of subcommands.Unload = codes "unload"
 name_of subcommands.Switch = codes "switch"
 name_of subcommands.Purge = codes "purge"
 name_of subcommands.Reload = codes "reload"
+name_of subcommands.Forget = codes "forget"
 name_of subcommands.List = codes "list"
 name_of subcommands.Avail = codes "avail"
 name_of subcommands.Show = codes "show"

@@ -52,7 +52,7 @@ fn is_automating(subcommand: Subcommand, word: &str) -> bool
 }
 
 /// The first of the words that begins with a hyphen.
-fn option_in(words: &[String]) -> Option<&String>
+pub(crate) fn option_in(words: &[String]) -> Option<&String>
     ensures { option_map string_bytes (option_copied result) ≡ find is_option (map string_bytes words.entry.now) }
 {
     words.iter().find(|word| word.as_str().starts_with('-'))

@@ -12,6 +12,8 @@ use crate::subcommands::table::Subcommand;
 pub enum CommandOption {
     /// With what the modules need, or what needs them.
     Automatic,
+    /// Whatever the files of the modules would undo.
+    SettingsStay,
     /// One name a line.
     Lines,
     /// The default versions.
@@ -48,6 +50,10 @@ const OF_LOAD: [OptionName; 1] = names! {
     "--auto" => Automatic,
 };
 
+const OF_FORGET: [OptionName; 1] = names! {
+    "--settings-stay" => SettingsStay,
+};
+
 const OF_LIST: [OptionName; 2] = names! {
     "--terse" => Lines,
     "-t" => Lines,
@@ -80,6 +86,7 @@ pub fn options_of(subcommand: Subcommand) -> &'static [OptionName]
 {
     match subcommand {
         Subcommand::Load | Subcommand::Unload => &OF_LOAD,
+        Subcommand::Forget => &OF_FORGET,
         Subcommand::List => &OF_LIST,
         Subcommand::Avail => &OF_AVAIL,
         Subcommand::Use => &OF_USE,

@@ -12,6 +12,7 @@ pub enum Subcommand {
     Switch,
     Purge,
     Reload,
+    Forget,
     List,
     Avail,
     Show,
@@ -41,6 +42,7 @@ impl Subcommand {
             Subcommand::Switch => "switch",
             Subcommand::Purge => "purge",
             Subcommand::Reload => "reload",
+            Subcommand::Forget => "forget",
             Subcommand::List => "list",
             Subcommand::Avail => "avail",
             Subcommand::Show => "show",
@@ -85,6 +87,7 @@ macro_rules! table {
             "purge" => Subcommand::Purge,
             "reload" => Subcommand::Reload,
             "refresh" => Subcommand::Reload,
+            "forget" => Subcommand::Forget,
             "list" => Subcommand::List,
             "avail" => Subcommand::Avail,
             "show" => Subcommand::Show,
@@ -115,7 +118,7 @@ macro_rules! rows {
     ($($name:literal => $subcommand:expr,)*) => { [$(SubcommandName { name: $name, subcommand: $subcommand }),*] };
 }
 
-const ROWS: [SubcommandName; 33] = table!(rows);
+const ROWS: [SubcommandName; 34] = table!(rows);
 
 /// The names of all subcommands.
 #[tactic(auto, unfolding(crate::specs::subcommands::Subcommands::rows))]

@@ -14,6 +14,9 @@ Subcommands:
   switch, swap [OLD] NEW    unload OLD and load NEW
   purge                     unload all modules
   reload, refresh           unload all modules and load them again
+  forget [--settings-stay] NAME...
+                            drop modules whose files are gone from the list of
+                            loaded ones (--settings-stay: also others)
   list [-t] [TEXT...]       say which modules are loaded (-t: one a line)
   avail [-t] [-d|-L] [-C] [-i] [TEXT...]
                             say which modules can be loaded, of TEXT those that

@@ -1,0 +1,8 @@
+pub mod ListLemmas
+pub mod PrefixLemmas
+pub mod StackNames
+pub mod PopLemmas
+pub mod LawLemmas
+pub mod ForgetLemmas
+pub mod GoneLemmas
+pub mod WayOutLemmas
