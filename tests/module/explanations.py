@@ -36,6 +36,13 @@ FILES = [
     ("bogus " + 80 * "x" + "\n", 2, "bogus " + 54 * "x" + "..."),
     ("bogus a\tb\n", 2, "bogus a?b"),
     ("setenv A b\nbogus \\\n  x\n", 3, "bogus \\"),
+    ("catch {\n  error x\n}\nbogus\n", 5, "bogus"),
+    ("proc p {x} {\n  if {$x} {\n    bogus\n  }\n}\np 0\np 1\n", 4, "bogus"),
+    ('if 1 "bogus x"\n', 2, 'if 1 "bogus x"'),
+    ("if {1} {bogus x}; setenv A b\n", 2, "bogus x"),
+    ("if {1} {\n  setenv A \\\n    b\n  bogus x\n}\n", 5, "bogus x"),
+    ("setenv A \u00e4\nif {1} {\n  bogus \u00e4\n}\n", 4, "bogus \u00e4"),
+    ("proc p {} {\n  break\n}\np\n", 3, "break"),
 ]
 
 
@@ -128,6 +135,13 @@ def test_the_file_of_several(program, site):
     site("three/1", "bogus\n")
     for command in ("load one two three", "show one two", "whatis one two/1", "switch two"):
         same(explained(program, command.split(), env), f"  in {path}, line 3\n", command)
+
+
+def test_the_file_of_a_default(program, site):
+    site("foo/1", "setenv A b\n")
+    path = site("foo/2", "\nbogus\n")
+    site("foo/.version", "set ModulesVersion 2\n")
+    same(explained(program, ["load", "foo"], {"MODULEPATH": site.modules}), f"  in {path}, line 3\n", "foo/2")
 
 
 def test_a_directory_that_a_module_before_it_adds(program, site, tmp_path):

@@ -1,10 +1,9 @@
 -- What is advised, by what the calls answer.
-use Rattle.std.proofs.Common.{◌≡◌, ℕ, ◌+◌, ◌<◌, ◌≤◌, Bool, true, false, List, [], ◌∷◌, length, map, take, drop, get_or, String, string_bytes, Option, Some, None, Result, Ok, Err, IfOk, inl, inr, refl, sym, subst}
-use Rattle.std.proofs.lemmas.List.{take_all}
+use Rattle.std.proofs.Common.{◌≡◌, ℕ, ◌+◌, ◌<◌, ◌≤◌, Bool, true, false, List, [], ◌∷◌, ◌++◌, ap, ◌∙◌, length, map, take, drop, get_or, option_map, String, string_bytes, Option, Some, None, Result, Ok, Err, IfOk, inl, inr, refl, sym, subst}
+use Rattle.std.proofs.lemmas.List.{drop_more, map-append, take-append-drop, take_all, take_more}
 use Rattle.std.proofs.lemmas.List.Elements.{All-push, All-weaker}
 use Rattle.std.specs.Prelude.{All, IfNone, IfSome}
 use Rattle.std.specs.declared.alloc.Global.{Global}
-use Rattle.module_failures.proofs.CommandLemmas.{views_more, views_parted}
 use Rattle.envvars.specs.Changes.{AreChanges, new_values_in}
 use Rattle.envvars.specs.Environment.{Environment}
 use Rattle.envvars.specs.Texts.{Text}
@@ -13,7 +12,11 @@ use Rattle.filetree.specs.Causes.{Applies, Cause, memory, device, because}
 use Rattle.modules.specs.transient_failures.Causes.{is_transient}
 use Rattle.shelltext.specs.declared.shell.Shell.{Shell}
 use Rattle.tclrules.specs.declared.limits.Limits.{Limits}
-use Rattle.modules.specs.Answers.{StepAnswersOverTree, cause_of}
+use Rattle.modulefile.specs.Files.{FileStop}
+use Rattle.modulefile_run.specs.Running.{file_reason_of, reason_of_file, stop_of}
+use Rattle.modulefile_run.specs.declared.run_fault.RunFault.{RunFault}
+use Rattle.modules.specs.Answers.{StepAnswersOverTree, by_reason, cause_of}
+use Rattle.requests.specs.Reasons.{RequestReason, file_refused}
 use Rattle.modules.specs.Replies.{changed_env, changed_view}
 use Rattle.modules.specs.declared.refusal.Refusal.{Refusal}
 use Rattle.modules.specs.declared.reply.RequestChanges.{RequestChanges}
@@ -23,8 +26,31 @@ use Rattle.requests.specs.Steps.{RequestStep, request_context_in}
 use Rattle.requests.specs.declared.action.Action.{Action}
 use Rattle.module_explain.specs.Advised.{Instead, IsFirstSwitch, IsNotAccepted, IsRefused, NoSwitch}
 use Rattle.module_explain.specs.Explained.{IsAccepted, StepIsDone}
-use Rattle.module_explain.specs.Views.{IsNotSaid, IsSaid, IsSwitchOrNone, IsTried}
+use Rattle.module_explain.specs.Views.{IfBecause, IsNotSaid, IsSaid, IsSwitchOrNone, IsTried}
 use Rattle.module_explain.specs.declared.advice.Advice.{Advice}
+
+-- a list that is seen by a view, up to one of its elements, with it, and whole
+module _ {A B : Type 0} (view : A → B) (xs : List A) (i : ℕ) (x : A) (below : i < length xs) (is : x ≡ get_or xs i x) where
+  pub views_more : map view (take (i + 1) xs) ≡ map view (take i xs) ++ view x ∷ []
+  views_more =
+      ap (λ (l : List A). map view l) (take_more xs i x below) ∙ (map-append view (take i xs) (get_or xs i x ∷ [])
+      ∙ ap (λ (y : A). map view (take i xs) ++ view y ∷ []) (sym is))
+
+  pub views_parted : map view xs ≡ map view (take i xs) ++ view x ∷ map view (drop (i + 1) xs)
+  views_parted =
+      ap (λ (l : List A). map view l) (sym (take-append-drop i xs) ∙ ap (λ (l : List A). take i xs ++ l) (drop_more xs i x below))
+      ∙ (map-append view (take i xs) (get_or xs i x ∷ drop (i + 1) xs)
+      ∙ ap (λ (y : A). map view (take i xs) ++ view y ∷ map view (drop (i + 1) xs)) (sym is))
+
+-- what holds of a stop holds of the reason of the file
+pub of_file_stop : (f : RunFault) (P : RequestReason → Type 0) → IfSome (stop_of f.stop) (λ stop. P (file_refused (reason_of_file f.file stop)))
+    → IfBecause (by_reason file_refused (file_reason_of f)) P
+of_file_stop f P h = by (stop_of f.stop) h
+  where
+    by : (o : Option FileStop) → IfSome o (λ stop. P (file_refused (reason_of_file f.file stop)))
+        → IfBecause (by_reason file_refused (option_map (reason_of_file f.file) o)) P
+    by None k = tt
+    by (Some stop) k = k
 
 -- a cause that isn't given up is a reason
 pub reason_of : {R : Type 0} (given_up : Cause R → Bool) → given_up memory ≡ true → given_up device ≡ true → (c : Cause R) (failed : Type 0)

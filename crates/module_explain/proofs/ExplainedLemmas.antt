@@ -1,6 +1,6 @@
 -- Why a request is refused, by what was said of its refusal.
 use Rattle.std.proofs.Common.{◌≡◌, true, false, List, Option, Some, None, Result, Ok, Err, IfErr, IfOk, inl, inr, refl, sym, subst}
-use Rattle.std.specs.Prelude.{IfSome, ◌⊎◌, ⊤}
+use Rattle.std.specs.Prelude.{IfSome, is_none, ◌⊎◌, ⊤}
 use Rattle.envvars.specs.Environment.{Environment}
 use Rattle.envvars.specs.Reasons as edits
 use Rattle.envvars.specs.Texts.{Text}
@@ -22,12 +22,10 @@ use Rattle.requests.specs.Reasons.{RequestReason, file_refused, missed, refused_
 use Rattle.requests.specs.Requests.{RequestedAction, request_of}
 use Rattle.search.specs.Answers.{cause_of as find_cause}
 use Rattle.search.specs.Reasons.{FindReason}
-use Rattle.module_failures.proofs.TrialLemmas.{reason_in}
-use Rattle.module_failures.specs.Failing.{words_of}
-use Rattle.module_failures.specs.declared.location.FileExplanation.{FileExplanation}
+use Rattle.module_explain.specs.declared.location.FileExplanation.{FileExplanation}
 use Rattle.module_explain.proofs.AdviceLemmas.{Answers}
-use Rattle.module_explain.proofs.LocationLemmas.{locates_later, none_located_later}
 use Rattle.module_explain.specs.Advised.{ComesTo, IsAdvised}
+use Rattle.module_explain.specs.Locations.{IsLocated, IsNotLocated}
 use Rattle.module_explain.specs.Explained.{IsExplained, IsFile, IsOfOutcome, IsSound, IsUnexplained, IsWhy}
 use Rattle.module_explain.specs.Views.{IfBecause, IsFileOf, is_known}
 use Rattle.module_explain.specs.declared.advice.Advice.{Advice}
@@ -54,32 +52,20 @@ knowns agrees limits shell e (Err fault) h = tt
 
 -- ---- the file
 
--- what was said of it is so over fewer pairs of maps too
-module _ (before now : Files → Listings → Type 0) (limits : Limits) (shell : Shell) (e : Environment) (action : RequestedAction) (narrows : Narrows before now) where
-  pub file_later : (refusal : Refusal) (o : Option FileExplanation) → IsFileOf before limits shell e action refusal o → IsFileOf now limits shell e action refusal o
-  file_later (refusals.Run fault) None (caused, h) = (caused, none_located_later before now limits narrows shell e action (words_of fault) h)
-  file_later (refusals.Run fault) (Some x) (caused, h) = (caused, locates_later before now limits narrows shell e action (words_of fault) x h)
-  file_later refusals.OutOfMemory o h = h
-  file_later (refusals.Find fault) o h = h
-  file_later (refusals.Env fault) o h = h
-  file_later refusals.BadArguments o h = h
-  file_later (refusals.UnknownSubcommand word) o h = h
-  file_later (refusals.ConflictWith name) o h = h
-  file_later (refusals.PrereqMissing missing) o h = h
-  file_later (refusals.StillNeededBy name) o h = h
-  file_later (refusals.FileGone path) o h = h
-  file_later (refusals.NotAModulefile path) o h = h
+-- a reason that is there
+pub reason_in : (o : Option FileReason) → is_none o ≡ false → (reason : FileReason) × (o ≡ Some reason)
+reason_in (Some reason) h = (reason, refl)
+reason_in None h = absurd (cc)
 
-module _ (agrees : Files → Listings → Type 0) (limits : Limits) (shell : Shell) (e : Environment) (action : RequestedAction) where
+module _ (agrees : Files → Listings → Type 0) where
   -- of a fault of a modulefile
-  of_fault : (fault : RunFault) (o : Option FileExplanation) (reason : FileReason) → file_reason_of fault ≡ Some reason
-      → ComesTo agrees limits shell e action (Err (file_refused reason)) → IsFileOf agrees limits shell e action (refusals.Run fault) o
-      → IsFile agrees limits shell e action (file_refused reason) o
-  of_fault fault None reason is comes (caused, none) = (fault, is, none)
-  of_fault fault (Some x) reason is comes (caused, h) = record { fault = fault; reason = reason; caused = is; refused = comes; located = h }
+  of_fault : (f : RunFault) (o : Option FileExplanation) (reason : FileReason) → file_reason_of f ≡ Some reason
+      → IsFileOf agrees (refusals.Run f) o → IsFile agrees (file_refused reason) o
+  of_fault f None reason is (caused, h) = subst (λ (r : Option FileReason). IfSome r (IsNotLocated agrees)) is h
+  of_fault f (Some x) reason is (caused, h) = subst (λ (r : Option FileReason). IfSome r (λ reason. IsLocated agrees reason x)) is h
 
   -- what isn't of a file has none
-  no_file : (reason : RequestReason) → ((r : FileReason) → reason ≡ file_refused r → ⊥) → (o : Option FileExplanation) → o ≡ None → IsFile agrees limits shell e action reason o
+  no_file : (reason : RequestReason) → ((r : FileReason) → reason ≡ file_refused r → ⊥) → (o : Option FileExplanation) → o ≡ None → IsFile agrees reason o
   no_file (file_refused r) not o h = absurd (not r refl)
   no_file reasons.bad_arguments not o h = h
   no_file (reasons.unknown_subcommand word) not o h = h
@@ -92,60 +78,63 @@ module _ (agrees : Files → Listings → Type 0) (limits : Limits) (shell : She
   no_file (refused_edit reason) not o h = h
 
   abbrev pub Said : Option FileExplanation → Cause RequestReason → Type 0
-  Said o c = IfBecause c (λ r. ComesTo agrees limits shell e action (Err r) → IsFile agrees limits shell e action r o)
+  Said o c = IfBecause c (λ r. IsFile agrees r o)
 
   by_find : (c : Cause FindReason) (o : Option FileExplanation) → o ≡ None → Said o (by_search c)
   by_find memory o h = tt
   by_find device o h = tt
-  by_find (because r) o h = λ comes. h
+  by_find (because r) o h = h
 
   by_edit : {R : Type 0} (view : R → RequestReason) → ((r : R) (f : FileReason) → view r ≡ file_refused f → ⊥) → (c : Option R) (o : Option FileExplanation) → o ≡ None → Said o (by_reason view c)
   by_edit view not None o h = tt
-  by_edit view not (Some r) o h = λ comes. no_file (view r) (not r) o h
+  by_edit view not (Some r) o h = no_file (view r) (not r) o h
 
-  pub said_by : (refusal : Refusal) (o : Option FileExplanation) → IsFileOf agrees limits shell e action refusal o → Said o (cause_of refusal)
-  said_by (refusals.Run fault) None h =
-      let r = reason_in (file_reason_of fault) h.0 in
-      subst (λ (c : Option FileReason). Said None (by_reason file_refused c)) (sym r.1) (λ comes. of_fault fault None r.0 r.1 comes h)
-  said_by (refusals.Run fault) (Some x) h =
-      let r = reason_in (file_reason_of fault) h.0 in
-      subst (λ (c : Option FileReason). Said (Some x) (by_reason file_refused c)) (sym r.1) (λ comes. of_fault fault (Some x) r.0 r.1 comes h)
+  by_file : (f : RunFault) (o : Option FileExplanation) → is_none (file_reason_of f) ≡ false → IsFileOf agrees (refusals.Run f) o
+      → Said o (by_reason file_refused (file_reason_of f))
+  by_file f o caused h =
+      let r = reason_in (file_reason_of f) caused in
+      subst (λ (c : Option FileReason). Said o (by_reason file_refused c)) (sym r.1) (of_fault f o r.0 r.1 h)
+
+  pub said_by : (refusal : Refusal) (o : Option FileExplanation) → IsFileOf agrees refusal o → Said o (cause_of refusal)
+  said_by (refusals.Run f) None h = by_file f None h.0 h
+  said_by (refusals.Run f) (Some x) h = by_file f (Some x) h.0 h
   said_by refusals.OutOfMemory o h = tt
   said_by (refusals.Find fault) o h = by_find (find_cause fault) o h
   said_by (refusals.Env fault) o h = by_edit (λ r. refused_edit (bad_edit r)) (λ r f same. absurd (cc)) (edits.reason_of fault) o h
-  said_by refusals.BadArguments o h = λ comes. h
-  said_by (refusals.UnknownSubcommand word) o h = λ comes. h
-  said_by (refusals.ConflictWith name) o h = λ comes. h
-  said_by (refusals.PrereqMissing missing) o h = λ comes. h
-  said_by (refusals.StillNeededBy name) o h = λ comes. h
-  said_by (refusals.FileGone path) o h = λ comes. h
-  said_by (refusals.NotAModulefile path) o h = λ comes. h
+  said_by refusals.BadArguments o h = h
+  said_by (refusals.UnknownSubcommand word) o h = h
+  said_by (refusals.ConflictWith name) o h = h
+  said_by (refusals.PrereqMissing missing) o h = h
+  said_by (refusals.StillNeededBy name) o h = h
+  said_by (refusals.FileGone path) o h = h
+  said_by (refusals.NotAModulefile path) o h = h
 
+module _ (agrees : Files → Listings → Type 0) (limits : Limits) (shell : Shell) (e : Environment) (action : RequestedAction) where
   -- ---- the outcome
 
   outcome : (c : Cause RequestReason) (failed : Type 0) (x : Explanation) → is_transient c ≡ false
-      → Applies c failed (λ r. ComesTo agrees limits shell e action (Err r)) → Said x.file c
+      → Applies c failed (λ r. ComesTo agrees limits shell e action (Err r)) → Said agrees x.file c
       → IfBecause c (λ r. IsAdvised agrees limits shell e action r x.advice) → IsOfOutcome agrees limits shell e action x
   outcome memory failed x is comes said advised = absurd (cc)
   outcome device failed x is comes said advised = absurd (cc)
-  outcome (because r) failed x is comes said advised = inr (r, comes, said comes, advised)
+  outcome (because r) failed x is comes said advised = inr (r, comes, said, advised)
 
-  why_of : (reason : RequestReason) (o : Option FileExplanation) → IsFile agrees limits shell e action reason o → IfSome o (IsWhy agrees limits shell e action)
-  why_of reason None h = tt
-  why_of (file_refused r) (Some x) h = h
-  why_of reasons.bad_arguments (Some x) h = absurd (cc)
-  why_of (reasons.unknown_subcommand word) (Some x) h = absurd (cc)
-  why_of (missed reason) (Some x) h = absurd (cc)
-  why_of (reasons.file_gone path) (Some x) h = absurd (cc)
-  why_of (reasons.not_a_modulefile path) (Some x) h = absurd (cc)
-  why_of (reasons.conflict_with name) (Some x) h = absurd (cc)
-  why_of (reasons.prereq_missing names) (Some x) h = absurd (cc)
-  why_of (reasons.still_needed_by name) (Some x) h = absurd (cc)
-  why_of (refused_edit reason) (Some x) h = absurd (cc)
+  why_of : (reason : RequestReason) (o : Option FileExplanation) → ComesTo agrees limits shell e action (Err reason) → IsFile agrees reason o → IfSome o (IsWhy agrees limits shell e action)
+  why_of reason None comes h = tt
+  why_of (file_refused r) (Some x) comes h = record { reason = r; refused = comes; located = h }
+  why_of reasons.bad_arguments (Some x) comes h = absurd (cc)
+  why_of (reasons.unknown_subcommand word) (Some x) comes h = absurd (cc)
+  why_of (missed reason) (Some x) comes h = absurd (cc)
+  why_of (reasons.file_gone path) (Some x) comes h = absurd (cc)
+  why_of (reasons.not_a_modulefile path) (Some x) comes h = absurd (cc)
+  why_of (reasons.conflict_with name) (Some x) comes h = absurd (cc)
+  why_of (reasons.prereq_missing names) (Some x) comes h = absurd (cc)
+  why_of (reasons.still_needed_by name) (Some x) comes h = absurd (cc)
+  why_of (refused_edit reason) (Some x) comes h = absurd (cc)
 
   why_if : (x : Explanation) → IsOfOutcome agrees limits shell e action x → IfSome x.file (IsWhy agrees limits shell e action)
   why_if x (inl (accepted, none, more)) = subst (λ (o : Option FileExplanation). IfSome o (IsWhy agrees limits shell e action)) (sym none) tt
-  why_if x (inr (reason, comes, said, advised)) = why_of reason x.file said
+  why_if x (inr (reason, comes, said, advised)) = why_of reason x.file comes said
 
   -- of an answer
   pub whys : (r : Result Explanation Refusal) → IfOk r (IsOfOutcome agrees limits shell e action) → IfOk r (λ x. IfSome x.file (IsWhy agrees limits shell e action))
@@ -154,10 +143,10 @@ module _ (agrees : Files → Listings → Type 0) (limits : Limits) (shell : She
 
   pub outcomes : (given : Refusal) (failed : Type 0) (r : Result Explanation Refusal) → is_transient (cause_of given) ≡ false
       → Applies (cause_of given) failed (λ reason. ComesTo agrees limits shell e action (Err reason))
-      → IfOk r (λ x. IsFileOf agrees limits shell e action given x.file)
+      → IfOk r (λ x. IsFileOf agrees given x.file)
       → IfOk r (λ x. IfBecause (cause_of given) (λ reason. IsAdvised agrees limits shell e action reason x.advice))
       → IfOk r (IsOfOutcome agrees limits shell e action)
-  outcomes given failed (Ok x) is comes file advised = outcome (cause_of given) failed x is comes (said_by given x.file file) advised
+  outcomes given failed (Ok x) is comes file advised = outcome (cause_of given) failed x is comes (said_by agrees given x.file file) advised
   outcomes given failed (Err refusal) is comes file advised = tt
 
 -- what a request comes to is so over fewer pairs of maps too
@@ -170,7 +159,7 @@ applies_later before now limits shell e action narrows (because r) failed h = λ
 -- what is said of a request that is refused, by what the call for it answers
 pub outcomes_of : (before now : Files → Listings → Type 0) (limits : Limits) (shell : Shell) (e : Environment) (action : RequestedAction) → Narrows before now
     → (refusal : Refusal) (failed : Type 0) (answer : Result RequestChanges Refusal) (r : Result Explanation Refusal) → answer ≡ Err refusal → is_transient (cause_of refusal) ≡ false
-    → Answers before limits shell e failed action answer → IfOk r (λ x. IsFileOf now limits shell e action refusal x.file)
+    → Answers before limits shell e failed action answer → IfOk r (λ x. IsFileOf now refusal x.file)
     → IfOk r (λ x. IfBecause (cause_of refusal) (λ reason. IsAdvised now limits shell e action reason x.advice)) → IfOk r (IsOfOutcome now limits shell e action)
 outcomes_of before now limits shell e action narrows refusal failed answer r is reason over_tree file advised =
     outcomes now limits shell e action refusal failed r reason

@@ -1,10 +1,9 @@
+pub mod CommandLemmas
 pub mod LocationLemmas
 pub mod SemicolonLemmas
 pub mod LineLemmas
 pub mod AdviceLemmas
 pub mod AutomaticLemmas
 pub mod UnknownLemmas
-pub mod EvaluatedLemmas
-pub mod PartLemmas
 pub mod ExplainedLemmas
 pub mod FailedLemmas

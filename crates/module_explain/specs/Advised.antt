@@ -9,7 +9,7 @@ use Rattle.envvars.specs.Texts.{Text, has, texts_in}
 use Rattle.filetree.specs.Agreement.{Files, Listings, InEachPair}
 use Rattle.modules.specs.transient_failures.Causes.{is_transient}
 use Rattle.filetree.specs.Modulefiles.{directories}
-use Rattle.modulefile.specs.Files.{FileReason, halted}
+use Rattle.modulefile.specs.Files.{FileStop, halted}
 use Rattle.modulename.specs.ModuleName.{is_module_name}
 use Rattle.modules.specs.Answers.{cause_of}
 use Rattle.modules.specs.Spaced.{spaced}
@@ -93,9 +93,9 @@ abbrev pub ForHalt : Halt → Option Advice → Type 0
 ForHalt (LeftOut name) o = IsKnown (instead_of name) o
 ForHalt halt o = o ≡ None
 
-abbrev pub ForFile : FileReason → Option Advice → Type 0
-ForFile (halted halt) o = ForHalt halt o
-ForFile reason o = o ≡ None
+abbrev pub ForStop : FileStop → Option Advice → Type 0
+ForStop (halted halt) o = ForHalt halt o
+ForStop stop o = o ≡ None
 
 -- none of the directories that are searched is there, or one is
 abbrev pub NoneIsThere : (Files → Listings → Type 0) → List Text → Type 0
@@ -246,5 +246,5 @@ module _ (agrees : Files → Listings → Type 0) (limits : Limits) (shell : She
   IsAdvised action (prereq_missing alternatives) o = ForNames (ForNeed alternatives) (names_to_load action) o
   IsAdvised action (still_needed_by name) o = ForNames ForNeeded (names_to_unload action) o
   IsAdvised action (missed reason) o = ForMissed reason o
-  IsAdvised action (file_refused reason) o = ForFile reason o
+  IsAdvised action (file_refused reason) o = ForStop reason.stop o
   IsAdvised action reason o = o ≡ None

@@ -3,37 +3,30 @@
 use Rattle.std.specs.Prelude.{◌≡◌, ◌⊎◌, List, [], ◌∷◌, Option, Some, None, Ok, Err}
 use Rattle.envvars.specs.Environment.{Environment}
 use Rattle.envvars.specs.Texts.{Text}
-use Rattle.filetree.specs.Agreement.{Files, Listings, InEachPair}
+use Rattle.filetree.specs.Agreement.{Files, Listings}
 use Rattle.filetree.specs.Causes.{Cause, memory, device, because}
 use Rattle.shelltext.specs.Reading.{SaysDifference}
 use Rattle.shelltext.specs.declared.shell.Shell.{Shell}
 use Rattle.tclrules.specs.declared.limits.Limits.{Limits}
 use Rattle.modulefile.specs.Files.{FileReason}
-use Rattle.modulefile_run.specs.Running.{file_reason_of}
-use Rattle.modulefile_run.specs.declared.run_fault.RunFault.{RunFault}
 use Rattle.requests.specs.Reasons.{RequestReason, bad_arguments, file_refused}
 use Rattle.requests.specs.RequestViews.{action_view}
 use Rattle.requests.specs.Requests.{RequestedAction, request_of}
-use Rattle.requests.specs.Steps.{Done, RequestStep, request_context_in}
-use Rattle.module_failures.specs.Failing.{words_of}
+use Rattle.requests.specs.Steps.{Done}
 use Rattle.module_explain.specs.Advised.{ComesTo, IsAdvised, IsKnown}
-use Rattle.module_explain.specs.Locations.{Locates, NoneIsLocated}
+use Rattle.module_explain.specs.Locations.{IsLocated, IsNotLocated}
 use Rattle.module_explain.specs.Replacements.{usage_of}
 use Rattle.module_explain.specs.declared.advice.Advice.{Advice}
 use Rattle.module_explain.specs.declared.advice.Advice.TheVariants as advices
 use Rattle.module_explain.specs.declared.explanation.Explanation.{Explanation}
-use Rattle.module_failures.specs.declared.location.FileExplanation.{FileExplanation}
+use Rattle.module_explain.specs.declared.location.FileExplanation.{FileExplanation}
 
--- In each pair of maps that agrees the request is refused because a modulefile is, and what is said locates the first
--- of its files that is refused in the same words and has a command that is shown to have failed.
+-- In each pair of maps that agrees the request is refused because a modulefile is, and what is said is of that one.
 pub record IsWhy (agrees : Files → Listings → Type 0) (limits : Limits) (shell : Shell) (e : Environment)
     (action : RequestedAction) (x : FileExplanation) : Type 0 where
-  pub fault : RunFault
   pub reason : FileReason
-  pub caused : file_reason_of fault ≡ Some reason
-  pub refused : InEachPair agrees (λ files listings.
-      RequestStep (request_context_in limits shell files listings) e action (Err (file_refused reason)))
-  pub located : Locates agrees limits shell e action (words_of fault) x
+  pub refused : ComesTo agrees limits shell e action (Err (file_refused reason))
+  pub located : IsLocated agrees reason x
 
 -- in each pair of maps that agrees the step of the request is done, and comes to the same
 abbrev pub StepIsDone : (Files → Listings → Type 0) → Limits → Shell → Environment → RequestedAction → Type 0
@@ -63,15 +56,11 @@ IsUsage (word ∷ others) o = IsKnown (usage_of word) o
 abbrev pub IsOfUsage : List Text → Explanation → Type 0
 IsOfUsage words x = (x.file ≡ None) × IsUsage words x.advice
 
--- The file that is said, where a request is refused because of one (`IsWhy` says of which); no other reason has one.
--- Nothing is said only where none of the files that are evaluated in the request is located.
-abbrev pub IsFile : (Files → Listings → Type 0) → Limits → Shell → Environment → RequestedAction → RequestReason
-    → Option FileExplanation → Type 0
-IsFile agrees limits shell e action (file_refused reason) None =
-    (fault : RunFault) × (file_reason_of fault ≡ Some reason)
-    × NoneIsLocated agrees limits shell e action (words_of fault)
-IsFile agrees limits shell e action (file_refused reason) (Some x) = IsWhy agrees limits shell e action x
-IsFile agrees limits shell e action reason o = o ≡ None
+-- The file that is said, where a request is refused because of one; no other reason has one.
+abbrev pub IsFile : (Files → Listings → Type 0) → RequestReason → Option FileExplanation → Type 0
+IsFile agrees (file_refused reason) None = IsNotLocated agrees reason
+IsFile agrees (file_refused reason) (Some x) = IsLocated agrees reason x
+IsFile agrees reason o = o ≡ None
 
 -- Of a request whose step is done nothing is said; of one that is refused, what the reason asks for.
 abbrev pub IsOfOutcome : (Files → Listings → Type 0) → Limits → Shell → Environment → RequestedAction → Explanation
@@ -79,7 +68,7 @@ abbrev pub IsOfOutcome : (Files → Listings → Type 0) → Limits → Shell �
 IsOfOutcome agrees limits shell e action x =
     (StepIsDone agrees limits shell e action × (x.file ≡ None) × (x.advice ≡ None))
     ⊎ ((reason : RequestReason) × ComesTo agrees limits shell e action (Err reason)
-    × IsFile agrees limits shell e action reason x.file
+    × IsFile agrees reason x.file
     × IsAdvised agrees limits shell e action reason x.advice)
 
 -- Why nothing is said: memory is wanting, the device failed in the call, or the words make no request, for another reason

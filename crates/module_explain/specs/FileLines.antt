@@ -6,7 +6,7 @@ use Rattle.std.specs.Str.{trim_end}
 use Rattle.std.specs.Str.Lines.{lines}
 use Rattle.terminal.specs.text.Shown as terminal
 use Rattle.terminal.specs.text.Shown.{Text, shown_char}
-use Rattle.module_failures.specs.declared.location.FileExplanation.{FileExplanation}
+use Rattle.module_explain.specs.declared.location.FileExplanation.{FileExplanation}
 
 -- what a terminal shows of a text, and of a line of its own
 abbrev pub shown : Text → Text

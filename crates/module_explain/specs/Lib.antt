@@ -2,7 +2,7 @@
 pub mod Replacements
 pub mod Alike
 pub mod Advised
-pub mod Evaluated
+pub mod Commands
 pub mod Locations
 pub mod Explained
 pub mod FailedPaths
@@ -11,4 +11,3 @@ pub mod FileLines
 pub mod AdviceLines
 -- for this crate's own contracts alone
 pub mod Views
-pub mod EvaluatedViews

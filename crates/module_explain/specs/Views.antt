@@ -1,5 +1,5 @@
 -- What the values of the code stand for, for the contracts of this crate's private functions (own).
-use Rattle.std.specs.Prelude.{◌≡◌, Bool, true, false, is_none, List, Option, Some, None, String}
+use Rattle.std.specs.Prelude.{◌≡◌, Bool, true, false, is_none, List, Option, Some, None, IfSome, String}
 use Rattle.std.specs.declared.alloc.Global.{Global}
 use Rattle.std.specs.declared.vec.Vec.{Vec}
 use Rattle.envvars.specs.Environment.{Environment}
@@ -14,13 +14,11 @@ use Rattle.tclrules.specs.declared.limits.Limits.{Limits}
 use Rattle.modulefile_run.specs.Running.{file_reason_of}
 use Rattle.modules.specs.declared.refusal.Refusal.{Refusal}
 use Rattle.modules.specs.declared.refusal.Refusal.TheVariants as refusals
-use Rattle.module_failures.specs.Failing.{words_of}
-use Rattle.module_failures.specs.declared.location.FileExplanation.{FileExplanation}
+use Rattle.module_explain.specs.declared.location.FileExplanation.{FileExplanation}
 use Rattle.requests.specs.RequestViews.{action_view}
-use Rattle.requests.specs.Requests.{RequestedAction}
 use Rattle.requests.specs.declared.action.Action.{Action}
 use Rattle.module_explain.specs.Advised.{IsFirstSwitch, NoSwitch}
-use Rattle.module_explain.specs.Locations.{Locates, NoneIsLocated}
+use Rattle.module_explain.specs.Locations.{IsLocated, IsNotLocated}
 use Rattle.module_explain.specs.declared.advice.Advice.{Advice}
 use Rattle.module_explain.specs.declared.advice.Advice.TheVariants as advices
 
@@ -53,14 +51,14 @@ abbrev pub IsAutomated : List Text → Action → Advice → Type 0
 IsAutomated asked action advice =
     (typed : Vec (String Global) Global) × (advice ≡ advices.TryAutomated typed action) × (texts_in typed ≡ asked)
 
--- What is said of the file of a refusal: of a fault of one, where it failed, or that none is located.
-abbrev pub IsFileOf : (Files → Listings → Type 0) → Limits → Shell → Environment → RequestedAction → Refusal
-    → Option FileExplanation → Type 0
-IsFileOf agrees limits shell e action (refusals.Run fault) None =
-    (is_none (file_reason_of fault) ≡ false) × NoneIsLocated agrees limits shell e action (words_of fault)
-IsFileOf agrees limits shell e action (refusals.Run fault) (Some x) =
-    (is_none (file_reason_of fault) ≡ false) × Locates agrees limits shell e action (words_of fault) x
-IsFileOf agrees limits shell e action refusal o = o ≡ None
+-- What is said of the file of a refusal: of one for a file, where that failed, or nothing; of another nothing.
+abbrev pub IsFileOf : (Files → Listings → Type 0) → Refusal → Option FileExplanation → Type 0
+IsFileOf agrees (refusals.Run refused) None =
+    (is_none (file_reason_of refused) ≡ false) × IfSome (file_reason_of refused) (IsNotLocated agrees)
+IsFileOf agrees (refusals.Run refused) (Some x) =
+    (is_none (file_reason_of refused) ≡ false)
+    × IfSome (file_reason_of refused) (λ reason. IsLocated agrees reason x)
+IsFileOf agrees refusal o = o ≡ None
 
 -- it is a line, and no request
 abbrev pub is_known : Advice → Bool

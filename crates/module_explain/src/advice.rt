@@ -4,7 +4,7 @@ ghost use Rattle.std.specs.Prelude.{◌<◌, IfErr};
 ghost use Rattle.envvars.specs.Changes.{new_value_of};
 ghost use Rattle.filetree.specs.Agreement.{ReadsOn};
 ghost use Rattle.search.specs.Answers.{cause_of as find_cause};
-ghost use Rattle.modulefile_run.specs.Running.{eval_reason, file_reason_of};
+ghost use Rattle.modulefile_run.specs.Running.{eval_stop, stop_of};
 ghost use Rattle.modules.specs.Answers.{cause_of};
 ghost use Rattle.requests.specs.RequestViews.{action_view};
 ghost use Rattle.requests.specs.Requests as actions;
@@ -23,7 +23,7 @@ use envstate::loaded_list::{is_loaded, loaded};
 use envvars::Change;
 use filetree::Tree;
 use modules::transient_failures::unless_transient;
-use modules::{Action, EvalFault, FindFault, Refusal, Request, RunFault, run_changes};
+use modules::{Action, EvalFault, FindFault, Refusal, Request, RunStop, run_changes};
 use shelltext::{PrintFault, Shell, print_changes};
 use std::alloc::{AllocError, Global};
 
@@ -186,7 +186,7 @@ fn for_conflict<T: Tree>(
 /// For a text that is halted: what stands in the place of a command that is left out.
 fn for_halt(alloc: Global, fault: &EvalFault) -> Result<Option<Advice>, AllocError>
     ensures known { IfOk result (λ o. IfSome o (λ advice. is_known advice ≡ true)) }
-    ensures fits { IfOk result (λ o. IfSome (eval_reason fault.now None) (λ reason. spec.ForFile reason o)) }
+    ensures fits { IfOk result (λ o. IfSome (eval_stop fault.now None) (λ stop. spec.ForStop stop o)) }
 {
     match fault {
         EvalFault::LeftOut(name) => known(alloc, instead_of(name.as_str())),
@@ -204,13 +204,13 @@ fn for_halt(alloc: Global, fault: &EvalFault) -> Result<Option<Advice>, AllocErr
 }
 
 /// For a modulefile that is refused.
-fn for_fault(alloc: Global, fault: &RunFault) -> Result<Option<Advice>, AllocError>
+fn for_fault(alloc: Global, fault: &RunStop) -> Result<Option<Advice>, AllocError>
     ensures known { IfOk result (λ o. IfSome o (λ advice. is_known advice ≡ true)) }
-    ensures fits { IfOk result (λ o. IfSome (file_reason_of fault.now) (λ reason. spec.ForFile reason o)) }
+    ensures fits { IfOk result (λ o. IfSome (stop_of fault.now) (λ stop. spec.ForStop stop o)) }
 {
     match fault {
-        RunFault::Eval(fault) => for_halt(alloc, fault),
-        RunFault::OutOfMemory | RunFault::BadArguments | RunFault::BadRecord(_) => Ok(None),
+        RunStop::Eval(fault) => for_halt(alloc, fault),
+        RunStop::OutOfMemory | RunStop::BadArguments | RunStop::BadRecord(_) => Ok(None),
     }
 }
 
@@ -261,7 +261,7 @@ pub(crate) fn advice_for<T: Tree>(
         Refusal::PrereqMissing(missing) => for_need(refused, tree, missing),
         Refusal::StillNeededBy(_) => for_needed(refused, tree),
         Refusal::Find(fault) => for_missed(refused, tree, fault),
-        Refusal::Run(fault) => Ok(for_fault(refused.alloc, fault)?),
+        Refusal::Run(file) => Ok(for_fault(refused.alloc, &file.stop)?),
         Refusal::OutOfMemory
         | Refusal::Env(_)
         | Refusal::BadArguments

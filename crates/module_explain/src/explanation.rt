@@ -14,12 +14,11 @@ ghost use Rattle.module_explain.specs.FailedPaths.{IsDeviceOnlyIf};
 
 use crate::advice::{Advice, advice_for};
 use crate::known::known;
-use crate::location::explain_file;
+use crate::location::{FileExplanation, explain_file};
 use crate::refused::RefusedRequest;
 use crate::replacements::usage_of;
 use envvars::Env;
 use filetree::Tree;
-use module_failures::FileExplanation;
 use modules::transient_failures::unless_transient;
 use modules::{Refusal, request, run_changes};
 use shelltext::Shell;
@@ -50,7 +49,7 @@ fn of_usage(alloc: Global, words: &[String]) -> Result<Explanation, AllocError>
     })
 }
 
-/// Where a modulefile failed, if the request is refused for one that is shown to have.
+/// Where the modulefile failed that the request is refused for, if it is refused for one.
 fn file_of<T: Tree>(
     refused: RefusedRequest<'_>,
     tree: &mut T,
@@ -59,8 +58,7 @@ fn file_of<T: Tree>(
     ensures reads { ReadsOn T.agrees T.failures tree.old tree.new }
     ensures gave_up { IfErr result (λ refusal.
         IsDeviceOnlyIf (cause_of refusal) (T.failures tree.old < T.failures tree.new)) }
-    ensures file { IfOk result (IsFileOf (T.agrees tree.new) refused.entry.limits refused.entry.request.now.shell
-        refused.entry.env.now (action_view refused.entry.request.now.action) refusal.now) }
+    ensures file { IfOk result (IsFileOf (T.agrees tree.new) refusal.now) }
 {
     match refusal {
         Refusal::Run(fault) => explain_file(refused, fault, tree),
@@ -88,8 +86,7 @@ fn of_refusal<T: Tree>(
     ensures reads { ReadsOn T.agrees T.failures tree.old tree.new }
     ensures gave_up { IfErr result (λ refusal.
         IsDeviceOnlyIf (cause_of refusal) (T.failures tree.old < T.failures tree.new)) }
-    ensures file { IfOk result (λ x. IsFileOf (T.agrees tree.new) refused.entry.limits refused.entry.request.now.shell
-        refused.entry.env.now (action_view refused.entry.request.now.action) refusal.now x.file) }
+    ensures file { IfOk result (λ x. IsFileOf (T.agrees tree.new) refusal.now x.file) }
     ensures advised { IfOk result (λ x. IfSome x.advice (IsSound (T.agrees tree.new) refused.entry.limits
         refused.entry.request.now.shell refused.entry.env.now)) }
     ensures fits { IfOk result (λ x. IfBecause (cause_of refusal.now) (λ reason.
@@ -147,10 +144,9 @@ fn unless_refused(said: Result<Explanation, Refusal>) -> Result<Explanation, Ref
 }
 
 /// Explains why the request of these words, of which the first is the subcommand, is refused; nothing where it is
-/// accepted. The environment doesn't change. A file is named only where the request is refused because of one, and only
-/// the first of its files that is refused in the same words and has a command that is shown to have failed, which is
-/// named; what is advised would be accepted, and is what the reason of the refusal asks for. Where the words don't fit
-/// the subcommand it says how that is used.
+/// accepted. The environment doesn't change. A file is named only where the request is refused because of that one, with
+/// the command at which its evaluation ended; what is advised would be accepted, and is what the reason of the refusal
+/// asks for. Where the words don't fit the subcommand it says how that is used.
 ///
 /// Errors: no subcommand has this name; want of memory; or 43 where the device failed.
 #[tactic(auto, using(crate::proofs::ExplainedLemmas::known_if))]

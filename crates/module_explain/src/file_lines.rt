@@ -3,9 +3,9 @@ ghost use Rattle.std.specs.Prelude.{◌≡◌, ◌++◌, flat_map, map, IfOk, On
 ghost use Rattle.std.specs.Str.Lines.{lines};
 ghost use Rattle.module_explain.specs.FileLines as spec;
 
+use crate::location::FileExplanation;
 use crate::shortened::push_command;
 use itoa::Buffer;
-use module_failures::FileExplanation;
 use std::alloc::{AllocError, Global};
 use terminal::text::shown;
 

@@ -27,7 +27,7 @@ pub use filetree::{DiskTree, MemoryTree, SeenPath, Tree, TreeFault};
 pub use laws::{command_after_change, commands_and_hands_return, commands_return, one_command};
 pub use lookup::{Found, Listing, available, locate};
 pub use modulefile::RecordFault;
-pub use modulefile_run::RunFault;
+pub use modulefile_run::{RefusedFile, RunFault, RunStop};
 pub use modulename::version_order;
 pub use modules::rehearsals::rehearse;
 pub use modules::{

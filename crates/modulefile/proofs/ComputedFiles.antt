@@ -28,7 +28,7 @@ use Rattle.modulefile.specs.Records.{Set, Unset, Path, Conflict}
 use Rattle.modulefile.specs.declared.records.PathEdit.TheVariants.{Front, Back}
 use Rattle.modulefile.specs.Calls as calls
 use Rattle.modulefile.specs.Answers.{FileContext}
-use Rattle.modulefile.specs.Files.{Ran, FileReason, halted, refused, failed, RunsFile, play}
+use Rattle.modulefile.specs.Files.{Ran, FileReason, FileStop, halted, refused, failed, RunsFile, play}
 use Rattle.modulefile.specs.Rows.{standard, file, loading, unloading, showing, asked_for}
 use Rattle.modulefile.proofs.PlayedFiles.{played_runs}
 
@@ -157,15 +157,28 @@ pub ending_returns : (e : Environment) → computed (loading e) (file (codes "se
 unfolding computed
 ending_returns e = refl
 
-pub ending_error : (e : Environment) → computed (loading e) (file (codes "setenv A 1\n\nerror {no such thing}")) 400 ≡ Some (Err (failed (codes "no such thing") 4))
+-- the reason of the file of rows that stops so
+abbrev stops_at : FileStop → (outermost innermost line : ℕ) → FileReason
+stops_at stop outermost innermost line =
+    record {
+      stop = stop;
+      name = codes "m/1";
+      path = codes "/m/m/1";
+      place = Some (record { outermost = outermost; innermost = innermost; line = line });
+      messages = [];
+    }
+
+pub ending_error : (e : Environment) → computed (loading e) (file (codes "setenv A 1\n\nerror {no such thing}")) 400 ≡ Some
+    (Err (stops_at (failed (codes "no such thing") 4) 21 21 4))
 unfolding computed
 ending_error e = refl
 
 pub refused_protected : (e : Environment) → computed (loading e) (file (codes "catch {setenv LOADEDMODULES x}")) 400 ≡
-    Some (Err (refused (record { number = 33; name = Some (codes "LOADEDMODULES") })))
+    Some (Err (stops_at (refused (record { number = 33; name = Some (codes "LOADEDMODULES") })) 9 16 2))
 unfolding computed
 refused_protected e = refl
 
-pub refused_field : (e : Environment) → computed (loading e) (file (codes "module-info nope x y")) 400 ≡ Some (Err (halted (LeftOut (codes "module-info nope"))))
+pub refused_field : (e : Environment) → computed (loading e) (file (codes "module-info nope x y")) 400 ≡ Some
+    (Err (stops_at (halted (LeftOut (codes "module-info nope"))) 9 9 2))
 unfolding computed
 refused_field e = refl

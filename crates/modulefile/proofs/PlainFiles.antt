@@ -5,7 +5,7 @@ use Rattle.envvars.specs.Texts.{Text}
 use Rattle.envvars.specs.Names.{is_variable_name}
 use Rattle.envvars.specs.Environment.{Environment}
 use Rattle.tclrules.specs.Oracle as oracle
-use Rattle.tclrules.specs.Oracle.{Oracle, OracleAnswer, Nothing, Done, Trace, is_question, is_refusal}
+use Rattle.tclrules.specs.Oracle.{Oracle, OracleAnswer, Nothing, Done, is_question, is_refusal}
 use Rattle.tclrules.specs.Derivation.{ByHost, EvaluationOutcome, Ended, Halted, World, AnswersAlikeUnasked}
 use Rattle.tclrules.specs.Variables.{State}
 use Rattle.tclrules.specs.Plans.{Completion, Normal, Raised, Returned, Broken, Continued}
@@ -18,7 +18,8 @@ use Rattle.modulefile.specs.Calls.{adds_record, adds_message, getenv, is_loaded,
 use Rattle.modulefile.specs.Calls.{CallForm, call_of}
 use Rattle.modulefile.specs.Answers.{FileContext, record_number, record_name, record_answer, variable_answer}
 use Rattle.modulefile.specs.Answers.{command_answer, records_in, environment_after, oracle_of, value_shown}
-use Rattle.modulefile.specs.Files.{Ran, FileReason, ran_of, setting_of, FinishesFile, RunsFile, IsSameOrRefused}
+use Rattle.modulefile.specs.Files.{Ran, FileReason, ran_of, setting_of, refused_by, stopped_in, FinishesFile, RunsFile}
+use Rattle.modulefile.specs.Files.{IsSameOrRefused}
 use Rattle.modulefile.specs.Laws.{PlainFilesAgree}
 use Rattle.modulefile.proofs.Bound.{same_value}
 use Rattle.modulefile.proofs.WholeFiles.{ran_parts}
@@ -71,11 +72,11 @@ UnaskedLaw =
 moved_setting : (limits : Limits) (c d : FileContext) (text : Text) → d.path ≡ c.path → setting_of limits d text ≡ with_oracle (oracle_of d) (setting_of limits c text)
 moved_setting limits c d text p = ap (λ (path : Text). with_oracle (oracle_of d) (setting_of limits (record c { path = path }) text)) p
 
-same_finish : (c d : FileContext) (text result : Text) (s : State) (trace : Trace) (ran : Ran)
-    (o : Result Ran FileReason) → ran_of c trace ≡ Ok ran → FinishesFile d text (Ended (Normal result s)) trace o
+same_finish : (c d : FileContext) (text result : Text) (s : State) (w : World) (ran : Ran)
+    (o : Result Ran FileReason) → ran_of c w.trace ≡ Ok ran → FinishesFile d text (Ended (Normal result s)) w o
     → IsSameOrRefused ran o
-same_finish c d text result s trace ran o h f =
-    inl (f.0, f.2, same_value (records_in trace.records) f.0.records ran.records (ran_parts d trace f.0 f.1).read (ran_parts c trace ran h).read)
+same_finish c d text result s w ran o h f =
+    inl (f.0, f.2, same_value (records_in w.trace.records) f.0.records ran.records (ran_parts d w.trace f.0 f.1).read (ran_parts c w.trace ran h).read)
 
 -- the second context's evaluation ends as that of the first, or is refused
 abbrev pub EndsAlike : Limits → FileContext → FileContext → Text → EvaluationOutcome Completion → World → Type 0
@@ -89,10 +90,10 @@ pub alike_normal : (limits : Limits) (c d : FileContext) (text : Text) (ran : Ra
 alike_normal limits c d text ran o result s w law h p (out2, w2, e2, f) =
     let e3 : EvaluatesTo (with_oracle (oracle_of d) (setting_of limits c text)) out2 w2 = subst (λ (z : Setting). EvaluatesTo z out2 w2) (moved_setting limits c d text p) e2 in
     ⊎_elim
-    (λ i. same_finish c d text result s w.trace ran o h
-    (subst (λ (x : EvaluationOutcome Completion). FinishesFile d text x w.trace o) i.0
-    (subst (λ (v : World). FinishesFile d text out2 v.trace o) i.1 f)))
-    (λ i. inr (i.0, w2.trace.refused, subst (λ (x : EvaluationOutcome Completion). FinishesFile d text x w2.trace o) i.1 f))
+    (λ i. same_finish c d text result s w ran o h
+    (subst (λ (x : EvaluationOutcome Completion). FinishesFile d text x w o) i.0
+    (subst (λ (v : World). FinishesFile d text out2 v o) i.1 f)))
+    (λ i. inr (i.0, w2.trace.refused, stopped_in d text w2 (refused_by i.0 w2.trace.refused), subst (λ (x : EvaluationOutcome Completion). FinishesFile d text x w2 o) i.1 f, refl))
     (law out2 w2 e3)
 
 plain_normal : UnaskedLaw → (limits : Limits) (c d : FileContext) (text : Text) (ran : Ran) (o : Result Ran FileReason)

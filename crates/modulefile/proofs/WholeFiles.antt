@@ -5,7 +5,7 @@ use Rattle.envvars.specs.Environment.{Environment}
 use Rattle.tclrules.specs.Oracle.{Trace}
 use Rattle.tclrules.specs.Derivation.{EvaluationOutcome, Ended, Halted, World}
 use Rattle.tclrules.specs.Plans.{Completion, Normal, Raised, Returned, Broken, Continued}
-use Rattle.tclrules.specs.Meaning.{Setting, EvaluatesTo, line_at}
+use Rattle.tclrules.specs.Meaning.{Setting, EvaluatesTo, line_at, outermost}
 use Rattle.tclrules.specs.Variables.{State}
 use Rattle.tclrules.specs.declared.limits.Limits.{Limits}
 use Rattle.tclrules.proofs.Consultations.{grown, kept}
@@ -14,7 +14,7 @@ use Rattle.modulefile.specs.Effects.{effects}
 use Rattle.modulefile.proofs.Effected.{all_allowed}
 use Rattle.modulefile.specs.Results.{◌>>=◌}
 use Rattle.modulefile.specs.Answers.{FileContext, records_in, record_outcome, effects_so_far}
-use Rattle.modulefile.specs.Files.{Ran, FileReason, failed, halt_reason, setting_of, ran_of, FinishesFile}
+use Rattle.modulefile.specs.Files.{Ran, FileReason, failed, halt_stop, stopped_in, setting_of, ran_of, FinishesFile}
 use Rattle.modulefile.specs.Laws.{SomeOutcome, RecordsHaveEffects, RecordsAreAllowed}
 use Rattle.modulefile.proofs.Bound.{bound, bind_ok, same_value}
 use Rattle.modulefile.proofs.FileEnds.{IsFileEnd, file_end}
@@ -53,13 +53,13 @@ ended_ran limits c text result s w d =
 
 some_end : (limits : Limits) (c : FileContext) (text : Text) (out : EvaluationOutcome Completion) (w : World)
     → EvaluatesTo (setting_of limits c text) out w → IsFileEnd out → (o : Result Ran FileReason)
-    × FinishesFile c text out w.trace o
+    × FinishesFile c text out w o
 some_end limits c text (Ended (Normal t s)) w d i = let r = ended_ran limits c text t s w d in (Ok r.0, (r.0, r.1, refl))
-some_end limits c text (Ended (Raised m s)) w d i = (Err (failed m (line_at text s.offset)), refl)
+some_end limits c text (Ended (Raised m s)) w d i = (Err (stopped_in c text w (failed m (line_at text (outermost w.scripts)))), refl)
 some_end limits c text (Ended (Returned t s)) w d i = absurd i
 some_end limits c text (Ended (Broken s)) w d i = absurd i
 some_end limits c text (Ended (Continued s)) w d i = absurd i
-some_end limits c text (Halted h) w d i = (Err (halt_reason h w.trace.refused), refl)
+some_end limits c text (Halted h) w d i = (Err (stopped_in c text w (halt_stop h w.trace.refused)), refl)
 
 abbrev pub EachComes : Type 0
 EachComes = (s : Setting) → (o : EvaluationOutcome Completion) × (w : World) × EvaluatesTo s o w
@@ -72,19 +72,19 @@ some_run law limits c text =
 
 -- the records of a file that ended
 
-finish_parts : (c : FileContext) (text : Text) (out : EvaluationOutcome Completion) (trace : Trace) (ran : Ran)
-    → FinishesFile c text out trace (Ok ran) → effects c.mode c.name ran.records c.before ≡ Ok ran.env
-finish_parts c text (Ended (Normal t s)) trace ran f =
+finish_parts : (c : FileContext) (text : Text) (out : EvaluationOutcome Completion) (w : World) (ran : Ran)
+    → FinishesFile c text out w (Ok ran) → effects c.mode c.name ran.records c.before ≡ Ok ran.env
+finish_parts c text (Ended (Normal t s)) w ran f =
     let e : f.0 ≡ ran = same_value (Ok f.0) f.0 ran refl (sym f.2) in
-    subst (λ (r : Ran). effects c.mode c.name r.records c.before ≡ Ok r.env) e (ran_parts c trace f.0 f.1).made
-finish_parts c text (Ended (Raised m s)) trace ran f = absurd (cc)
-finish_parts c text (Ended (Returned t s)) trace ran f = absurd f
-finish_parts c text (Ended (Broken s)) trace ran f = absurd f
-finish_parts c text (Ended (Continued s)) trace ran f = absurd f
-finish_parts c text (Halted h) trace ran f = absurd (cc)
+    subst (λ (r : Ran). effects c.mode c.name r.records c.before ≡ Ok r.env) e (ran_parts c w.trace f.0 f.1).made
+finish_parts c text (Ended (Raised m s)) w ran f = absurd (cc)
+finish_parts c text (Ended (Returned t s)) w ran f = absurd f
+finish_parts c text (Ended (Broken s)) w ran f = absurd f
+finish_parts c text (Ended (Continued s)) w ran f = absurd f
+finish_parts c text (Halted h) w ran f = absurd (cc)
 
 pub records_make : RecordsHaveEffects
-records_make limits c text ran (out, w, d, f) = finish_parts c text out w.trace ran f
+records_make limits c text ran (out, w, d, f) = finish_parts c text out w ran f
 
 pub records_allowed : RecordsAreAllowed
 records_allowed limits c text ran r = all_allowed c.mode c.name ran.records c.before ran.env (records_make limits c text ran r)

@@ -13,8 +13,10 @@ use Rattle.tclrules.specs.Derivation.{Ended, Halted, World}
 use Rattle.tclrules.specs.Variables.{Variables}
 use Rattle.tclrules.specs.Plans.{Completion, Normal, Raised, Returned, Broken, Continued}
 use Rattle.tclrules.specs.Playing.{Played}
-use Rattle.tclrules.specs.Meaning.{Setting, EvaluatesTo, line_at, play_file}
+use Rattle.tclrules.specs.Meaning.{Setting, EvaluatesTo, line_at, outermost, play_file}
+use Rattle.tclrules.specs.Places.{place_of}
 use Rattle.tclrules.specs.declared.limits.Limits.{Limits}
+use Rattle.tclrules.specs.declared.outcome.FaultPlace.{FaultPlace}
 use Rattle.modulefile.specs.Records.{Record}
 use Rattle.modulefile.specs.Effects.{effects}
 use Rattle.modulefile.specs.Results.{◌>>=◌}
@@ -47,12 +49,23 @@ abbrev pub any_question : List Question → Bool
 any_question [] = false
 any_question (q ∷ asked) = true
 
--- Why a file is refused: its evaluation was halted, or one of its commands was refused, by this number and for this
--- name, or it ended with an error that nothing caught, on this line of it.
-pub data FileReason : Type 0 where
-  halted : Halt → FileReason
-  refused : HostRefusal → FileReason
-  failed : (message : Text) (line : ℕ) → FileReason
+-- Why the evaluation of a file stopped: it was halted, or one of its commands was refused, by this number and for this
+-- name, or it ended with an error that nothing caught, on this line of the file.
+pub data FileStop : Type 0 where
+  halted : Halt → FileStop
+  refused : HostRefusal → FileStop
+  failed : (message : Text) (line : ℕ) → FileStop
+
+-- Why a file is refused.
+pub record FileReason : Type 0 where
+  pub stop : FileStop
+  -- the full name of its module, and its path
+  pub name : Text
+  pub path : Text
+  -- where its evaluation stood; None where no command had begun
+  pub place : Option FaultPlace
+  -- what it had said
+  pub messages : List Text
 
 -- the records of an evaluation, and their effects
 abbrev pub ran_of : FileContext → Trace → Result Ran CallReason
@@ -62,30 +75,40 @@ ran_of c trace =
     Ok (record { records = rs; messages = trace.messages; asked = trace.asked; env = e })))
 
 -- a halt by the host is the refusal of a command, which the evaluation has by number and name
-abbrev pub refused_by : ℕ → Option HostRefusal → FileReason
+abbrev pub refused_by : ℕ → Option HostRefusal → FileStop
 refused_by n None = halted (ByHost n)
 refused_by n (Some refusal) = refused refusal
 
--- why a halted file is refused
-abbrev pub halt_reason : Halt → Option HostRefusal → FileReason
-halt_reason (ByHost n) refusal = refused_by n refusal
-halt_reason halt refusal = halted halt
+-- why a halted file stopped
+abbrev pub halt_stop : Halt → Option HostRefusal → FileStop
+halt_stop (ByHost n) refusal = refused_by n refusal
+halt_stop halt refusal = halted halt
+
+-- the reason of a file that stopped there, after these messages
+abbrev pub stopped_at : FileContext → Option FaultPlace → List Text → FileStop → FileReason
+stopped_at c place messages stop =
+    record { stop = stop; name = c.name; path = c.path; place = place; messages = messages }
+
+-- the reason of a file that stopped in this world
+abbrev pub stopped_in : FileContext → Text → World → FileStop → FileReason
+stopped_in c text w stop = stopped_at c (place_of text w.scripts) w.trace.messages stop
 
 -- The outcome of a file by how its evaluation ended. No file ends by return, break or continue: the rules of evaluation
 -- make the end of the file or an error of them.
-abbrev pub FinishesFile : FileContext → Text → EvaluationOutcome Completion → Trace → Result Ran FileReason → Type 0
-FinishesFile c text (Ended (Normal result s)) trace o = (ran : Ran) × (ran_of c trace ≡ Ok ran) × (o ≡ Ok ran)
-FinishesFile c text (Ended (Raised message s)) trace o = o ≡ Err (failed message (line_at text s.offset))
-FinishesFile c text (Ended (Returned result s)) trace o = ⊥
-FinishesFile c text (Ended (Broken s)) trace o = ⊥
-FinishesFile c text (Ended (Continued s)) trace o = ⊥
-FinishesFile c text (Halted halt) trace o = o ≡ Err (halt_reason halt trace.refused)
+abbrev pub FinishesFile : FileContext → Text → EvaluationOutcome Completion → World → Result Ran FileReason → Type 0
+FinishesFile c text (Ended (Normal result s)) w o = (ran : Ran) × (ran_of c w.trace ≡ Ok ran) × (o ≡ Ok ran)
+FinishesFile c text (Ended (Raised message s)) w o =
+    o ≡ Err (stopped_in c text w (failed message (line_at text (outermost w.scripts))))
+FinishesFile c text (Ended (Returned result s)) w o = ⊥
+FinishesFile c text (Ended (Broken s)) w o = ⊥
+FinishesFile c text (Ended (Continued s)) w o = ⊥
+FinishesFile c text (Halted halt) w o = o ≡ Err (stopped_in c text w (halt_stop halt w.trace.refused))
 
 -- The text of a modulefile, evaluated in a context under these limits, has this outcome.
 abbrev pub RunsFile : Limits → FileContext → Text → Result Ran FileReason → Type 0
 RunsFile limits c text o =
     (out : EvaluationOutcome Completion) × (w : World) × EvaluatesTo (setting_of limits c text) out w
-    × FinishesFile c text out w.trace o
+    × FinishesFile c text out w o
 
 -- the numbers by which files are refused
 abbrev pub halt_number : Halt → ℕ
@@ -100,16 +123,20 @@ halt_number (LeftOut name) = number_of kinds.LeftOut
 halt_number Stopped = number_of kinds.Stopped
 halt_number (ByHost n) = n
 
+abbrev pub stop_number : FileStop → ℕ
+stop_number (halted halt) = halt_number halt
+stop_number (refused refusal) = refusal.number
+stop_number (failed message line) = number_of kinds.TclError
+
 abbrev pub file_reason_number : FileReason → ℕ
-file_reason_number (halted halt) = halt_number halt
-file_reason_number (refused refusal) = refusal.number
-file_reason_number (failed message line) = number_of kinds.TclError
+file_reason_number reason = stop_number reason.stop
 
 -- An evaluation has the same records as this one, or the host refused a command of it.
 abbrev pub IsSameOrRefused : Ran → Result Ran FileReason → Type 0
 IsSameOrRefused ran o =
     ((again : Ran) × (o ≡ Ok again) × (again.records ≡ ran.records))
-    ⊎ ((n : ℕ) × (refusal : Option HostRefusal) × (o ≡ Err (refused_by n refusal)))
+    ⊎ ((n : ℕ) × (refusal : Option HostRefusal) × (reason : FileReason) × (o ≡ Err reason)
+    × (reason.stop ≡ refused_by n refusal))
 
 -- A file played: the definition as a function that computes. The number bounds the steps; None where it is too small.
 abbrev pub played_ran : Result Ran CallReason → Option (Result Ran FileReason)
@@ -119,11 +146,12 @@ played_ran (Err reason) = None
 abbrev pub played_outcome : FileContext → Text → Played Completion → Option (Result Ran FileReason)
 played_outcome c text None = None
 played_outcome c text (Some (Ended (Normal result s), w)) = played_ran (ran_of c w.trace)
-played_outcome c text (Some (Ended (Raised message s), w)) = Some (Err (failed message (line_at text s.offset)))
+played_outcome c text (Some (Ended (Raised message s), w)) =
+    Some (Err (stopped_in c text w (failed message (line_at text (outermost w.scripts)))))
 played_outcome c text (Some (Ended (Returned result s), w)) = None
 played_outcome c text (Some (Ended (Broken s), w)) = None
 played_outcome c text (Some (Ended (Continued s), w)) = None
-played_outcome c text (Some (Halted halt, w)) = Some (Err (halt_reason halt w.trace.refused))
+played_outcome c text (Some (Halted halt, w)) = Some (Err (stopped_in c text w (halt_stop halt w.trace.refused)))
 
 abbrev pub play : Limits → FileContext → Text → ℕ → Option (Result Ran FileReason)
 play limits c text steps = played_outcome c text (play_file (setting_of limits c text) steps)

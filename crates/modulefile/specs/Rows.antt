@@ -3,13 +3,14 @@ use Rattle.std.specs.Prelude.{ℕ, false, List, [], ◌∷◌, ◌++◌, codes, 
 use Rattle.envvars.specs.Texts.{Text}
 use Rattle.envvars.specs.Environment.{Environment, with_value}
 use Rattle.tclrules.specs.Oracle.{Question, OfCommand}
+use Rattle.tclrules.specs.Places.{placed}
 use Rattle.tclrules.specs.Derivation.{Halt}
 use Rattle.tclrules.specs.declared.limits.Limits.{Limits}
 use Rattle.modulefile.specs.Records.{Record}
 use Rattle.modulefile.specs.Effects.{Mode, load, unload, display}
 use Rattle.shelltext.specs.declared.shell.Shell.TheVariants.{Sh}
 use Rattle.modulefile.specs.Answers.{FileContext, question_answer}
-use Rattle.modulefile.specs.Files.{halted, refused, failed, RunsFile}
+use Rattle.modulefile.specs.Files.{FileStop, halted, refused, failed, RunsFile}
 
 -- the limits of every command
 abbrev pub standard : Limits
@@ -81,17 +82,27 @@ LeavesMessages context_at lines messages =
     → RunsFile standard (context_at e) (file lines)
     (Ok (record { records = []; messages = messages; asked = []; env = e }))
 
+-- its evaluation stops so, at a command of its own with the first offset, and at the innermost with the second
+abbrev pub StopsAt : ContextAt → Text → FileStop → ℕ → ℕ → Type 0
+StopsAt context_at lines stop outermost innermost =
+    (e : Environment)
+    → RunsFile standard (context_at e) (file lines) (Err (record {
+      stop = stop;
+      name = (context_at e).name;
+      path = (context_at e).path;
+      place = Some (placed (file lines) outermost innermost);
+      messages = [];
+    }))
+
 -- it is halted
-abbrev pub IsHalted : ContextAt → Text → Halt → Type 0
-IsHalted context_at lines halt = (e : Environment) → RunsFile standard (context_at e) (file lines) (Err (halted halt))
+abbrev pub IsHalted : ContextAt → Text → Halt → ℕ → ℕ → Type 0
+IsHalted context_at lines halt = StopsAt context_at lines (halted halt)
 
 -- one of its commands is refused, by this number and for this name
-abbrev pub IsRefusedFor : ContextAt → Text → ℕ → Text → Type 0
+abbrev pub IsRefusedFor : ContextAt → Text → ℕ → Text → ℕ → ℕ → Type 0
 IsRefusedFor context_at lines number name =
-    (e : Environment)
-    → RunsFile standard (context_at e) (file lines) (Err (refused (record { number = number; name = Some name })))
+    StopsAt context_at lines (refused (record { number = number; name = Some name }))
 
 -- it ends with an error that nothing caught, on this line
-abbrev pub FailsOnLine : ContextAt → Text → Text → ℕ → Type 0
-FailsOnLine context_at lines message line =
-    (e : Environment) → RunsFile standard (context_at e) (file lines) (Err (failed message line))
+abbrev pub FailsOnLine : ContextAt → Text → Text → ℕ → ℕ → ℕ → Type 0
+FailsOnLine context_at lines message line = StopsAt context_at lines (failed message line)

@@ -51,13 +51,14 @@ pub fn completion_rows()
         (codes "hi\n" ∷ codes "ho" ∷ []) }
     ensures returns { LeavesRecords loading (codes "setenv A 1; return; setenv B 2")
         (Set (codes "A") (codes "1") ∷ []) (sets (codes "A") (codes "1")) }
-    ensures error { FailsOnLine loading (codes "setenv A 1\n\nerror {no such thing}") (codes "no such thing") 4 }
+    ensures error { FailsOnLine loading (codes "setenv A 1\n\nerror {no such thing}") (codes "no such thing") 4 21 21 }
 {}
 
 /// Files that are refused, by which number and for which name.
 pub fn refused_rows()
-    ensures protected { IsRefusedFor loading (codes "catch {setenv LOADEDMODULES x}") 33 (codes "LOADEDMODULES") }
-    ensures field { IsHalted loading (codes "module-info nope x y") (LeftOut (codes "module-info nope")) }
+    ensures protected { IsRefusedFor loading (codes "catch {setenv LOADEDMODULES x}") 33 (codes "LOADEDMODULES")
+        9 16 }
+    ensures field { IsHalted loading (codes "module-info nope x y") (LeftOut (codes "module-info nope")) 9 9 }
 {}
 
 /// The reports of `show` and `whatis`, whose words are written as a list of Tcl.

@@ -1,5 +1,5 @@
 //! Why a command of a modulefile is refused, by its own fault.
-use crate::run_fault::RunFault;
+use crate::run_stop::RunStop;
 use modulefile::RecordFault;
 
 /// Why a command of a modulefile is refused. The evaluator gets the number of this alone, and halts.
@@ -16,12 +16,12 @@ impl CommandRefusal {
     ghost use Rattle.modulefile_run.specs.Refusals.{fault_of};
 
     /// The fault of the whole file.
-    pub(crate) fn into_fault(self) -> RunFault
+    pub(crate) fn into_fault(self) -> RunStop
         ensures { result ≡ fault_of self }
     {
         match self {
-            CommandRefusal::BadArguments => RunFault::BadArguments,
-            CommandRefusal::BadRecord(fault) => RunFault::BadRecord(fault),
+            CommandRefusal::BadArguments => RunStop::BadArguments,
+            CommandRefusal::BadRecord(fault) => RunStop::BadRecord(fault),
         }
     }
 }

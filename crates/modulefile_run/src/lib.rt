@@ -14,10 +14,13 @@ mod question;
 mod questions;
 mod run;
 mod run_fault;
+mod run_stop;
 mod runner;
 
 pub use context::FileContext;
 pub use memory::wants_memory;
 pub use question::Question;
 pub use run::{FileRun, records_unless_asked, run_file};
-pub use run_fault::RunFault;
+pub use run_fault::{RefusedFile, RunFault};
+pub use run_stop::RunStop;
+pub use tclrules::FaultPlace;

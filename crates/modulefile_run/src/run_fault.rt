@@ -1,97 +1,86 @@
-//! Why a modulefile is refused.
+//! Why a modulefile is refused, with the place where its evaluation ended and what it had said.
 ghost use Rattle.std.specs.Prelude.{◌≡◌, IfSome, Some};
 ghost use Rattle.message.specs.Refusals.{numbered_text};
+ghost use Rattle.modulefile.specs.Files.{file_reason_number};
 ghost use Rattle.modulefile_run.specs.Messages as texts;
+ghost use Rattle.modulefile_run.specs.Running.{file_reason_of};
 
+use crate::run_stop::RunStop;
 use envvars::EnvFault;
-use message::{NumberedMessage, RefusalKind};
-use modulefile::RecordFault;
+use message::NumberedMessage;
 use std::alloc::AllocError;
 use std::error::Error;
 use std::fmt;
 use std::fmt::Display;
-use tclrules::EvalFault;
+use tclrules::FaultPlace;
 
-/// Why a modulefile is refused. The environment is then as it was. Its `Display` is what follows `ERROR: `.
+/// A modulefile that is refused.
 #[derive(Debug, Drop)]
-pub enum RunFault {
-    /// Memory ran out.
-    OutOfMemory,
-    /// The evaluation of its text ended early.
-    Eval(EvalFault),
-    /// The words of a command don't fit it.
-    BadArguments,
-    /// A command names what it may not, or what it would leave on record has no effect.
-    BadRecord(RecordFault),
+pub struct RefusedFile {
+    /// The full name of its module.
+    pub name: String,
+    /// Its path.
+    pub path: String,
+    /// Where its evaluation ended; None where no command had begun.
+    pub place: Option<FaultPlace>,
+    /// What it had said.
+    pub messages: Vec<String>,
 }
 
-/// A fault of the evaluation. The number of a text's fault is that one's own, and that of a refused command the
-/// command's.
-fn evaluation_numbered(fault: &EvalFault) -> NumberedMessage<'_>
-    ensures { numbered_text result ≡ texts.evaluation_refusal fault.now }
-{
-    match fault {
-        EvalFault::Text(fault) => fault.numbered(),
-        EvalFault::Host(number) => NumberedMessage {
-            number: *number,
-            message: fault.numbered().message,
-        },
-        EvalFault::OutOfMemory
-        | EvalFault::TclError(_, _)
-        | EvalFault::TooManyCommands
-        | EvalFault::TooDeep
-        | EvalFault::ValueTooLong
-        | EvalFault::NumberTooLarge
-        | EvalFault::FractionOperand
-        | EvalFault::LeftOut(_)
-        | EvalFault::Stopped => fault.numbered(),
-    }
+/// Why a modulefile is refused. The environment is then as it was.
+#[derive(Debug, Drop)]
+pub struct RunFault {
+    /// Why.
+    pub stop: RunStop,
+    /// Which file, and where; None where memory ran out outside of its evaluation.
+    pub file: Option<RefusedFile>,
 }
 
 impl RunFault {
-    ghost use Rattle.modulefile.specs.Files.{file_reason_number};
-    ghost use Rattle.modulefile_run.specs.Running.{file_reason_of};
-
     /// The number of the fault and its text: those of the reason, or 11 or 31 where memory ran out.
     pub fn numbered(&self) -> NumberedMessage<'_>
-        ensures exact { numbered_text result ≡ texts.refusal_of self.now }
-        ensures by_file_reason { IfSome (file_reason_of self.now) (λ stop. result.number ≡ file_reason_number stop) }
+        ensures { numbered_text result ≡ texts.refusal_of self.now.stop }
     {
-        match self {
-            RunFault::OutOfMemory => RefusalKind::MemoryForRequest.plain(),
-            RunFault::Eval(fault) => evaluation_numbered(fault),
-            RunFault::BadArguments => RefusalKind::BadArguments.plain(),
-            RunFault::BadRecord(fault) => fault.numbered(),
-        }
+        self.stop.numbered()
     }
 
     /// The number of the fault: that of the reason, or 11 or 31 where memory ran out.
     pub fn number(&self) -> u16
-        ensures exact { result ≡ (texts.refusal_of self.now).number }
-        ensures by_file_reason { IfSome (file_reason_of self.now) (λ stop. result ≡ file_reason_number stop) }
+        ensures exact { result ≡ (texts.refusal_of self.now.stop).number }
+        ensures by_reason { IfSome (file_reason_of self.now) (λ reason. result ≡ file_reason_number reason) }
     {
-        self.numbered().number
+        self.stop.number()
     }
 }
 
 impl fmt::Display for RunFault {
-    ghost output = { λ fault. Some (texts.refusal_of fault).text };
+    ghost output = { λ f. Some (texts.refusal_of f.stop).text };
 
     fn fmt<W: fmt::Write>(&self, f: &mut fmt::Formatter<W>) -> fmt::Result {
-        self.numbered().message.fmt(f)
+        self.stop.fmt(f)
     }
 }
 
 impl Error for RunFault {}
 
+impl From<RunStop> for RunFault {
+    ghost use Rattle.std.specs.Prelude.{◌≡◌, None};
+
+    ghost from_gives = { λ stop e. (e.stop ≡ stop) × (e.file ≡ None) };
+
+    fn from(stop: RunStop) -> RunFault {
+        RunFault { stop, file: None }
+    }
+}
+
 impl From<AllocError> for RunFault {
     ghost use Rattle.std.specs.Prelude.{◌≡◌};
-    ghost use Rattle.modulefile_run.specs.declared.run_fault.RunFault.TheVariants.{OutOfMemory};
+    ghost use Rattle.modulefile_run.specs.declared.run_stop.RunStop.TheVariants.{OutOfMemory};
 
-    ghost from_gives = { λ _ e. e ≡ OutOfMemory };
+    ghost from_gives = { λ _ e. e.stop ≡ OutOfMemory };
 
     fn from(_refused: AllocError) -> RunFault {
-        RunFault::OutOfMemory
+        RunFault::from(RunStop::OutOfMemory)
     }
 }
 
@@ -99,17 +88,9 @@ impl From<EnvFault> for RunFault {
     ghost use Rattle.std.specs.Prelude.{◌≡◌};
     ghost use Rattle.modulefile_run.specs.Refusals.{fault_of_edit};
 
-    ghost from_gives = { λ fault e. e ≡ fault_of_edit fault };
+    ghost from_gives = { λ fault e. e.stop ≡ fault_of_edit fault };
 
     fn from(fault: EnvFault) -> RunFault {
-        match fault {
-            EnvFault::OutOfMemory => RunFault::OutOfMemory,
-            EnvFault::BadVariable(_)
-            | EnvFault::Protected(_)
-            | EnvFault::CounterFull(_)
-            | EnvFault::Inconsistent
-            | EnvFault::BadStack(_)
-            | EnvFault::BadValue(_) => RunFault::BadRecord(RecordFault::Env(fault)),
-        }
+        RunFault::from(RunStop::from(fault))
     }
 }

@@ -12,8 +12,8 @@ ghost use Rattle.modulefile_run.specs.RecordAnswers.{HasFault};
 ghost use Rattle.modulefile.specs.Answers.{command_answer, any_loaded, question_answer, not_done, variable_answer};
 ghost use Rattle.modulefile.specs.Answers.{truth, field_text, field_test, value_shown};
 ghost use Rattle.modulefile.specs.Files.{ran_of};
-ghost use Rattle.modulefile_run.specs.declared.run_fault.RunFault.TheVariants.{OutOfMemory};
-ghost use Rattle.modulefile_run.specs.Running.{ran_view, eval_reason, file_reason_of};
+ghost use Rattle.modulefile_run.specs.declared.run_stop.RunStop.TheVariants.{OutOfMemory};
+ghost use Rattle.modulefile_run.specs.Running.{ran_view, eval_stop, stop_of};
 ghost use Rattle.modulefile_run.specs.Journals.{environment_so_far, journal_state};
 ghost use Rattle.modulefile_run.specs.Hosting.{context_of, trace_of, refusal_view, message_of, Replies};
 
@@ -22,7 +22,7 @@ use crate::context::FileContext;
 use crate::journal::{FinishedFile, Journal};
 use crate::question::{Question, add_command, add_variable};
 use crate::questions::{any_loaded, is_mode, mode_word, truth};
-use crate::run::{FileDraft, FileRun, refusal};
+use crate::run::{FileDraft, FileRun, StoppedRun, refusal};
 use crate::run_fault::RunFault;
 use envvars::{EnvFault, Vars, is_variable_name};
 use modulefile::{Call, CallFault, InfoField, Mode, Record, RecordFault, call_of, command_names};
@@ -226,7 +226,7 @@ impl<'a, V: Vars> Runner<'a, V> {
     pub(crate) fn finish(self) -> Result<FileDraft, RunFault>
         ensures ok { IfOk result (λ draft. ran_of (context_of self.entry) (trace_of self.entry)
             ≡ Ok (ran_view draft.ran (applied (new_values_in draft.changes) self.entry.journal.before))) }
-        ensures only { IfErr result (λ fault. fault ≡ OutOfMemory) }
+        ensures only { IfErr result (λ fault. fault.stop ≡ OutOfMemory) }
     {
         let Runner {
             alloc: _alloc,
@@ -245,20 +245,24 @@ impl<'a, V: Vars> Runner<'a, V> {
         Ok(FileDraft { ran, changes })
     }
 
-    /// Why the file is refused whose evaluation ended with this fault.
-    pub(crate) fn into_fault(self, fault: EvalFault) -> RunFault
-        ensures { IfSome (file_reason_of result) (λ stop. eval_reason fault
+    /// Why the file is refused whose evaluation ended with this fault, and what it had said.
+    pub(crate) fn stop(self, fault: EvalFault) -> StoppedRun
+        ensures stop { IfSome (stop_of result.stop) (λ stop. eval_stop fault
             (refusal_view self.entry.refusal) ≡ Some stop) }
+        ensures messages { result.messages ≡ self.entry.messages }
     {
         let Runner {
             alloc: _alloc,
             context: _context,
             journal: _journal,
-            messages: _messages,
+            messages,
             asked: _asked,
             refusal: command,
         } = self;
-        refusal(fault, command)
+        StoppedRun {
+            stop: refusal(fault, command),
+            messages,
+        }
     }
 
     /// Does a command, and answers it.

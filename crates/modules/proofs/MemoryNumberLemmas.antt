@@ -2,19 +2,24 @@
 use Rattle.std.proofs.Common.{◌≡◌, ℕ, true, [], ◌∷◌, Result, Ok, Err, IfErr, refl}
 use Rattle.std.specs.Prelude.{◌==◌}
 use Rattle.std.specs.List.{list_any}
-use Rattle.modulefile_run.specs.declared.run_fault.RunFault.TheVariants.{OutOfMemory, Eval, BadArguments, BadRecord}
+use Rattle.modulefile_run.specs.declared.run_stop.RunStop.{RunStop}
+use Rattle.modulefile_run.specs.declared.run_stop.RunStop.TheVariants.{OutOfMemory, Eval, BadArguments, BadRecord}
 use Rattle.requests.specs.Requests.{RequestedAction, load, unload, switch, purge, list, avail, show, whatis}
-use Rattle.modules.specs.Messages.{MemoryNumberAmong, memory_number, memory_numbers}
+use Rattle.modules.specs.Messages.{MemoryNumberAmong, memory_number, memory_numbers, run_memory_number}
 use Rattle.modules.specs.declared.refusal.Refusal.{Refusal}
 use Rattle.modules.specs.declared.refusal.Refusal.TheVariants as refusals
+
+-- of a file
+of_run : (fault : RunStop) (P : ℕ → Type 0) → P 11 → P 31 → P (run_memory_number fault)
+of_run OutOfMemory P evaluation own = own
+of_run (Eval fault) P evaluation own = evaluation
+of_run BadArguments P evaluation own = own
+of_run (BadRecord fault) P evaluation own = own
 
 -- what holds of the three numbers holds of it
 pub of_three : (refusal : Refusal) (P : ℕ → Type 0) → P 11 → P 31 → P 41 → P (memory_number refusal)
 of_three refusals.OutOfMemory P evaluation own search = own
-of_three (refusals.Run OutOfMemory) P evaluation own search = own
-of_three (refusals.Run (Eval fault)) P evaluation own search = evaluation
-of_three (refusals.Run BadArguments) P evaluation own search = own
-of_three (refusals.Run (BadRecord fault)) P evaluation own search = own
+of_three (refusals.Run refused) P evaluation own search = of_run refused.stop P evaluation own
 of_three (refusals.Find fault) P evaluation own search = search
 of_three (refusals.Env fault) P evaluation own search = own
 of_three refusals.BadArguments P evaluation own search = own

@@ -8,7 +8,7 @@ use Rattle.envstate.specs.loaded_list.Loaded.{Entry, dropped_loaded}
 use Rattle.filetree.specs.Agreement.{Files, Listings, InEachPair}
 use Rattle.filetree.specs.Causes.{Cause, Applies, memory, device, because}
 use Rattle.tclrules.specs.declared.limits.Limits.{Limits}
-use Rattle.tclrules.specs.Derivation.{EvaluationOutcome, Ended, Halted}
+use Rattle.tclrules.specs.Derivation.{EvaluationOutcome, Ended, Halted, World}
 use Rattle.tclrules.specs.Plans.{Completion, Normal, Raised, Returned, Broken, Continued}
 use Rattle.tclrules.specs.Oracle.{Trace}
 use Rattle.filetree.specs.Relations.{If}
@@ -114,18 +114,18 @@ ran_by : (c : FileContext) (trace : Trace) (ran : Ran) (x : Result (List Record)
 ran_by c trace ran (Err r) h = absurd (cc)
 ran_by c trace ran (Ok rs) h = made_by c trace ran rs (effects c.mode c.name rs c.before) refl h
 
-finished : (c : FileContext) (text : Text) (out : EvaluationOutcome Completion) (trace : Trace) (ran : Ran)
-    → FinishesFile c text out trace (Ok ran) → effects c.mode c.name ran.records c.before ≡ Ok ran.env
-finished c text (Ended (Normal result s)) trace ran (x, made, e) = let q : x ≡ ran = cc in ran_by c trace ran (records_in trace.records) (made ∙ ap Ok q)
-finished c text (Ended (Raised message s)) trace ran h = absurd (cc)
-finished c text (Ended (Returned result s)) trace ran h = absurd h
-finished c text (Ended (Broken s)) trace ran h = absurd h
-finished c text (Ended (Continued s)) trace ran h = absurd h
-finished c text (Halted halt) trace ran h = absurd (cc)
+finished : (c : FileContext) (text : Text) (out : EvaluationOutcome Completion) (w : World) (ran : Ran)
+    → FinishesFile c text out w (Ok ran) → effects c.mode c.name ran.records c.before ≡ Ok ran.env
+finished c text (Ended (Normal result s)) w ran (x, made, e) = let q : x ≡ ran = cc in ran_by c w.trace ran (records_in w.trace.records) (made ∙ ap Ok q)
+finished c text (Ended (Raised message s)) w ran h = absurd (cc)
+finished c text (Ended (Returned result s)) w ran h = absurd h
+finished c text (Ended (Broken s)) w ran h = absurd h
+finished c text (Ended (Continued s)) w ran h = absurd h
+finished c text (Halted halt) w ran h = absurd (cc)
 
 -- a file that ended made the effects of its records
 pub run_made : (limits : Limits) (c : FileContext) (text : Text) (ran : Ran) → RefusedAs file_refused (RunsFile limits c text) (Ok ran) → effects c.mode c.name ran.records c.before ≡ Ok ran.env
-run_made limits c text ran h = let k = run_ended (RunsFile limits c text) ran h in finished c text k.0 k.1.trace ran k.3
+run_made limits c text ran h = let k = run_ended (RunsFile limits c text) ran h in finished c text k.0 k.1 ran k.3
 
 permitted_same : (mode : Mode) (owner : Text) (rs : List Record) (e d : Environment) (o : Option RecordReason)
     → (effects mode owner rs e ≡ Ok d → d ≡ e) → and_then (permitted o (Ok e)) (effects mode owner rs) ≡ Ok d → d ≡ e

@@ -32,7 +32,7 @@ by_search (because r) = because (missed r)
 -- the cause of each refusal
 abbrev pub cause_of : Refusal → Cause RequestReason
 cause_of refusals.OutOfMemory = memory
-cause_of (refusals.Run fault) = by_reason file_refused (file_reason_of fault)
+cause_of (refusals.Run refused) = by_reason file_refused (file_reason_of refused)
 cause_of (refusals.Find fault) = by_search (find_cause fault)
 cause_of (refusals.Env fault) = by_reason (λ r. refused_edit (bad_edit r)) (reason_of fault)
 cause_of refusals.BadArguments = because bad_arguments

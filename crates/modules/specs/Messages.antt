@@ -10,8 +10,8 @@ use Rattle.message.specs.Refusals.{NumberedText, about}
 use Rattle.message.specs.Refusals as table
 use Rattle.message.specs.declared.refusals.RefusalKind.TheVariants as kinds
 use Rattle.modulefile_run.specs.Messages as runs
-use Rattle.modulefile_run.specs.declared.run_fault.RunFault.{RunFault}
-use Rattle.modulefile_run.specs.declared.run_fault.RunFault.TheVariants as faults
+use Rattle.modulefile_run.specs.declared.run_stop.RunStop.{RunStop}
+use Rattle.modulefile_run.specs.declared.run_stop.RunStop.TheVariants as faults
 use Rattle.requests.specs.Reasons.{RequestReason, reason_number}
 use Rattle.requests.specs.Requests.{RequestedAction, load, unload, switch, purge, list, avail, show, whatis}
 use Rattle.modules.specs.Answers.{cause_of}
@@ -26,13 +26,13 @@ number_by out_of_memory device = table.number_of kinds.Device
 number_by out_of_memory (because reason) = reason_number reason
 
 -- the number of want of memory where a modulefile is run: 11 in its evaluation, and else 31
-abbrev pub run_memory_number : RunFault → ℕ
+abbrev pub run_memory_number : RunStop → ℕ
 run_memory_number (faults.Eval fault) = table.number_of kinds.MemoryForEvaluation
 run_memory_number fault = table.number_of kinds.MemoryForRequest
 
 -- the number of want of memory: 11 in the evaluation of a file, 41 in the search, and else 31
 abbrev pub memory_number : Refusal → ℕ
-memory_number (refusals.Run fault) = run_memory_number fault
+memory_number (refusals.Run refused) = run_memory_number refused.stop
 memory_number (refusals.Find fault) = table.number_of kinds.MemoryForSearch
 memory_number refusal = table.number_of kinds.MemoryForRequest
 
@@ -59,7 +59,7 @@ number_of refusal = number_by (memory_number refusal) (cause_of refusal)
 -- each refusal as the table has it
 abbrev pub refusal_of : Refusal → NumberedText
 refusal_of refusals.OutOfMemory = about kinds.MemoryForRequest []
-refusal_of (refusals.Run fault) = runs.refusal_of fault
+refusal_of (refusals.Run refused) = runs.refusal_of refused.stop
 refusal_of (refusals.Find fault) = finds.refusal_of fault
 refusal_of (refusals.Env fault) = edits.refusal_of fault
 refusal_of refusals.BadArguments = about kinds.BadArguments []

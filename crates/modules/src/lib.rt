@@ -29,7 +29,7 @@ pub use filetree::{Tree, TreeFault};
 pub use judged::{Verdict, are_reversible, is_reversible};
 pub use missing::MissingNames;
 pub use modulefile::RecordFault;
-pub use modulefile_run::RunFault;
+pub use modulefile_run::{RefusedFile, RunFault, RunStop};
 pub use refusal::Refusal;
 pub use reply::{Reply, RequestChanges};
 pub use requests::{Action, Request};

@@ -46,10 +46,11 @@ pub enum Refusal {
 }
 
 /// The number of a modulefile's fault, as the refusal of a request.
-fn run_number(fault: &RunFault) -> u16
-    ensures { result ≡ number_by (run_memory_number fault.now) (by_reason file_refused (file_reason_of fault.now)) }
+fn run_number(refused: &RunFault) -> u16
+    ensures { result ≡ number_by (run_memory_number refused.now.stop)
+        (by_reason file_refused (file_reason_of refused.now)) }
 {
-    fault.number()
+    refused.number()
 }
 
 impl Refusal {
@@ -59,7 +60,7 @@ impl Refusal {
     {
         match self {
             Refusal::OutOfMemory => RefusalKind::MemoryForRequest.plain(),
-            Refusal::Run(fault) => fault.numbered(),
+            Refusal::Run(refused) => refused.numbered(),
             Refusal::Find(fault) => fault.numbered(),
             Refusal::Env(fault) => fault.numbered(),
             Refusal::BadArguments => RefusalKind::BadArguments.plain(),
@@ -80,7 +81,7 @@ impl Refusal {
         ensures { result ≡ number_of self.now }
     {
         match self {
-            Refusal::Run(fault) => run_number(fault),
+            Refusal::Run(refused) => run_number(refused),
             Refusal::Find(fault) => fault.number(),
             Refusal::Env(fault) => fault.number(),
             Refusal::OutOfMemory
@@ -122,10 +123,10 @@ impl<T: Drop> From<AllocFailed<T>> for Refusal {
 }
 
 impl From<RunFault> for Refusal {
-    ghost from_gives = { λ fault e. e ≡ refusals.Run fault };
+    ghost from_gives = { λ refused e. e ≡ refusals.Run refused };
 
-    fn from(fault: RunFault) -> Refusal {
-        Refusal::Run(fault)
+    fn from(refused: RunFault) -> Refusal {
+        Refusal::Run(refused)
     }
 }
 

@@ -15,7 +15,7 @@ use Rattle.envstate.specs.loaded_list.Loaded.{Entry, names_of, loaded_in}
 use Rattle.filetree.specs.Modulefiles.{script, modulefile}
 use Rattle.shelltext.specs.declared.shell.Shell.{Shell}
 use Rattle.modulefile.specs.Moves.{Module, Move, Loads, Unloads, entry_of, Fits, MovesReach}
-use Rattle.modulefile.specs.Files.{Ran, refused_by, RunsFile, IsSameOrRefused}
+use Rattle.modulefile.specs.Files.{Ran, RunsFile, IsSameOrRefused}
 use Rattle.modulefile.specs.Laws.{PlainFilesAgree}
 use Rattle.reversal.specs.VariableUses.{VariableUse}
 use Rattle.reversal.specs.Live.{entries_over}
@@ -109,7 +109,7 @@ one_script s path a b h k = let q : script a ≡ script b = sym h ∙ k in cc
 
 agreed : (ran other : Ran) → IsSameOrRefused ran (Ok other) → other.records ≡ ran.records
 agreed ran other (inl (again, same, records)) = let q : other ≡ again = (let r : Ok other ≡ Ok again = same in cc) in ap (λ (x : Ran). x.records) q ∙ records
-agreed ran other (inr (n, refusal, same)) = absurd (let r : Ok other ≡ Err (refused_by n refusal) = same in cc)
+agreed ran other (inr (n, refusal, reason, same, stop)) = absurd (let r : Ok other ≡ Err reason = same in cc)
 
 pub same_records : PlainFilesAgree → (s : RequestContext) (name path : Text) (ran other : Ran)
     → HasEvaluatedTo s name path ran → ran.asked ≡ [] → HasEvaluatedTo s name path other

@@ -6,6 +6,7 @@ use Rattle.std.specs.Fmt.{signed_decimal}
 use Rattle.std.specs.declared.alloc.Global.{Global}
 use Rattle.tcltext.specs.chars.Runs.{Text}
 use Rattle.tclrules.specs.Variables.{State, value_at}
+use Rattle.tclrules.specs.Derivation.{OpenScript}
 use Rattle.tclrules.specs.Simulates.{Point, Simulates}
 use Rattle.tclrules.specs.Plans as plans
 use Rattle.tclrules.specs.Plans.{Bounds, Job, Next, given}
@@ -34,14 +35,14 @@ abbrev pub named_values : List (Bor (List ℕ) × String Global) → List (Text 
 named_values ps = map (λ p. (p.0.now, string_bytes p.1)) ps
 
 -- Below, p is the plan by the rules, b its bounds, k what follows it, r the plan of each job, x and y points (how far
--- the evaluation has come), and used how many commands were counted before.
+-- the evaluation has come), used how many commands were counted before, and scripts those under evaluation.
 
 -- the plan continues with the text of the result, over the variables after the call; the host may have been asked
-abbrev pub ContinuesWithResult : (Bounds → Next → plans.Step) → Result Value Stop → State → (ℕ → Point) →
-    (ℕ → Point) → Type 0
+abbrev pub ContinuesWithResult : (Bounds → Next → plans.Step) → Result Value Stop → State
+    → (ℕ → List OpenScript → Point) → (ℕ → List OpenScript → Point) → Type 0
 ContinuesWithResult p result s x y =
-    (most used : ℕ) (b : Bounds) (r : Job → plans.Step) (k : Next)
-    → Simulates most r (p b k) (x used) (after result (λ v s'. k (value_text v s') s') s) (y used)
+    (most used : ℕ) (scripts : List OpenScript) (b : Bounds) (r : Job → plans.Step) (k : Next)
+    → Simulates most r (p b k) (x used scripts) (after result (λ v s'. k (value_text v s') s') s) (y used scripts)
 
 -- the same where the host isn't asked
 abbrev pub ContinuesWithoutHost : (Bounds → Next → plans.Step) → Result Value Stop → State → Type 0
@@ -82,11 +83,11 @@ ContinuesWithVariablesWithin p limit result s =
     → Simulates most r (p (bounds limit remaining) k) x (after result (λ u s'. k s') s) x
 
 -- the plan continues with the text that the host answered
-abbrev pub ContinuesWithAnswer : (Next → plans.Step) → Result (String Global) Stop → State → (ℕ → Point) →
-    (ℕ → Point) → Type 0
+abbrev pub ContinuesWithAnswer : (Next → plans.Step) → Result (String Global) Stop → State
+    → (ℕ → List OpenScript → Point) → (ℕ → List OpenScript → Point) → Type 0
 ContinuesWithAnswer p result s x y =
-    (most used : ℕ) (r : Job → plans.Step) (k : Next)
-    → Simulates most r (p k) (x used) (after result (λ t s'. k (string_bytes t) s') s) (y used)
+    (most used : ℕ) (scripts : List OpenScript) (r : Job → plans.Step) (k : Next)
+    → Simulates most r (p k) (x used scripts) (after result (λ t s'. k (string_bytes t) s') s) (y used scripts)
 
 -- the plan that appends elements to the list in the variable at a location
 abbrev pub append_at : Bounds → Bool × Text → List Text → State → Next → plans.Step

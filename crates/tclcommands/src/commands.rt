@@ -1,5 +1,6 @@
 //! Commands that evaluate no script: the core commands by their forms, and commands of other names by the host.
-ghost use Rattle.std.specs.Prelude.{ℕ, None, map, drop, string_bytes};
+ghost use Rattle.std.specs.Prelude.{ℕ, List, None, map, drop, string_bytes};
+ghost use Rattle.tclrules.specs.Derivation.{OpenScript};
 ghost use Rattle.tclrules.specs.Simulates.{Simulates, Point, point};
 ghost use Rattle.tclrules.specs.Variables.{State};
 ghost use Rattle.tclrules.specs.Plans as plans;
@@ -60,11 +61,11 @@ fn simple_value<'a, H: Host>(
     limits: Limits,
     form: SimpleForm<'a>,
 ) -> Result<Value<'a>, Stop>
-    ensures { (most remaining used : ℕ) (r : Job → plans.Step) (k : Next) → Simulates most r
+    ensures { (most remaining used : ℕ) (scripts : List OpenScript) (r : Job → plans.Step) (k : Next) → Simulates most r
         (rules.form (bounds limits.value_bytes remaining) (simple_view form.entry) variables.old k)
-        (point (H.oracle host.old) (H.trace host.old) used)
+        (point (H.oracle host.old) (H.trace host.old) used scripts)
         (after result (λ v s. k (value_text v s) s) variables.new)
-        (point (H.oracle host.new) (H.trace host.new) used) }
+        (point (H.oracle host.new) (H.trace host.new) used scripts) }
 {
     let limit = limits.value_bytes;
     match form {
@@ -127,12 +128,12 @@ pub fn simple_command<H: Host>(
     form: SimpleForm<'_>,
 ) -> Result<String, Stop>
     ensures { EvaluatesToText result_use limits.value_bytes result
-        (λ t. (most remaining used : ℕ) (r : Job → plans.Step) (k : Next)
+        (λ t. (most remaining used : ℕ) (scripts : List OpenScript) (r : Job → plans.Step) (k : Next)
         → Simulates most r (rules.form (bounds limits.value_bytes remaining) (simple_view form.entry) variables.old
         (sized_next limits.value_bytes k))
-        (point (H.oracle host.old) (H.trace host.old) used)
+        (point (H.oracle host.old) (H.trace host.old) used scripts)
         (after result (λ _ s. k t s) variables.new)
-        (point (H.oracle host.new) (H.trace host.new) used)) }
+        (point (H.oracle host.new) (H.trace host.new) used scripts)) }
 {
     let value = simple_value(alloc, variables, host, limits, form)?;
     result_text(alloc, variables, limits, result_use, value)
@@ -152,12 +153,12 @@ pub fn unknown_command<H: Host>(
     command: CommandWords<'_>,
 ) -> Result<String, Stop>
     ensures { EvaluatesToText result_use limits.value_bytes result
-        (λ t. (most used : ℕ) (b : Bounds) (r : Job → plans.Step) (k : Next)
+        (λ t. (most used : ℕ) (scripts : List OpenScript) (b : Bounds) (r : Job → plans.Step) (k : Next)
         → Simulates most r (rules.other_command b (name_of command.entry.words.now)
         (map string_bytes (drop 1 command.entry.words.now)) variables.now (sized_next limits.value_bytes k) None)
-        (point (H.oracle host.old) (H.trace host.old) used)
+        (point (H.oracle host.old) (H.trace host.old) used scripts)
         (after result (λ _ s. k t s) variables.now)
-        (point (H.oracle host.new) (H.trace host.new) used)) }
+        (point (H.oracle host.new) (H.trace host.new) used scripts)) }
 {
     if is_unsupported(command.name()) {
         return Err(Stop::from(unsupported(alloc, command.name())));

@@ -5,7 +5,7 @@ ghost use Rattle.tclrules.specs.Simulates.{Simulates, Point};
 ghost use Rattle.tclforms.specs.substitution.Machine.{bounds};
 ghost use Rattle.tclrules.specs.Variables.{State, Frame, in_frame};
 ghost use Rattle.tclrules.specs.Plans as plans;
-ghost use Rattle.tclrules.specs.Plans.{Bounds, Job, Next};
+ghost use Rattle.tclrules.specs.Plans.{Bounds, Job, Next, left};
 ghost use Rattle.tclrules.specs.Rules.{after_turn, after_next, after_call, caught, catch_into};
 ghost use Rattle.tcltext.specs.chars.Runs.{Text};
 ghost use Rattle.tclforms.specs.substitution.Stops.{after};
@@ -22,8 +22,9 @@ use tclrules::{EvalFault, Limits};
 ///
 /// Errors: any other completion, which ends the command of the loop too.
 pub fn after_turn(outcome: Result<String, Stop>) -> Result<bool, Stop>
-    ensures { (again : State → plans.Step) (s : State)
-        → completed outcome (after_turn again) s ≡ after result (loop_continuation again) s }
+    ensures { (b : Bounds) (again : State → plans.Step) (s : State)
+        → completed outcome (after_turn b again) s
+        ≡ after result (λ more s'. left b (loop_continuation again more s')) s }
 {
     match outcome {
         Ok(_) | Err(Stop::Continued) => Ok(true),
@@ -36,8 +37,9 @@ pub fn after_turn(outcome: Result<String, Stop>) -> Result<bool, Stop>
 ///
 /// Errors: any other completion, `continue` too, which ends the command of the loop.
 pub fn after_next(outcome: Result<String, Stop>) -> Result<bool, Stop>
-    ensures { (again : State → plans.Step) (s : State)
-        → completed outcome (after_next again) s ≡ after result (loop_continuation again) s }
+    ensures { (b : Bounds) (again : State → plans.Step) (s : State)
+        → completed outcome (after_next b again) s
+        ≡ after result (λ more s'. left b (loop_continuation again more s')) s }
 {
     match outcome {
         Ok(_) => Ok(true),
@@ -48,18 +50,20 @@ pub fn after_next(outcome: Result<String, Stop>) -> Result<bool, Stop>
 
 /// What catch(n) makes of a completion.
 #[derive(Drop)]
-struct CaughtCompletion {
+pub struct CaughtCompletion {
     /// The completion code, from `0` to `4`, which is the result of catch(n).
-    code: &'static str,
+    pub code: &'static str,
     /// The result or the message, for the variable.
-    value: String,
+    pub value: String,
 }
 
-/// The completion of a script as catch(n) has it; a halt isn't caught.
-fn catch_outcome(alloc: Global, outcome: Result<String, Stop>) -> Result<CaughtCompletion, Stop>
+/// The completion of a script as catch(n) has it.
+///
+/// Errors: a halt, which isn't caught.
+pub fn catch_outcome(alloc: Global, outcome: Result<String, Stop>) -> Result<CaughtCompletion, Stop>
     ensures { (b : Bounds) (v : Option Text) (k : Next) (s : State)
         → completed outcome (caught b v k) s
-        ≡ after result (λ c s'. catch_into b v c.code.now (string_bytes c.value) s' k) s }
+        ≡ after result (λ c s'. left b (catch_into b v c.code.now (string_bytes c.value) s' k)) s }
 {
     let (code, value) = match outcome {
         Ok(value) => ("0", value),
@@ -74,8 +78,11 @@ fn catch_outcome(alloc: Global, outcome: Result<String, Stop>) -> Result<CaughtC
     Ok(CaughtCompletion { code, value })
 }
 
-/// Writes the result or the message into the variable, where one is named, and answers the code.
-fn store_caught(
+/// The result of catch(n), which is the completion code, after the completion of its script. The variable `name` gets
+/// the result or the message.
+///
+/// Errors: a halt where the variable can't be written, or memory runs out.
+pub fn store_caught(
     alloc: Global,
     variables: &mut Variables,
     limits: Limits,
@@ -97,32 +104,12 @@ fn store_caught(
     }
 }
 
-/// The result of catch(n), which is the completion code, after the completion of its script. The variable `name` gets
-/// the result or the message.
-///
-/// Errors: a halt of the script; a halt where the variable can't be written, or memory runs out.
-pub fn after_catch(
-    alloc: Global,
-    variables: &mut Variables,
-    limits: Limits,
-    name: Option<&str>,
-    outcome: Result<String, Stop>,
-) -> Result<String, Stop>
-    ensures { (most remaining : ℕ) (r : Job → plans.Step) (k : Next) (x : Point) → Simulates most r
-        (completed outcome (caught (bounds limits.value_bytes remaining)
-        (option_map (λ v. v.now) name.entry) k) variables.old) x
-        (after result (λ t s. k (string_bytes t) s) variables.new) x }
-{
-    let caught = catch_outcome(alloc, outcome)?;
-    store_caught(alloc, variables, limits, name, caught)
-}
-
 /// The result of a call of a procedure after the completion of its body: `return` gives its result, and `break` and
 /// `continue` are errors, since they don't leave a procedure.
 pub fn after_call(alloc: Global, outcome: Result<String, Stop>) -> Result<String, Stop>
-    ensures { (most : ℕ) (r : Job → plans.Step) (caller : Option Frame) (k : Next) (s : State) (x : Point)
-        → Simulates most r (completed outcome (after_call caller k) s) x
-        (after result (λ t s'. k (string_bytes t) s') (in_frame s caller)) x }
+    ensures { (most : ℕ) (r : Job → plans.Step) (b : Bounds) (caller : Option Frame) (k : Next) (s : State) (x : Point)
+        → Simulates most r (completed outcome (after_call b caller k) s) x
+        (after result (λ t s'. left b (k (string_bytes t) s')) (in_frame s caller)) x }
 {
     match outcome {
         Ok(value) => Ok(value),

@@ -19,7 +19,9 @@ mod writing;
 
 pub use command_words::CommandWords;
 pub use commands::{simple_command, unknown_command};
-pub use completion::{after_call, after_catch, after_next, after_turn};
+pub use completion::{
+    CaughtCompletion, after_call, after_next, after_turn, catch_outcome, store_caught,
+};
 pub use defining::define;
 pub use global_names::global;
 pub use host_commands::{consult, put};

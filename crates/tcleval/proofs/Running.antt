@@ -63,16 +63,6 @@ fault_on k s (evals.LeftOut name) h = run_halts h
 fault_on k s evals.Stopped h = run_halts h
 fault_on k s (evals.Host n) h = run_halts h
 
--- a file that was evaluated, in what goes on with how it ended
-pub run_after : {most : ℕ} {r : Job → Step} {j : Job} {x y : Point} (k : Completion → Step) (s : State)
-    (res : Result (String Global) Stop) → Simulates most r (r j) x (after res (λ v s'. finish (string_bytes v) s') s) y
-    → Simulates most r (Runs j k) x (completed res k s) y
-run_after k s (Ok v) h = run_on h
-run_after k s (Err (stops.Returned u)) h = run_on h
-run_after k s (Err stops.Broken) h = run_on h
-run_after k s (Err stops.Continued) h = run_on h
-run_after k s (Err (stops.Fault f)) h = fault_on k s f h
-
 -- a script whose result is wanted, in what goes on with how it ended, and with its result alone
 pub run_known : {most : ℕ} {r : Job → Step} {j : Job} {x y : Point} (k : Completion → Step) (s : State) (limit : ℕ)
     (res : Result (String Global) Stop) → EvaluatesToText Needed limit res
@@ -107,25 +97,25 @@ run_comes result_use limit s (Err stops.Continued) h = (h.0, h.1, λ k. run_on h
 run_comes result_use limit s (Err (stops.Fault f)) h = (h.0, h.1, λ k. fault_on (on_normal (sized_next limit k)) s f h.2)
 
 -- a script whose result nobody looks at: a turn of a loop, and what stands between turns
-pub run_turn : {most : ℕ} {r : Job → Step} {j : Job} {x y : Point} (again : State → Step) (s : State) (limit : ℕ)
+pub run_turn : {most : ℕ} {r : Job → Step} {j : Job} {x y : Point} (b : Bounds) (again : State → Step) (s : State) (limit : ℕ)
     (res : Result (String Global) Stop) → EvaluatesToText Dropped limit res
     (λ u. Simulates most r (r j) x (after res (λ v s'. finish u s') s) y)
-    → Simulates most r (Runs j (after_turn again)) x (completed res (after_turn again) s) y
-run_turn again s limit (Ok v) h = run_on h.2
-run_turn again s limit (Err (stops.Returned u)) h = run_on h.2
-run_turn again s limit (Err stops.Broken) h = run_on h.2
-run_turn again s limit (Err stops.Continued) h = run_on h.2
-run_turn again s limit (Err (stops.Fault f)) h = fault_on (after_turn again) s f h.2
+    → Simulates most r (Runs j (after_turn b again)) x (completed res (after_turn b again) s) y
+run_turn b again s limit (Ok v) h = run_on h.2
+run_turn b again s limit (Err (stops.Returned u)) h = run_on h.2
+run_turn b again s limit (Err stops.Broken) h = run_on h.2
+run_turn b again s limit (Err stops.Continued) h = run_on h.2
+run_turn b again s limit (Err (stops.Fault f)) h = fault_on (after_turn b again) s f h.2
 
-pub run_next : {most : ℕ} {r : Job → Step} {j : Job} {x y : Point} (again : State → Step) (s : State) (limit : ℕ)
+pub run_next : {most : ℕ} {r : Job → Step} {j : Job} {x y : Point} (b : Bounds) (again : State → Step) (s : State) (limit : ℕ)
     (res : Result (String Global) Stop) → EvaluatesToText Dropped limit res
     (λ u. Simulates most r (r j) x (after res (λ v s'. finish u s') s) y)
-    → Simulates most r (Runs j (after_next again)) x (completed res (after_next again) s) y
-run_next again s limit (Ok v) h = run_on h.2
-run_next again s limit (Err (stops.Returned u)) h = run_on h.2
-run_next again s limit (Err stops.Broken) h = run_on h.2
-run_next again s limit (Err stops.Continued) h = run_on h.2
-run_next again s limit (Err (stops.Fault f)) h = fault_on (after_next again) s f h.2
+    → Simulates most r (Runs j (after_next b again)) x (completed res (after_next b again) s) y
+run_next b again s limit (Ok v) h = run_on h.2
+run_next b again s limit (Err (stops.Returned u)) h = run_on h.2
+run_next b again s limit (Err stops.Broken) h = run_on h.2
+run_next b again s limit (Err stops.Continued) h = run_on h.2
+run_next b again s limit (Err (stops.Fault f)) h = fault_on (after_next b again) s f h.2
 
 -- a command that stops, and a script
 pub comes_stopped : {most : ℕ} {r : Job → Step} {p : Next → Step} {x y : Point} (result_use : ResultUse) (limit : ℕ)
@@ -140,6 +130,14 @@ pub comes_cut : {most : ℕ} {r : Job → Step} {p : Step} {x y : Point} (result
     → EvaluatesToText result_use limit res (λ u. Simulates most r p x (after res (λ v s'. finish u s') s) y)
 comes_cut result_use limit s e (Ok v) h l = absurd h
 comes_cut result_use limit s e (Err f) h l = ([], tt, rw h l)
+
+-- a script that stops, before something that follows its result
+pub comes_cut_before : {most : ℕ} {r : Job → Step} {p : Step} {x y : Point} (result_use : ResultUse) (limit : ℕ) (s : State)
+    (e : Stop) (res : Result (String Global) Stop) (next : Text → State → Step) → IsErrAnd res (λ f. f ≡ e)
+    → Simulates most r p x (stopped e s) y
+    → EvaluatesToText result_use limit res (λ u. Simulates most r p x (after res (λ v s'. next u s') s) y)
+comes_cut_before result_use limit s e (Ok v) next h l = absurd h
+comes_cut_before result_use limit s e (Err f) next h l = ([], tt, rw h l)
 
 -- a result within the limit
 pub sized_comes : (result_use : ResultUse) (limit : ℕ) (s : State) (p : Next → Step) (res : Result (String Global) Stop)

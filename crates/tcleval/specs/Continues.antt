@@ -1,5 +1,5 @@
 -- What a call of an evaluator promises (own): from its plan it is enough to go on with what follows its result.
-use Rattle.std.specs.Prelude.{ℕ, Result, String, string_bytes}
+use Rattle.std.specs.Prelude.{Result, String, string_bytes}
 use Rattle.std.specs.declared.alloc.Global.{Global}
 use Rattle.tclrules.specs.Oracle.{Oracle, Trace}
 use Rattle.tclrules.specs.Variables.{State}
@@ -18,7 +18,7 @@ bounds_of b = record { bytes = b.limits.value_bytes; remaining = b.remaining }
 
 -- where an evaluation is, by these answers and this trace of its host
 abbrev pub point_at : {H : Type 0} → (H → Oracle) → (H → Trace) → H × Evaluator → Point
-point_at oracle trace at = point (oracle at.0) (trace at.0) at.1.used
+point_at oracle trace at = point (oracle at.0) (trace at.0) at.1.used at.1.scripts
 
 -- from this plan, with the host and the evaluator before a call, it is enough to go on with what follows the result of
 -- the call, with the host and the evaluator after it

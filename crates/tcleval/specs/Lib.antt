@@ -1,4 +1,5 @@
 pub mod cache
+pub mod OpenScripts
 pub mod OnlyGrows
 pub mod Continues
 pub mod LoopBodies

@@ -4,16 +4,17 @@ ghost use Rattle.std.specs.Prelude.{◌≡◌, ◌<◌, ◌∷◌, [], Bool, tru
 ghost use Rattle.std.specs.Prelude.{string_bytes};
 ghost use Rattle.tcltext.specs.chars.Runs.{Text};
 ghost use Rattle.tcltext.specs.script.Tree.{commands_of, words_of};
+ghost use Rattle.tcltext.specs.script.Owned.{owned_view};
 ghost use Rattle.tcltext.specs.script.View.{script_view, command_view, word_view, content_view, parts_view};
-ghost use Rattle.tclrules.specs.Derivation.{Counts, Runs};
+ghost use Rattle.tclrules.specs.Derivation.{Moves, Runs};
 ghost use Rattle.tclrules.specs.Variables.{State, lookup};
 ghost use Rattle.tclforms.specs.variables.Views.{procedure_view};
 ghost use Rattle.tclrules.specs.Plans as plans;
-ghost use Rattle.tclrules.specs.Plans.{Next, on_normal, sized};
+ghost use Rattle.tclrules.specs.Plans.{Next, on_normal, sized, with_script, without_innermost};
 ghost use Rattle.tclrules.specs.Words as pieces;
 ghost use Rattle.tclrules.specs.Expressions.{express, decide};
 ghost use Rattle.tclrules.specs.Rules as rules;
-ghost use Rattle.tclrules.specs.Rules.{rule, called, turn};
+ghost use Rattle.tclrules.specs.Rules.{rule, called, counted, turn};
 ghost use Rattle.tclrules.specs.Forms as forms;
 ghost use Rattle.tclforms.specs.Views.{form_view, simple_view, pair_texts};
 ghost use Rattle.tclforms.specs.substitution.Machine.{range_text, control_plan};
@@ -34,16 +35,17 @@ use crate::sourced::SourcedTree;
 use crate::trees::{expression_tree, normal};
 use crate::turns::begin_turn;
 use crate::words::{braced_value, copied, literal_part, push_words};
+use std::rc::Rc;
 use tclcommands::{
-    CommandWords, ResultUse, after_call, after_catch, after_next, after_turn, assign,
-    simple_command, unknown_command,
+    CommandWords, ResultUse, after_call, after_next, after_turn, assign, catch_outcome,
+    simple_command, store_caught, unknown_command,
 };
 use tclforms::substitution::{Control, Step, Stop, SubstitutionContext, advance};
 use tclforms::variables::Procedure;
 use tclforms::{ForLoop, Form, Loops, SimpleForm, WhileLoop, chosen, core_form, parameter_values};
 use tclrules::Host;
 use tcltext::expr::OwnedExpr;
-use tcltext::script::{ByteRange, Command, Part, Script, Word, WordContent};
+use tcltext::script::{ByteRange, Command, OwnedScript, Part, Script, Word, WordContent};
 use tclvalue::operators::truth;
 use tclvalue::{concatenated, value_command};
 
@@ -66,13 +68,7 @@ impl Evaluator {
     {
         let inside = bounds.inside()?;
         match self.cache.script_tree(text) {
-            Ok(tree) => {
-                let script = SourcedTree {
-                    source: tree.text.as_str(),
-                    tree: &tree.script,
-                };
-                self.commands(host, inside, script, result_use)
-            }
+            Ok(tree) => self.parsed_script(host, inside, &tree, result_use),
             Err(fault) => Err(Stop::from(fault)),
         }
     }
@@ -97,15 +93,66 @@ impl Evaluator {
     {
         let inside = bounds.inside()?;
         match body.tree(&mut self.cache) {
-            Ok(tree) => {
-                let script = SourcedTree {
-                    source: tree.text.as_str(),
-                    tree: &tree.script,
-                };
-                self.commands(host, inside, script, ResultUse::Dropped)
-            }
+            Ok(tree) => self.parsed_script(host, inside, &tree, ResultUse::Dropped),
             Err(fault) => Err(Stop::from(fault)),
         }
+    }
+
+    /// Evaluates a script whose text is parsed. It is under evaluation until it comes to its end.
+    #[cycle(evaluate)]
+    #[tactic(none)]
+    fn parsed_script<H: Host>(
+        &mut self,
+        host: &mut H,
+        bounds: Bounds,
+        tree: &Rc<OwnedScript>,
+        result_use: ResultUse,
+    ) -> Result<String, Stop>
+        ensures evaluates_to { EvaluatesToText result_use bounds.limits.value_bytes result
+            (λ t. Continues H.oracle H.trace bounds
+            (Moves (with_script (bounds_of bounds) (string_bytes tree.now.value.text))
+            (rules.script_commands (bounds_of bounds) (owned_view tree.now.value) [] self.old.variables))
+            (host.old, self.old) result (λ _ s. finish t s) (host.new, self.new)) }
+        ensures only_grows { OnlyGrows self.old self.new }
+    {
+        self.scripts.begin(bounds.remaining, tree)?;
+        let script = SourcedTree {
+            source: tree.text.as_str(),
+            tree: &tree.script,
+        };
+        let last = self.script_commands(host, bounds, script, result_use)?;
+        self.scripts.end();
+        Ok(last)
+    }
+
+    /// Evaluates the commands of a script with a text of its own in turn, and notes their offsets; the result is the
+    /// last command's.
+    #[cycle(evaluate)]
+    #[tactic(none)]
+    fn script_commands<H: Host>(
+        &mut self,
+        host: &mut H,
+        bounds: Bounds,
+        script: SourcedTree<'_, &Script<ByteRange>>,
+        result_use: ResultUse,
+    ) -> Result<String, Stop>
+        ensures evaluates_to { EvaluatesToText result_use bounds.limits.value_bytes result
+            (λ t. Continues H.oracle H.trace bounds
+            (rules.script_commands (bounds_of bounds)
+            (script_view (range_text script.entry.source.now) script.entry.tree.now) [] self.old.variables)
+            (host.old, self.old) result (λ _ s. Moves without_innermost (finish t s)) (host.new, self.new)) }
+        ensures only_grows { OnlyGrows self.old self.new }
+    {
+        let mut last = String::new(self.alloc);
+        for command in &script.tree.commands {
+            self.scripts.move_to(command.offset);
+            let command = SourcedTree {
+                source: script.source,
+                tree: command,
+            };
+            last = self.command(host, bounds, command, result_use)?;
+        }
+        Ok(last)
     }
 
     /// Evaluates the script of a bracket, which was parsed with what it stands in.
@@ -126,7 +173,7 @@ impl Evaluator {
         self.commands(host, bounds.inside()?, script, ResultUse::Needed)
     }
 
-    /// Evaluates the commands of a script in turn; the result is the last command's.
+    /// Evaluates the commands of the script of a bracket in turn; the result is the last command's.
     #[cycle(evaluate)]
     #[tactic(none)]
     fn commands<H: Host>(
@@ -168,9 +215,8 @@ impl Evaluator {
     ) -> Result<String, Stop>
         ensures evaluates_to { EvaluatesToText result_use bounds.limits.value_bytes result
             (λ t. (k : Next) → Continues H.oracle H.trace bounds
-            (Counts (pieces.words (bounds_of bounds)
-            (command_view (range_text command.entry.source.now) command.entry.tree.now).words [] self.old.variables
-            (λ texts s1. called (bounds_of bounds) texts s1 (sized_next bounds.limits.value_bytes k))))
+            (counted (bounds_of bounds)
+            (command_view (range_text command.entry.source.now) command.entry.tree.now).words self.old.variables k)
             (host.old, self.old) result (λ _ s. k t s) (host.new, self.new)) }
         ensures only_grows { OnlyGrows self.old self.new }
     {
@@ -390,7 +436,8 @@ impl Evaluator {
             (self.old.used < bounds.limits.commands) × (self.old.used < self.new.used)) }
     {
         self.count(bounds.limits)?;
-        after_turn(self.repeated_script(host, bounds, body))
+        let more = after_turn(self.repeated_script(host, bounds, body));
+        self.left(bounds, more)
     }
 
     /// The condition of a loop and, where it holds, a turn; whether the loop continues.
@@ -485,7 +532,8 @@ impl Evaluator {
             if !self.guarded_turn(host, bounds, &condition, &mut body)? {
                 return Ok(String::new(self.alloc));
             }
-            if !after_next(self.repeated_script(host, bounds, &mut next))? {
+            let more = after_next(self.repeated_script(host, bounds, &mut next));
+            if !self.left(bounds, more)? {
                 return Ok(String::new(self.alloc));
             }
         }
@@ -557,13 +605,9 @@ impl Evaluator {
         ensures only_grows { OnlyGrows self.old self.new }
     {
         let outcome = self.script(host, bounds, body, ResultUse::Needed);
-        after_catch(
-            self.alloc,
-            &mut self.variables,
-            bounds.limits,
-            name,
-            outcome,
-        )
+        let caught = catch_outcome(self.alloc, outcome);
+        let caught = self.left(bounds, caught)?;
+        store_caught(self.alloc, &mut self.variables, bounds.limits, name, caught)
     }
 
     /// expr(n), of which the words make one text.
@@ -767,7 +811,7 @@ impl Evaluator {
         )?;
         let outcome = self.script(host, bounds, procedure.body.as_str(), ResultUse::Needed);
         self.variables.leave(caller);
-        after_call(self.alloc, outcome)
+        self.left(bounds, after_call(self.alloc, outcome))
     }
 
     /// foreach(n): reads the lists of names and of items, and evaluates the turns.

@@ -1,20 +1,25 @@
 //! The state of an evaluation, the count of commands, and results within the limit on values.
 ghost use Rattle.std.specs.Prelude.{◌≡◌, ◌≤◌, ◌<◌, ◌+◌, ℕ, Bool, MatchResult, IfOk, IfErr, IfSome, length};
 ghost use Rattle.std.specs.Prelude.{string_bytes};
-ghost use Rattle.tclrules.specs.Simulates.{Simulates, Point};
+ghost use Rattle.tclrules.specs.Oracle.{Oracle, Trace};
+ghost use Rattle.tclrules.specs.Simulates.{Simulates, Point, point};
 ghost use Rattle.tclrules.specs.Variables.{State};
 ghost use Rattle.tclrules.specs.Plans as plans;
 ghost use Rattle.tclrules.specs.Plans.{Job, Next, sized};
+ghost use Rattle.tclrules.specs.Rules.{rule};
 ghost use Rattle.tclforms.specs.substitution.Stops.{after, stopped};
 ghost use Rattle.tcltext.specs.expr.Owned as expression;
 ghost use Rattle.tclforms.specs.substitution.Machine.{bounds};
 ghost use Rattle.tclcommands.specs.declared.result_use.ResultUse.{ResultUse};
 ghost use Rattle.tclcommands.specs.Completions.{EvaluatesToText, condition_plan};
+ghost use Rattle.tcleval.specs.Continues.{bounds_of};
 ghost use Rattle.tclvalue.specs.declared.operators.operators.ComputedValue.TheVariants.{Truth};
 ghost use Rattle.tclforms.specs.declared.substitution.stop.Stop.TheVariants.{Fault};
 ghost use Rattle.tclrules.specs.declared.outcome.EvalFault.TheVariants.{TooManyCommands};
 
+use crate::bounds::Bounds;
 use crate::cache::Kept;
+use crate::open_scripts::OpenScripts;
 use std::alloc::Global;
 use tclforms::substitution::{Stop, SubstitutionContext, compute_borrowed};
 use tclforms::variables::Variables;
@@ -29,8 +34,10 @@ pub struct Evaluator {
     pub alloc: Global,
     /// The trees of texts that were parsed before.
     pub cache: Kept,
-    /// The variables and procedures, and the byte offset of the file's current command.
+    /// The variables and procedures.
     pub variables: Variables,
+    /// The scripts under evaluation.
+    pub scripts: OpenScripts,
     /// How many commands and turns of loops were counted.
     pub used: u64,
 }
@@ -44,12 +51,37 @@ impl Evaluator {
             TooManyCommands)) }
         ensures variables { self.new.variables ≡ self.old.variables }
         ensures cache { self.new.cache ≡ self.old.cache }
+        ensures scripts { self.new.scripts ≡ self.old.scripts }
     {
         if self.used >= limits.commands {
             return Err(Stop::Fault(EvalFault::TooManyCommands));
         }
         self.used += 1;
         Ok(())
+    }
+
+    /// The completion of a command whose scripts are left, unless it ends another script too.
+    #[inline(always)]
+    pub(crate) fn left<T: Drop>(
+        &mut self,
+        bounds: Bounds,
+        outcome: Result<T, Stop>,
+    ) -> Result<T, Stop>
+        ensures evaluates_to { (next : T → State → plans.Step) (oracle : Oracle) (trace : Trace)
+            → Simulates bounds.limits.commands (rule bounds.limits.value_bytes)
+            (after outcome (λ value s. plans.left (bounds_of bounds) (next value s)) self.old.variables)
+            (point oracle trace self.old.used self.old.scripts)
+            (after result next self.new.variables) (point oracle trace self.new.used self.new.scripts) }
+        ensures used { self.new.used ≡ self.old.used }
+        ensures cache { self.new.cache ≡ self.old.cache }
+    {
+        match outcome {
+            Ok(value) => {
+                self.scripts.leave(bounds.remaining);
+                Ok(value)
+            }
+            Err(stop) => Err(stop),
+        }
     }
 
     /// Whether a comparison holds whose operands are literals or scalar variables; None for any other expression, which

@@ -1,5 +1,5 @@
 //! A script that a loop evaluates in each turn.
-ghost use Rattle.std.specs.Prelude.{◌≡◌, MatchResult};
+ghost use Rattle.std.specs.Prelude.{◌≡◌, MatchResult, IfOk, string_bytes};
 ghost use Rattle.tcltext.specs.script.Text.{script_of};
 ghost use Rattle.tcltext.specs.script.Owned.{owned_view};
 ghost use Rattle.tcltext.specs.chars.Whole.{Reads};
@@ -35,6 +35,7 @@ impl<'s> LoopBody<'s> {
     pub(crate) fn tree(&mut self, cache: &mut Kept) -> Result<Rc<OwnedScript>, TextFault>
         requires { HasItsTree self.old }
         ensures tree { Reads (λ tree. owned_view tree.value) result (script_of self.old.text.now) }
+        ensures text { IfOk result (λ tree. string_bytes tree.value.text ≡ self.old.text.now) }
         ensures kept { IsSameBody self.old self.new }
         ensures begins { BeginWith cache.old cache.new }
     {

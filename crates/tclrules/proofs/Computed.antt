@@ -1,6 +1,6 @@
 -- The worked examples, by computation.
 use Rattle.std.proofs.Common.{◌≡◌, ℕ, ◌∷◌, Option, Some, None, refl}
-use Rattle.std.specs.Prelude.{[], codes}
+use Rattle.std.specs.Prelude.{[], ◌++◌, codes}
 use Rattle.std.specs.Str.{chars}
 use Rattle.std.specs.Fmt.{digits}
 use lib.Utf8.{encode}
@@ -26,7 +26,9 @@ use Rattle.tclrules.specs.Playing.{Played}
 use Rattle.tclrules.specs.Plans.{Completion}
 use Rattle.tclrules.specs.Meaning.{Setting, play_file}
 use Rattle.tclrules.specs.Shown.{Shown, Result, Halts, Fails, standard, with_commands, with_depth, with_bytes, within}
-use Rattle.tclrules.specs.Shown.{recorded, shown_of, trace_of, setenv_words, asked_for_mode}
+use Rattle.tclrules.specs.Shown.{recorded, shown_of, trace_of, setenv_words, asked_for_mode, place_in, at_place}
+use Rattle.tclrules.specs.declared.outcome.FaultPlace.{FaultPlace}
+use Rattle.tcltext.specs.chars.Runs.{Text}
 
 -- what a view shows of a playing
 abbrev pub viewed : {A : Type 0} → (EvaluationOutcome Completion → World → A) → Played Completion → Option A
@@ -100,3 +102,55 @@ asked_mode_row = refl
 pub in_a_procedure_row : sees (within standard (codes "proc f {} {\nset x\n}\nf")) 300 ≡ Some (Fails (codes "can't read \"x\": no such variable") 4)
 unfolding computed
 in_a_procedure_row = refl
+
+-- where the evaluation of a file stood at its end
+abbrev ends_at : Text → Option (Option FaultPlace)
+ends_at script = computed (recorded standard script) (place_in script) 300
+
+pub in_if_row : ends_at (codes "if 1 {\nconflict b\n}") ≡ Some (at_place 0 7 2)
+unfolding computed
+in_if_row = refl
+
+pub in_foreach_row : ends_at (codes "set x 1\nforeach i {1 2} {\nconflict b\n}") ≡ Some (at_place 8 26 3)
+unfolding computed
+in_foreach_row = refl
+
+pub in_while_row : ends_at (codes "while 1 {conflict b}") ≡ Some (at_place 0 9 1)
+unfolding computed
+in_while_row = refl
+
+pub in_switch_row : ends_at (codes "switch a {a {conflict b}}") ≡ Some (at_place 0 13 1)
+unfolding computed
+in_switch_row = refl
+
+pub behind_catch_row : ends_at (codes "catch {error a}\nerror b") ≡ Some (at_place 16 16 2)
+unfolding computed
+behind_catch_row = refl
+
+pub behind_loop_row : ends_at (codes "while 1 {break}\nerror e") ≡ Some (at_place 16 16 2)
+unfolding computed
+behind_loop_row = refl
+
+pub in_second_call_row : ends_at (codes "proc f x {if $x {error e}}\nf 0\nf 1") ≡ Some (at_place 31 17 1)
+unfolding computed
+in_second_call_row = refl
+
+pub at_break_row : ends_at (codes "proc f {} {break}\nf") ≡ Some (at_place 18 11 1)
+unfolding computed
+at_break_row = refl
+
+pub in_quotes_row : ends_at (codes "if 1 \"error e\"") ≡ Some (at_place 0 0 1)
+unfolding computed
+in_quotes_row = refl
+
+pub in_brackets_row : ends_at (codes "set x [error e]") ≡ Some (at_place 0 0 1)
+unfolding computed
+in_brackets_row = refl
+
+pub behind_continuation_row : ends_at (codes "if 1 {set x \\\n  1; error e}") ≡ Some (at_place 0 19 2)
+unfolding computed
+behind_continuation_row = refl
+
+pub behind_two_bytes_row : ends_at (codes "set x " ++ 195 ∷ 169 ∷ codes "\nif 1 {error e}") ≡ Some (at_place 9 15 2)
+unfolding computed
+behind_two_bytes_row = refl

@@ -7,7 +7,7 @@ use Rattle.tclrules.specs.Oracle.{CommandWords, Addition, Nothing, NewRecord, Me
 use Rattle.tclrules.specs.Oracle.{Refused, Oracle, Question, OfCommand, OfVariable, Trace, records_with, asked_with}
 use Rattle.tclrules.specs.Oracle.{addition, is_question, is_refusal}
 use Rattle.tclrules.specs.Derivation.{ByHost, EvaluationOutcome, Halted, HostReply, Plan, World, replied, Eval, ends}
-use Rattle.tclrules.specs.Derivation.{counts, meets_limit, consults, reads, runs, halts, lacks_memory, world_after}
+use Rattle.tclrules.specs.Derivation.{counts, meets_limit, moves, consults, reads, runs, halts, lacks_memory, world_after}
 use Rattle.tclrules.specs.Derivation.{Throughout, Command, AnswersOrRefuses, AnswersAlikeUnasked, IsUnrefused, asks}
 use Rattle.tclrules.specs.Derivation.{IsNoted, RepeatsAnswers, Grows, none, more}
 
@@ -20,6 +20,7 @@ pub same_or_refused : {J R : Type 0} {may_lack_memory : Bool} {first : Oracle} {
 same_or_refused second ends t = inl ends
 same_or_refused second (counts g d) t = ⊎_elim (λ i. inl (counts g i)) (λ i. inr (i.0, i.1, counts g i.2)) (same_or_refused second d t)
 same_or_refused second (meets_limit g) t = inl (meets_limit g)
+same_or_refused second (moves d) t = ⊎_elim (λ i. inl (moves i)) (λ i. inr (i.0, i.1, moves i.2)) (same_or_refused second d t)
 same_or_refused second (consults {words = words} {k = k} {w = w} d) t =
     ⊎_elim
     (λ same. ⊎_elim (λ i. inl (consults (rw same i))) (λ i. inr (i.0, i.1, consults (rw same i.2))) (same_or_refused second d t.1))
@@ -51,6 +52,7 @@ pub asks_more : {J R : Type 0} {oracle : Oracle} {most : ℕ} {rule : J → Plan
 asks_more {w = w} ends = ([], sym (append-nil w.trace.asked))
 asks_more (counts g d) = asks_more d
 asks_more {w = w} (meets_limit g) = ([], sym (append-nil w.trace.asked))
+asks_more (moves d) = asks_more d
 asks_more {oracle = oracle} {w' = w'} (consults {words = words} {w = w} d) =
     let m = asks_more d in
     let n = noted_words w.trace.asked words (oracle.command w.trace.records words) in
@@ -93,6 +95,7 @@ pub unasked : {J R : Type 0} {oracle : Oracle} {most : ℕ} {rule : J → Plan J
 unasked ends h = tt
 unasked (counts g d) h = unasked d h
 unasked (meets_limit g) h = tt
+unasked (moves d) h = unasked d h
 unasked {oracle = oracle} (consults {words = words} {w = w} d) h = (no_question w.trace.asked words (oracle.command w.trace.records words) (not_asked d h), unasked d h)
 unasked {oracle = oracle} (reads {name = name} {w = w} d) h = absurd (some_in w.trace.asked (OfVariable name (oracle.variable w.trace.records name)) (not_asked d h))
 unasked (runs d c) h = (unasked d (not_asked c h), unasked c h)
@@ -111,6 +114,7 @@ pub noted : {J R : Type 0} {oracle : Oracle} {most : ℕ} {rule : J → Plan J R
 noted ends all rest h = tt
 noted (counts g d) all rest h = noted d all rest h
 noted (meets_limit g) all rest h = tt
+noted (moves d) all rest h = noted d all rest h
 noted {oracle = oracle} {w' = w'} (consults {words = words} {w = w} d) all rest h =
     let a = oracle.command w.trace.records words in
     let m = asks_more d in (
@@ -143,6 +147,7 @@ pub records_more : {J R : Type 0} {oracle : Oracle} {most : ℕ} {rule : J → P
 records_more {w = w} ends = ([], sym (append-nil w.trace.records))
 records_more (counts g d) = records_more d
 records_more {w = w} (meets_limit g) = ([], sym (append-nil w.trace.records))
+records_more (moves d) = records_more d
 records_more {oracle = oracle} {w' = w'} (consults {words = words} {w = w} d) =
     let m = records_more d in
     let adds = addition (oracle.command w.trace.records words) in
@@ -166,6 +171,7 @@ pub beginnings : {J R : Type 0} {oracle : Oracle} {most : ℕ} {rule : J → Pla
 beginnings ends all rest h = tt
 beginnings (counts g d) all rest h = beginnings d all rest h
 beginnings (meets_limit g) all rest h = tt
+beginnings (moves d) all rest h = beginnings d all rest h
 beginnings {oracle = oracle} {w' = w'} (consults {words = words} {k = k} {w = w} d) all rest h =
     let m = records_more (consults {words = words} {k = k} {w = w} d) in
     ((m.0 ++ rest, grown_twice w.trace.records w'.trace.records rest all m.0 h m.1), beginnings d all rest h)
@@ -194,6 +200,7 @@ pub unrefused : {J R : Type 0} {oracle : Oracle} {most : ℕ} {rule : J → Plan
 unrefused ends h = tt
 unrefused (counts g d) h = unrefused d h
 unrefused (meets_limit g) h = tt
+unrefused (moves d) h = unrefused d h
 unrefused {oracle = oracle} (consults {words = words} {k = k} {w = w} d) h = (answer_unrefused k (oracle.command w.trace.records words) d h, unrefused d h)
 unrefused (reads d) h = (tt, unrefused d h)
 unrefused (runs d c) h = (unrefused d (λ n e. cc), unrefused c h)
@@ -209,6 +216,7 @@ pub agree : {J R : Type 0} {may_lack_memory : Bool} {first : Oracle} {most : ℕ
 agree second h ends t u = tt
 agree second h (counts g d) t u = agree second h d t u
 agree second h (meets_limit g) t u = tt
+agree second h (moves d) t u = agree second h d t u
 agree second h (consults {words = words} {w = w} d) t u = (h.1 w.trace.records words t.0 u.0, agree second h d t.1 u.1)
 agree second h (reads d) t u = absurd (let e : true ≡ false = t.0 in cc)
 agree second h (runs d c) t u = (agree second h d t.0 u.0, agree second h c t.1 u.1)
@@ -234,6 +242,7 @@ pub repeats : {J R : Type 0} {may_lack_memory : Bool} {first : Oracle} {most : �
 repeats second last h r ends n b u = tt
 repeats second last h r (counts g d) n b u = repeats second last h r d n b u
 repeats second last h r (meets_limit g) n b u = tt
+repeats second last h r (moves d) n b u = repeats second last h r d n b u
 repeats {first = first} second last h r (consults {words = words} {w = w} d) n b u =
     (repeats_one first second last w.trace.records b.0.0 words h r b.0.1 n.0 u.0, repeats second last h r d n.1 b.1 u.1)
 repeats {first = first} second last h r (reads {name = name} {w = w} d) n b u =
@@ -253,6 +262,7 @@ pub grown : {J R : Type 0} {may_lack_memory : Bool} {oracle : Oracle} {most : �
 grown ends = none
 grown (counts g d) = grown d
 grown (meets_limit g) = none
+grown (moves d) = grown d
 grown (consults {words = words} d) = more words (grown d)
 grown (reads d) = grown d
 grown (runs d c) = grow_on (grown d) (grown c)

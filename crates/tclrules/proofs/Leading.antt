@@ -4,9 +4,9 @@ use Rattle.std.proofs.Common.{◌≡◌, ℕ, ◌+◌, ◌<◌, ◌≤◌, true,
 use Rattle.tcltext.specs.chars.Runs.{Text}
 use Rattle.tclrules.specs.Oracle.{Oracle, Question, Trace, OracleAnswer, trace_after}
 use Rattle.tclrules.specs.Derivation.{Halt, TooManyCommands, OutOfMemory, EvaluationOutcome, Ended, Halted, HostReply}
-use Rattle.tclrules.specs.Derivation.{Plan, Ends, Counts, Consults, ReadsEnvironment, Runs, World, Eval, ends, counts}
-use Rattle.tclrules.specs.Derivation.{meets_limit, consults, reads, runs, halts, lacks_memory, replied, variable_read}
-use Rattle.tclrules.specs.Derivation.{with_questions, having_asked}
+use Rattle.tclrules.specs.Derivation.{OpenScript, Plan, Ends, Counts, Moves, Consults, ReadsEnvironment, Runs, World}
+use Rattle.tclrules.specs.Derivation.{Eval, ends, counts, meets_limit, moves, consults, reads, runs, halts}
+use Rattle.tclrules.specs.Derivation.{lacks_memory, replied, variable_read, with_questions, having_asked}
 use Rattle.tclrules.specs.Simulates.{Point, point, Simulates}
 
 pub stay : {J R : Type 0} {most : ℕ} {rule : J → Plan J R} {p : Plan J R} {x : Point} → Simulates most rule p x p x
@@ -24,8 +24,9 @@ want_by asked ends = lacks_memory asked refl
 want_by asked (lacks_memory again h) = lacks_memory again h
 
 pub want : {J R : Type 0} {most : ℕ} {rule : J → Plan J R} {p : Plan J R} {oracle oracle' : Oracle}
-    {trace trace' : Trace} {n : ℕ} (asked : List Question) → trace' ≡ with_questions asked trace → oracle' ≡ oracle
-    → Simulates most rule p (point oracle trace n) (Ends (Halted OutOfMemory)) (point oracle' trace' n)
+    {trace trace' : Trace} {n : ℕ} {scripts : List OpenScript} (asked : List Question)
+    → trace' ≡ with_questions asked trace → oracle' ≡ oracle → Simulates most rule p (point oracle trace n scripts)
+    (Ends (Halted OutOfMemory)) (point oracle' trace' n scripts)
 want asked e s = record { same = s; by = λ o w d. want_by asked (rw (s, e) at d) }
 
 pub starve : {J R : Type 0} {most : ℕ} {rule : J → Plan J R} {p : Plan J R} {x : Point} → Simulates most rule p x (Ends (Halted OutOfMemory)) x
@@ -33,7 +34,8 @@ starve {x = x} = record { same = refl; by = λ o w d. want_by x.world.trace.aske
 
 -- a command or a turn is counted
 pub count_on : {J R : Type 0} {most : ℕ} {rule : J → Plan J R} {p : Plan J R} {oracle : Oracle} {trace : Trace} {n : ℕ}
-    → n < most → Simulates most rule (Counts p) (point oracle trace n) p (point oracle trace (n + 1))
+    {scripts : List OpenScript} → n < most
+    → Simulates most rule (Counts p) (point oracle trace n scripts) p (point oracle trace (n + 1) scripts)
 count_on h = record { same = refl; by = λ o w d. counts h d }
 
 over_by : {J R : Type 0} {oracle : Oracle} {most : ℕ} {rule : J → Plan J R} {p : Plan J R} {w : World}
@@ -43,23 +45,29 @@ over_by h ends = meets_limit h
 over_by h (lacks_memory a g) = lacks_memory a g
 
 pub count_over : {J R : Type 0} {most : ℕ} {rule : J → Plan J R} {p : Plan J R} {oracle : Oracle} {trace : Trace}
-    {n : ℕ} → most ≤ n → Simulates most rule (Counts p) (point oracle trace n) (Ends (Halted TooManyCommands))
-    (point oracle trace n)
+    {n : ℕ} {scripts : List OpenScript} → most ≤ n → Simulates most rule (Counts p) (point oracle trace n scripts)
+    (Ends (Halted TooManyCommands)) (point oracle trace n scripts)
 count_over h = record { same = refl; by = λ o w d. over_by h d }
+
+-- the scripts under evaluation change
+pub move_on : {J R : Type 0} {most : ℕ} {rule : J → Plan J R} {change : List OpenScript → List OpenScript}
+    {p : Plan J R} {oracle : Oracle} {trace : Trace} {n : ℕ} {scripts : List OpenScript}
+    → Simulates most rule (Moves change p) (point oracle trace n scripts) p (point oracle trace n (change scripts))
+move_on = record { same = refl; by = λ o w d. moves d }
 
 -- the host is asked, and a variable of the environment is read
 pub hear_on : {J R : Type 0} {most : ℕ} {rule : J → Plan J R} {words : List Text} {k : HostReply → Plan J R}
-    {oracle oracle' : Oracle} {trace : Trace} {n : ℕ} {a : OracleAnswer} → oracle.command trace.records words ≡ a
-    → oracle' ≡ oracle
-    → Simulates most rule (Consults words k) (point oracle trace n) (replied k a)
-    (point oracle' (trace_after trace words a) n)
+    {oracle oracle' : Oracle} {trace : Trace} {n : ℕ} {scripts : List OpenScript} {a : OracleAnswer}
+    → oracle.command trace.records words ≡ a → oracle' ≡ oracle
+    → Simulates most rule (Consults words k) (point oracle trace n scripts) (replied k a)
+    (point oracle' (trace_after trace words a) n scripts)
 hear_on e s = record { same = s; by = λ o w d. consults (rw e (rw s at d)) }
 
 pub read_on : {J R : Type 0} {most : ℕ} {rule : J → Plan J R} {name : Text} {k : Option Text → Plan J R}
-    {oracle oracle' : Oracle} {trace : Trace} {n : ℕ} {v : Option Text} → oracle.variable trace.records name ≡ v
-    → oracle' ≡ oracle
-    → Simulates most rule (ReadsEnvironment name k) (point oracle trace n) (k v)
-    (point oracle' (variable_read name v trace) n)
+    {oracle oracle' : Oracle} {trace : Trace} {n : ℕ} {scripts : List OpenScript} {v : Option Text}
+    → oracle.variable trace.records name ≡ v → oracle' ≡ oracle
+    → Simulates most rule (ReadsEnvironment name k) (point oracle trace n scripts) (k v)
+    (point oracle' (variable_read name v trace) n scripts)
 read_on e s = record { same = s; by = λ o w d. reads (rw e (rw s at d)) }
 
 -- a job that ended, and one that halted

@@ -3,7 +3,7 @@ use Rattle.std.proofs.Common.{◌≡◌, ℕ, ◌<◌, ◌≤◌, Bool, false, �
 use Rattle.std.proofs.lemmas.Bool.{cases_lt}
 use Rattle.tclrules.specs.Oracle.{Oracle}
 use Rattle.tclrules.specs.Derivation.{TooManyCommands, OutOfMemory, EvaluationOutcome, Halted, Plan, World, Eval, ends}
-use Rattle.tclrules.specs.Derivation.{counts, meets_limit, consults, reads, runs, halts, lacks_memory}
+use Rattle.tclrules.specs.Derivation.{counts, meets_limit, moves, consults, reads, runs, halts, lacks_memory}
 
 -- a plan has at most one outcome
 pub one_outcome : {J R : Type 0} {oracle : Oracle} {most : ℕ} {rule : J → Plan J R} {p : Plan J R} {w : World}
@@ -16,6 +16,7 @@ one_outcome (counts h d) (counts h2 d2) = one_outcome d d2
 one_outcome (counts h d) (meets_limit h2) = absurd (omega arith)
 one_outcome (meets_limit h) (counts h2 d2) = absurd (omega arith)
 one_outcome (meets_limit h) (meets_limit h2) = (refl, refl)
+one_outcome (moves d) (moves d2) = one_outcome d d2
 one_outcome (consults d) (consults d2) = one_outcome d d2
 one_outcome (reads d) (reads d2) = one_outcome d d2
 one_outcome (runs {w' = w} {r = r} d c) (runs {w' = w2} {r = r2} d2 c2) =
@@ -33,6 +34,7 @@ pub rises : {J R : Type 0} {may_lack_memory : Bool} {oracle : Oracle} {most : �
 rises ends = omega arith
 rises (counts h d) = omega (arith, rises d)
 rises (meets_limit h) = omega arith
+rises (moves d) = rises d
 rises (consults d) = rises d
 rises (reads d) = rises d
 rises (runs d c) = omega (arith, rises d, rises c)
@@ -46,6 +48,7 @@ pub within : {J R : Type 0} {may_lack_memory : Bool} {oracle : Oracle} {most : �
 within ends h = h
 within (counts g d) h = within d (omega arith)
 within (meets_limit g) h = h
+within (moves d) h = within d h
 within (consults d) h = within d h
 within (reads d) h = within d h
 within (runs d c) h = within c (within d h)
@@ -59,6 +62,7 @@ pub same_below : {J R : Type 0} {may_lack_memory : Bool} {oracle : Oracle} {most
 same_below ends n other h = ends
 same_below (counts g d) n other h = counts (omega (arith, rises d)) (same_below d n other h)
 same_below (meets_limit g) n other h = absurd (n refl)
+same_below (moves d) n other h = moves (same_below d n other h)
 same_below (consults d) n other h = consults (same_below d n other h)
 same_below (reads d) n other h = reads (same_below d n other h)
 same_below (runs d c) n other h = runs (same_below d (λ e. cc) other (omega (arith, rises c))) (same_below c n other h)
@@ -74,6 +78,7 @@ met_above ends other h g = absurd (omega arith)
 met_above {w = w} (counts m d) other h g =
     ⊎_elim (λ l. let i = met_above d other (omega arith) g in (i.0, counts l i.1)) (λ l. (w, meets_limit l)) (cases_lt w.used other)
 met_above (meets_limit m) other h g = absurd (omega arith)
+met_above (moves d) other h g = let i = met_above d other h g in (i.0, moves i.1)
 met_above (consults d) other h g = let i = met_above d other h g in (i.0, consults i.1)
 met_above (reads d) other h g = let i = met_above d other h g in (i.0, reads i.1)
 met_above (runs {w' = w} d c) other h g =
@@ -88,6 +93,7 @@ pub unstarved : {J R : Type 0} {may_lack_memory : Bool} {oracle : Oracle} {most 
 unstarved ends n = ends
 unstarved (counts g d) n = counts g (unstarved d n)
 unstarved (meets_limit g) n = meets_limit g
+unstarved (moves d) n = moves (unstarved d n)
 unstarved (consults d) n = consults (unstarved d n)
 unstarved (reads d) n = reads (unstarved d n)
 unstarved (runs d c) n = runs (unstarved d (λ e. cc)) (unstarved c n)

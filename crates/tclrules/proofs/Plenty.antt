@@ -3,9 +3,9 @@ use Rattle.std.proofs.Common.{◌≡◌, ℕ, zero, suc, ◌+◌, Bool, true, fa
 use Rattle.std.proofs.lemmas.Bool.{lt-ltb, le-ltb}
 use Rattle.std.specs.Prelude.{nat_lt}
 use Rattle.tclrules.specs.Oracle.{Oracle}
-use Rattle.tclrules.specs.Derivation.{TooManyCommands, EvaluationOutcome, Ended, Halted, Plan, Ends, Counts, Consults}
-use Rattle.tclrules.specs.Derivation.{ReadsEnvironment, Runs, World, count, world_after, ask, replied, Eval, ends}
-use Rattle.tclrules.specs.Derivation.{counts, meets_limit, consults, reads, runs, halts, lacks_memory}
+use Rattle.tclrules.specs.Derivation.{TooManyCommands, EvaluationOutcome, Ended, Halted, Plan, Ends, Counts, Moves}
+use Rattle.tclrules.specs.Derivation.{Consults, ReadsEnvironment, Runs, World, count, move, world_after, ask, replied}
+use Rattle.tclrules.specs.Derivation.{Eval, ends, counts, meets_limit, moves, consults, reads, runs, halts, lacks_memory}
 use Rattle.tclrules.specs.Playing.{Played, continue_with, play}
 
 abbrev to : {R : Type 0} → EvaluationOutcome R → World → Played R
@@ -41,6 +41,7 @@ more : {J R : Type 0} (oracle : Oracle) (most : ℕ) (rule : J → Plan J R) (n 
 more oracle most rule zero p w o w' e = absurd (cc)
 more oracle most rule (suc n) (Ends q) w o w' e = e
 more oracle most rule (suc n) (Counts p) w o w' e = on_branch oracle most rule n p w o w' (nat_lt w.used most) (more oracle most rule n p (count w) o w') e
+more oracle most rule (suc n) (Moves change p) w o w' e = more oracle most rule n p (move change w) o w' e
 more oracle most rule (suc n) (Consults words k) w o w' e = more oracle most rule n (replied k (oracle.command w.trace.records words)) (world_after w words (oracle.command w.trace.records words)) o w' e
 more oracle most rule (suc n) (ReadsEnvironment name k) w o w' e = more oracle most rule n (k (oracle.variable w.trace.records name)) (ask name (oracle.variable w.trace.records name) w) o w' e
 more oracle most rule (suc n) (Runs j k) w o w' e =
@@ -91,6 +92,7 @@ enough ends = (suc zero, refl)
 enough {oracle = oracle} {most = most} {rule = rule} {o = o} {w' = w'} (counts {p = p} {w = w} h d) =
     let i = enough d in (suc i.0, below oracle most rule i.0 p w o w' (nat_lt w.used most) (lt-ltb w.used most h) i.1)
 enough {oracle = oracle} {most = most} {rule = rule} (meets_limit {p = p} {w = w} h) = (suc zero, past oracle most rule zero p w (nat_lt w.used most) (le-ltb w.used most h))
+enough (moves d) = let i = enough d in (suc i.0, i.1)
 enough (consults d) = let i = enough d in (suc i.0, i.1)
 enough (reads d) = let i = enough d in (suc i.0, i.1)
 enough {oracle = oracle} {most = most} {rule = rule} (runs {j = j} {k = k} {w = w} {w' = v} {w'' = u} {r = r} {o = o} d c) =

@@ -19,17 +19,16 @@ use Rattle.tclrules.specs.Messages.{no_variable}
 use Rattle.tclrules.specs.Variables.{State, Location, Scalar, Element, location_of, location_named, with_value}
 use Rattle.tclrules.specs.Variables.{writable, env}
 use Rattle.tclrules.specs.Plans as plans
-use Rattle.tclrules.specs.Plans.{Completion, Normal, Raised, Returned, Broken, Continued, Job, File, Script, Bracket}
+use Rattle.tclrules.specs.Plans.{Completion, Normal, Raised, Returned, Broken, Continued, Job, Script, Bracket}
 use Rattle.tclrules.specs.Plans.{Step, Next, Bounds, fault, given, sized, inside, on_normal}
 use Rattle.tclrules.specs.Words.{found, read_scalar, read_location, read, read_element, parts, one}
 use Rattle.tclrules.specs.Expressions as expressions
 use Rattle.tclrules.specs.Expressions.{operand_value, expr, decide, normal}
-use Rattle.tclrules.specs.Rules.{assign, turn_pairs, are_done, commands, file_commands, parsed, rule}
+use Rattle.tclrules.specs.Rules.{assign, turn_pairs, are_done, commands, script_commands, parsed, rule}
 use Rattle.tclrules.proofs.Totals.{Shrinks}
 
 -- a loop weighs more than a script
 abbrev pub weight : Job → ℕ
-weight (File remaining t s) = 0
 weight (Script remaining t s) = 0
 weight (Bracket remaining cs s) = 0
 weight (plans.While remaining c t s) = 1
@@ -133,9 +132,9 @@ of_commands : (b : Bounds) (cs : Commands) (t : Text) (s : State) → Shrinks we
 of_commands b no_commands t s = tt
 of_commands b (command offset source ws cs) t s = tt
 
-of_file : (b : Bounds) (cs : Commands) (t : Text) (s : State) → Shrinks weight 0 (file_commands b cs t s)
-of_file b no_commands t s = tt
-of_file b (command offset source ws cs) t s = tt
+of_script : (b : Bounds) (cs : Commands) (t : Text) (s : State) → Shrinks weight 0 (script_commands b cs t s)
+of_script b no_commands t s = tt
+of_script b (command offset source ws cs) t s = tt
 
 of_parsed : (r : Result Commands TextFault) (k : Commands → Step) → ((cs : Commands) → Shrinks weight 0 (k cs)) → Shrinks weight 0 (parsed r k)
 of_parsed (Ok cs) k h = h cs
@@ -147,8 +146,7 @@ of_begin false p q h g = g
 
 -- each job runs lighter ones before the next count
 pub shrinks : (bytes : ℕ) (j : Job) → Shrinks weight (weight j) (rule bytes j)
-shrinks bytes (File remaining t s) = of_begin (nat_eq remaining 0) _ _ tt (of_parsed (script_of t) _ (λ cs. of_file (inside bytes remaining) cs [] s))
-shrinks bytes (Script remaining t s) = of_begin (nat_eq remaining 0) _ _ tt (of_parsed (script_of t) _ (λ cs. of_commands (inside bytes remaining) cs [] s))
+shrinks bytes (Script remaining t s) = of_begin (nat_eq remaining 0) _ _ tt (of_parsed (script_of t) _ (λ cs. of_script (inside bytes remaining) cs [] s))
 shrinks bytes (Bracket remaining cs s) = of_begin (nat_eq remaining 0) _ _ tt (of_commands (inside bytes remaining) cs [] s)
 shrinks bytes (plans.While remaining c t s) = of_decide (record { bytes = bytes; remaining = remaining }) c s _ (elim [ true ↦ (λ s'. tt) | false ↦ (λ s'. tt) ])
 shrinks bytes (plans.For remaining c n t s) = of_decide (record { bytes = bytes; remaining = remaining }) c s _ (elim [ true ↦ (λ s'. tt) | false ↦ (λ s'. tt) ])

@@ -32,12 +32,21 @@ pub data HostReply : Type 0 where
   WithResult : Text → HostReply
   NoSuchCommand : HostReply
 
+-- a script under evaluation: how many scripts may still be nested inside of it, its text, and the offset in it, in bytes,
+-- of its current command
+pub record OpenScript : Type 0 where
+  pub remaining : ℕ
+  pub text : Text
+  pub offset : ℕ
+
 -- what is still to be evaluated, with jobs J and results R
 pub data Plan (J R : Type 0) : Type 0 where
   -- the outcome is known
   Ends : EvaluationOutcome R → Plan J R
   -- a command or a turn is counted first
   Counts : Plan J R → Plan J R
+  -- the scripts under evaluation change first: one begins, comes to its next command, or is left
+  Moves : (List OpenScript → List OpenScript) → Plan J R → Plan J R
   -- the words of a command go to the host, whose reply decides
   Consults : List Text → (HostReply → Plan J R) → Plan J R
   -- an environment variable is read, whose value decides
@@ -45,32 +54,38 @@ pub data Plan (J R : Type 0) : Type 0 where
   -- a job runs, whose result decides
   Runs : J → (R → Plan J R) → Plan J R
 
--- how many commands and turns were counted so far, and the trace of the host
+-- how many commands and turns were counted so far, the trace of the host, and the scripts under evaluation, the
+-- innermost first
 pub record World : Type 0 where
   pub used : ℕ
   pub trace : Trace
+  pub scripts : List OpenScript
 
 -- one command or turn more
 abbrev pub count : World → World
-count w = record { used = w.used + 1; trace = w.trace }
+count w = record { used = w.used + 1; trace = w.trace; scripts = w.scripts }
+
+-- the world after its scripts have changed
+abbrev pub move : (List OpenScript → List OpenScript) → World → World
+move change w = record { used = w.used; trace = w.trace; scripts = change w.scripts }
 
 -- the world after an answer of the host to the words of a command
 abbrev pub world_after : World → CommandWords → OracleAnswer → World
-world_after w words a = record { used = w.used; trace = trace_after w.trace words a }
+world_after w words a = record { used = w.used; trace = trace_after w.trace words a; scripts = w.scripts }
 
 -- the trace, and the world, with these questions in place of its own
 abbrev pub with_questions : List Question → Trace → Trace
 with_questions asked t = record { records = t.records; messages = t.messages; asked = asked; refused = t.refused }
 
 abbrev pub having_asked : List Question → World → World
-having_asked asked w = record { used = w.used; trace = with_questions asked w.trace }
+having_asked asked w = record { used = w.used; trace = with_questions asked w.trace; scripts = w.scripts }
 
 -- the trace, and the world, after a variable of the environment was read, which had this value
 abbrev pub variable_read : Text → Option Text → Trace → Trace
 variable_read name value t = with_questions (t.asked ++ OfVariable name value ∷ []) t
 
 abbrev pub ask : Text → Option Text → World → World
-ask name value w = record { used = w.used; trace = variable_read name value w.trace }
+ask name value w = record { used = w.used; trace = variable_read name value w.trace; scripts = w.scripts }
 
 -- the plan after an answer of the host
 abbrev pub replied : {J R : Type 0} → (HostReply → Plan J R) → OracleAnswer → Plan J R
@@ -89,6 +104,9 @@ pub data Eval {J R : Type 0} (may_lack_memory : Bool) (oracle : Oracle) (most : 
       → Eval may_lack_memory oracle most rule p (count w) o w' → Eval may_lack_memory oracle most rule (Counts p) w o w'
   meets_limit : {p : Plan J R} {w : World} → most ≤ w.used
       → Eval may_lack_memory oracle most rule (Counts p) w (Halted TooManyCommands) w
+  moves : {change : List OpenScript → List OpenScript} {p : Plan J R} {w w' : World} {o : EvaluationOutcome R}
+      → Eval may_lack_memory oracle most rule p (move change w) o w' → Eval may_lack_memory oracle most rule
+      (Moves change p) w o w'
   consults : {words : List Text} {k : HostReply → Plan J R} {w w' : World} {o : EvaluationOutcome R}
       → Eval may_lack_memory oracle most rule (replied k (oracle.command w.trace.records words))
       (world_after w words (oracle.command w.trace.records words)) o w' → Eval may_lack_memory oracle most rule
@@ -119,6 +137,7 @@ abbrev pub Throughout : {J R : Type 0} {may_lack_memory : Bool} {oracle : Oracle
 Throughout Holds ends = Unit {0}
 Throughout Holds (counts h d) = Throughout Holds d
 Throughout Holds (meets_limit h) = Unit {0}
+Throughout Holds (moves d) = Throughout Holds d
 Throughout Holds (consults {words = words} {w = w} d) = Holds w.trace.records (Command words) × Throughout Holds d
 Throughout Holds (reads {name = name} {w = w} d) = Holds w.trace.records (Variable name) × Throughout Holds d
 Throughout Holds (runs d c) = Throughout Holds d × Throughout Holds c

@@ -1,8 +1,8 @@
 -- What a script evaluates to. Own, over the rules.
-use Rattle.std.specs.Prelude.{◌≡◌, ℕ, ◌+◌, ◌==◌, ◌<◌, ◌⊎◌, Bool, true, false, List, min, count_by, take}
+use Rattle.std.specs.Prelude.{◌≡◌, ℕ, ◌+◌, ◌==◌, ◌<◌, ◌⊎◌, Bool, true, false, List, [], ◌∷◌, min, count_by, take}
 use Rattle.tcltext.specs.chars.Runs.{Text}
 use Rattle.tclrules.specs.Oracle.{CommandWords, Oracle, Trace, records_with, addition}
-use Rattle.tclrules.specs.Derivation.{ByHost, EvaluationOutcome, Halted, World, Eval}
+use Rattle.tclrules.specs.Derivation.{ByHost, EvaluationOutcome, Halted, OpenScript, World, Eval}
 use Rattle.tclrules.specs.Playing.{Played, play}
 use Rattle.tclrules.specs.Variables.{Variables, initial_state}
 use Rattle.tclrules.specs.Plans.{Completion, Step}
@@ -15,7 +15,7 @@ plan_of l script reserved globals = file (min l.depth 200) script (initial_state
 
 -- the world before a script: nothing is counted yet
 abbrev pub first : Trace → World
-first trace = record { used = 0; trace = trace }
+first trace = record { used = 0; trace = trace; scripts = [] }
 
 -- a script with these global variables evaluates to this outcome and world, from this trace of the host. Want of memory
 -- may end it early where the flag says so, and not else
@@ -28,6 +28,12 @@ HasOutcome may_lack_memory l script globals oracle trace o w = Eval may_lack_mem
 -- the line, from 1, of an offset in a script, which counts the bytes before it
 abbrev pub line_at : Text → ℕ → ℕ
 line_at script offset = 1 + count_by (λ b. b == 10) (take offset script)
+
+-- the offset in the file, in bytes, of its own current command: that of the outermost script
+abbrev pub outermost : List OpenScript → ℕ
+outermost [] = 0
+outermost (s ∷ []) = s.offset
+outermost (s ∷ t ∷ scripts) = outermost (t ∷ scripts)
 
 -- For laws
 

@@ -1,11 +1,11 @@
 -- What the rules are made of: how a script completes, the jobs, and the steps that every rule takes. Own.
-use Rattle.std.specs.Prelude.{ℕ, ◌-◌, List, if◌then◌else◌, nat_eq, nat_lt, length, Ok, Err}
+use Rattle.std.specs.Prelude.{ℕ, ◌-◌, List, [], ◌∷◌, if◌then◌else◌, nat_eq, nat_lt, length, Ok, Err}
 use Rattle.tcltext.specs.chars.Runs.{Text}
 use Rattle.tcltext.specs.script.Tree.{Commands}
 use Rattle.tclvalue.specs.operators.Faults as value
 use Rattle.tclvalue.specs.operators.Faults.{Answer, text, error, value_too_long, number_too_large, fraction, unsupported}
 use Rattle.tclrules.specs.Derivation.{Halt, BadText, TooDeep, ValueTooLong, NumberTooLarge, FractionOperand, LeftOut}
-use Rattle.tclrules.specs.Derivation.{Ended, Halted, Plan, Ends}
+use Rattle.tclrules.specs.Derivation.{Ended, Halted, OpenScript, Plan, Ends, Moves}
 use Rattle.tclrules.specs.Variables.{State}
 
 -- how a script completes that is not halted, by Tcl's codes: ok, error, return, break, continue (return(n))
@@ -22,8 +22,7 @@ Items = List Text × List Text
 
 -- what is run. The number counts the scripts that may still be nested
 pub data Job : Type 0 where
-  -- the text of a whole file, and of any other script
-  File : (remaining : ℕ) → Text → State → Job
+  -- the text of a file, or of any other script
   Script : (remaining : ℕ) → Text → State → Job
   -- the script of a command substitution, which was parsed with the text around it
   Bracket : (remaining : ℕ) → Commands → State → Job
@@ -87,3 +86,28 @@ begin remaining p = if nat_eq remaining 0 then halt TooDeep else p
 -- the bounds inside of a script
 abbrev pub inside : ℕ → ℕ → Bounds
 inside bytes remaining = record { bytes = bytes; remaining = remaining - 1 }
+
+-- Scripts under evaluation, the innermost first
+
+-- with one more, which begins inside of the others
+abbrev pub with_script : Bounds → Text → List OpenScript → List OpenScript
+with_script b t scripts = record { remaining = b.remaining; text = t; offset = 0 } ∷ scripts
+
+-- with this offset of the current command of the innermost
+abbrev pub with_offset : ℕ → List OpenScript → List OpenScript
+with_offset offset [] = []
+with_offset offset (s ∷ scripts) = record { remaining = s.remaining; text = s.text; offset = offset } ∷ scripts
+
+-- without the innermost
+abbrev pub without_innermost : List OpenScript → List OpenScript
+without_innermost [] = []
+without_innermost (s ∷ scripts) = scripts
+
+-- without those inside of which fewer than so many scripts may still be nested
+abbrev pub around : ℕ → List OpenScript → List OpenScript
+around remaining [] = []
+around remaining (s ∷ scripts) = if nat_lt s.remaining remaining then around remaining scripts else s ∷ scripts
+
+-- goes on where the scripts inside of the current one have been left
+abbrev pub left : Bounds → Step → Step
+left b p = Moves (around b.remaining) p

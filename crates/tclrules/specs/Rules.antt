@@ -6,7 +6,7 @@ use Rattle.std.specs.Option.{unwrap_or}
 use Rattle.std.specs.List.{list_all}
 use Rattle.tcltext.specs.chars.Runs.{Text}
 use Rattle.tcltext.specs.declared.chars.fault.TextFault.{TextFault}
-use Rattle.tcltext.specs.script.Tree.{Commands, no_commands, command}
+use Rattle.tcltext.specs.script.Tree.{Commands, no_commands, command, Words}
 use Rattle.tcltext.specs.script.Text.{script_of}
 use Rattle.tcltext.specs.list.Lists.{list_text}
 use Rattle.tclvalue.specs.operators.Faults.{Answer, ◌>>=◌, error}
@@ -17,8 +17,8 @@ use Rattle.tclvalue.specs.operators.Numbers.{sum}
 use Rattle.tclvalue.specs.Characters.{joined, concatenated}
 use Rattle.tclvalue.specs.Globs.{glob}
 use Rattle.tclvalue.specs.Commands.{command_value}
-use Rattle.tclrules.specs.Derivation.{BadText, LeftOut, Stopped, Counts, Consults, ReadsEnvironment, Runs, HostReply}
-use Rattle.tclrules.specs.Derivation.{WithResult, NoSuchCommand}
+use Rattle.tclrules.specs.Derivation.{BadText, LeftOut, Stopped, Counts, Moves, Consults, ReadsEnvironment, Runs}
+use Rattle.tclrules.specs.Derivation.{HostReply, WithResult, NoSuchCommand}
 use Rattle.tclrules.specs.Messages.{no_command, cannot_unset, outside_loop, no_loop_variable, cannot_redefine}
 use Rattle.tclrules.specs.Names.{is_among, unsupported_commands, is_reserved}
 use Rattle.tclrules.specs.Variables.{Location, Scalar, Element, Parameter, Procedure, Frame, State, in_frame, lookup}
@@ -28,9 +28,9 @@ use Rattle.tclrules.specs.Forms.{Form, Get, Set, Unset, Append, ListAppend, Incr
 use Rattle.tclrules.specs.Forms.{Switch, Define, Return, Break, Continue, Exit, Error, Catch, Exists, Global, Put}
 use Rattle.tclrules.specs.Forms.{increase_of, core_form}
 use Rattle.tclrules.specs.Plans as job
-use Rattle.tclrules.specs.Plans.{Completion, Normal, Raised, Returned, Broken, Continued, Items, Job, File, Script}
-use Rattle.tclrules.specs.Plans.{Bracket, Step, Next, Bounds, ended, halt, raise, on_normal, given, sized, begin}
-use Rattle.tclrules.specs.Plans.{inside}
+use Rattle.tclrules.specs.Plans.{Completion, Normal, Raised, Returned, Broken, Continued, Items, Job, Script, Bracket}
+use Rattle.tclrules.specs.Plans.{Step, Next, Bounds, ended, halt, raise, on_normal, given, sized, begin, inside}
+use Rattle.tclrules.specs.Plans.{with_script, with_offset, without_innermost, left}
 use Rattle.tclrules.specs.Words.{words, read}
 use Rattle.tclrules.specs.Expressions.{express, decide}
 
@@ -107,24 +107,24 @@ branches b (p ∷ ps) other s k = decide b p.0 s
     (elim [ true ↦ (λ s'. body b p.1 s' (on_normal k)) | false ↦ (λ s'. branches b ps other s' k) ])
 
 -- what a turn of a loop goes on with: break ends the loop, continue the turn
-abbrev pub after_turn : (State → Step) → Completion → Step
-after_turn again (Normal t s) = again s
-after_turn again (Continued s) = again s
-after_turn again (Broken s) = ended (Normal [] s)
-after_turn again (Raised m s) = ended (Raised m s)
-after_turn again (Returned t s) = ended (Returned t s)
+abbrev pub after_turn : Bounds → (State → Step) → Completion → Step
+after_turn b again (Normal t s) = left b (again s)
+after_turn b again (Continued s) = left b (again s)
+after_turn b again (Broken s) = left b (ended (Normal [] s))
+after_turn b again (Raised m s) = ended (Raised m s)
+after_turn b again (Returned t s) = ended (Returned t s)
 
 -- and the script between the turns of for: break ends the loop, continue is for a loop outside
-abbrev pub after_next : (State → Step) → Completion → Step
-after_next again (Normal t s) = again s
-after_next again (Broken s) = ended (Normal [] s)
-after_next again (Continued s) = ended (Continued s)
-after_next again (Raised m s) = ended (Raised m s)
-after_next again (Returned t s) = ended (Returned t s)
+abbrev pub after_next : Bounds → (State → Step) → Completion → Step
+after_next b again (Normal t s) = left b (again s)
+after_next b again (Broken s) = left b (ended (Normal [] s))
+after_next b again (Continued s) = ended (Continued s)
+after_next b again (Raised m s) = ended (Raised m s)
+after_next b again (Returned t s) = ended (Returned t s)
 
 -- a turn is counted as its body begins
 abbrev pub turn : Bounds → Text → State → (State → Step) → Step
-turn b t s again = Counts (body b t s (after_turn again))
+turn b t s again = Counts (body b t s (after_turn b again))
 
 -- the remaining turns of a loop
 abbrev pub while_turns : Bounds → Text → Text → State → Step
@@ -138,7 +138,7 @@ abbrev pub for_turns : Bounds → Text → Text → Text → State → Step
 for_turns b c n t s =
     decide b c s
     (elim [
-      | true ↦ (λ s1. turn b t s1 (λ s2. body b n s2 (after_next (λ s3. Runs (job.For b.remaining c n t s3) ended))))
+      | true ↦ (λ s1. turn b t s1 (λ s2. body b n s2 (after_next b (λ s3. Runs (job.For b.remaining c n t s3) ended))))
       | false ↦ (λ s1. ended (Normal [] s1))
     ])
 
@@ -206,11 +206,11 @@ catch_into b None code value s k = k code s
 catch_into b (Some v) code value s k = write b v value s (λ t s'. k code s')
 
 abbrev pub caught : Bounds → Option Text → Next → Completion → Step
-caught b v k (Normal t s) = catch_into b v (codes "0") t s k
-caught b v k (Raised m s) = catch_into b v (codes "1") m s k
-caught b v k (Returned t s) = catch_into b v (codes "2") t s k
-caught b v k (Broken s) = catch_into b v (codes "3") [] s k
-caught b v k (Continued s) = catch_into b v (codes "4") [] s k
+caught b v k (Normal t s) = left b (catch_into b v (codes "0") t s k)
+caught b v k (Raised m s) = left b (catch_into b v (codes "1") m s k)
+caught b v k (Returned t s) = left b (catch_into b v (codes "2") t s k)
+caught b v k (Broken s) = left b (catch_into b v (codes "3") [] s k)
+caught b v k (Continued s) = left b (catch_into b v (codes "4") [] s k)
 
 -- Procedures
 
@@ -249,12 +249,12 @@ parameter_values name (p ∷ ps) ws = parameter_value name p ps ws >>=
     (λ a. parameter_values name ps a.1 >>= (λ vs. Ok ((p.0, a.0) ∷ without vs p.0)))
 
 -- a procedure gives back the caller's variables; break and continue don't leave it
-abbrev pub after_call : Option Frame → Next → Completion → Step
-after_call caller k (Normal t s) = k t (in_frame s caller)
-after_call caller k (Returned t s) = k t (in_frame s caller)
-after_call caller k (Raised m s) = raise m (in_frame s caller)
-after_call caller k (Broken s) = raise (outside_loop (codes "break")) (in_frame s caller)
-after_call caller k (Continued s) = raise (outside_loop (codes "continue")) (in_frame s caller)
+abbrev pub after_call : Bounds → Option Frame → Next → Completion → Step
+after_call b caller k (Normal t s) = left b (k t (in_frame s caller))
+after_call b caller k (Returned t s) = left b (k t (in_frame s caller))
+after_call b caller k (Raised m s) = raise m (in_frame s caller)
+after_call b caller k (Broken s) = raise (outside_loop (codes "break")) (in_frame s caller)
+after_call b caller k (Continued s) = raise (outside_loop (codes "continue")) (in_frame s caller)
 
 -- a procedure has variables of its own, of which the parameters are the first
 abbrev pub new_frame : Option Frame
@@ -263,7 +263,7 @@ new_frame = Some (record { own = []; shared = [] })
 abbrev pub call : Bounds → Text → Procedure → List Text → State → Next → Step
 call b name p ws s k =
     given (parameter_values name p.parameters ws) s
-    (λ vs. assign b vs (in_frame s new_frame) (λ s'. body b p.body s' (after_call s.frame k)))
+    (λ vs. assign b vs (in_frame s new_frame) (λ s'. body b p.body s' (after_call b s.frame k)))
 
 -- Commands
 
@@ -322,18 +322,20 @@ called b (name ∷ ws) s k = given (command_value (name ∷ ws) b.bytes) s (valu
 
 -- Scripts
 
--- the rest of a script, after a command with this result. A command is counted before its words are substituted
+-- a command by its words, which is counted before they are substituted
+abbrev pub counted : Bounds → Words → State → Next → Step
+counted b ws s k = Counts (words b ws [] s (λ texts s1. called b texts s1 (λ u s2. sized b.bytes u (k u s2))))
+
+-- the rest of the script of a bracket, after a command with this result
 abbrev pub commands : Bounds → Commands → Text → State → Step
 commands b no_commands t s = ended (Normal t s)
-commands b (command offset source ws cs) t s = Counts
-    (words b ws [] s (λ texts s1. called b texts s1 (λ u s2. sized b.bytes u (commands b cs u s2))))
+commands b (command offset source ws cs) t s = counted b ws s (commands b cs)
 
--- the same of a file; the state has the offset of its current command
-abbrev pub file_commands : Bounds → Commands → Text → State → Step
-file_commands b no_commands t s = ended (Normal t s)
-file_commands b (command offset source ws cs) t s =
-    Counts (words b ws [] (record s { offset = offset })
-    (λ texts s1. called b texts s1 (λ u s2. sized b.bytes u (file_commands b cs u s2))))
+-- the rest of a script with a text of its own, after a command with this result. The script is left at its end
+abbrev pub script_commands : Bounds → Commands → Text → State → Step
+script_commands b no_commands t s = Moves without_innermost (ended (Normal t s))
+script_commands b (command offset source ws cs) t s =
+    Moves (with_offset offset) (counted b ws s (script_commands b cs))
 
 -- goes on with the tree of a text; one that is no script halts
 abbrev pub parsed : Result Commands TextFault → (Commands → Step) → Step
@@ -342,10 +344,8 @@ parsed (Err f) k = halt (BadText f)
 
 -- The plan of each job: the depth is judged before the text is parsed
 abbrev pub rule : ℕ → Job → Step
-rule bytes (File remaining t s) = begin remaining (parsed (script_of t)
-    (λ cs. file_commands (inside bytes remaining) cs [] s))
 rule bytes (Script remaining t s) = begin remaining (parsed (script_of t)
-    (λ cs. commands (inside bytes remaining) cs [] s))
+    (λ cs. Moves (with_script (inside bytes remaining) t) (script_commands (inside bytes remaining) cs [] s)))
 rule bytes (Bracket remaining cs s) = begin remaining (commands (inside bytes remaining) cs [] s)
 rule bytes (job.While remaining c t s) = while_turns (record { bytes = bytes; remaining = remaining }) c t s
 rule bytes (job.For remaining c n t s) = for_turns (record { bytes = bytes; remaining = remaining }) c n t s
@@ -360,4 +360,4 @@ file_ended (Continued s) = ended (Normal [] s)
 file_ended (Broken s) = halt Stopped
 
 abbrev pub file : ℕ → Text → State → Step
-file remaining t s = Runs (File remaining t s) file_ended
+file remaining t s = Runs (Script remaining t s) file_ended

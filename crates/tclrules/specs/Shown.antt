@@ -1,12 +1,14 @@
 -- How the outcome of a small script is shown, for worked examples. Own.
-use Rattle.std.specs.Prelude.{◌≡◌, ℕ, false, true, List, [], ◌∷◌, None, codes}
+use Rattle.std.specs.Prelude.{◌≡◌, ℕ, false, true, List, [], ◌∷◌, Option, Some, None, codes}
 use Rattle.tcltext.specs.chars.Runs.{Text}
 use Rattle.tclrules.specs.Oracle.{CommandWords, Oracle, Question, OfCommand, Trace, Unknown, Done, Nothing}
 use Rattle.tclrules.specs.Derivation.{Halt, EvaluationOutcome, Ended, Halted, World}
 use Rattle.tclrules.specs.Recording.{commands_of_recorder, answer_of, value_in}
 use Rattle.tclrules.specs.Plans.{Completion, Normal, Raised, Returned, Broken, Continued}
-use Rattle.tclrules.specs.Meaning.{Setting, EvaluatesTo, line_at}
+use Rattle.tclrules.specs.Meaning.{Setting, EvaluatesTo, line_at, outermost}
+use Rattle.tclrules.specs.Places.{place_of}
 use Rattle.tclrules.specs.declared.limits.Limits.{Limits}
+use Rattle.tclrules.specs.declared.outcome.FaultPlace.{FaultPlace}
 
 -- limits as those that modulefiles have, or with one of them changed
 abbrev pub standard : Limits
@@ -54,7 +56,7 @@ pub data Shown : Type 0 where
 
 abbrev pub shown_of : Text → EvaluationOutcome Completion → World → Shown
 shown_of script (Ended (Normal t s)) w = Result t w.used
-shown_of script (Ended (Raised m s)) w = Fails m (line_at script s.offset)
+shown_of script (Ended (Raised m s)) w = Fails m (line_at script (outermost w.scripts))
 shown_of script (Ended (Returned t s)) w = Else
 shown_of script (Ended (Broken s)) w = Else
 shown_of script (Ended (Continued s)) w = Else
@@ -99,3 +101,15 @@ setenv_words name value = codes "setenv" ∷ name ∷ value ∷ []
 -- the example host was asked for its mode
 abbrev pub asked_for_mode : Question
 asked_for_mode = OfCommand (codes "mode" ∷ []) (Done (codes "unload") Nothing true)
+
+-- where the evaluation of this file stood at its end
+abbrev pub place_in : Text → EvaluationOutcome Completion → World → Option FaultPlace
+place_in script o w = place_of script w.scripts
+
+abbrev pub at_place : (outermost innermost line : ℕ) → Option FaultPlace
+at_place outermost innermost line = Some (record { outermost = outermost; innermost = innermost; line = line })
+
+-- its own command at the first offset, and the innermost at the second, in this line
+abbrev pub EndsAt : (outermost innermost line : ℕ) → Text → Type 0
+EndsAt outermost innermost line script =
+    Shows (recorded standard script) (place_in script) (at_place outermost innermost line)

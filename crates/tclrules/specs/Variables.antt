@@ -46,18 +46,17 @@ pub record Procedure : Type 0 where
   pub body : Text
 
 -- the state of an evaluation: the names that the host reserves, the global variables, the frame of the procedure that
--- runs, if one does, the procedures by name, and the offset of the current command of the file, in bytes
+-- runs, if one does, and the procedures by name
 pub record State : Type 0 where
   pub reserved : List Text
   pub globals : Variables
   pub frame : Option Frame
   pub procedures : List (Text × Procedure)
-  pub offset : ℕ
 
 -- the state before a script with these reserved names and global variables
 abbrev pub initial_state : List Text → Variables → State
 initial_state reserved globals =
-    record { reserved = reserved; globals = store_all [] globals; frame = None; procedures = []; offset = 0 }
+    record { reserved = reserved; globals = store_all [] globals; frame = None; procedures = [] }
 
 -- the state with this frame in place of its own
 abbrev pub in_frame : State → Option Frame → State

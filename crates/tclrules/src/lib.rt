@@ -13,5 +13,5 @@ pub use laws::{
     endless, grown, one_outcome, other_limit, played, some_outcome, two_oracles, unasked, unrefused,
 };
 pub use limits::Limits;
-pub use outcome::{Ending, EvalFault};
-pub use rows::worked_rows;
+pub use outcome::{Ending, EvalFault, FaultPlace, PlacedFault};
+pub use rows::{place_rows, worked_rows};

@@ -52,6 +52,27 @@ pub enum EvalFault {
     Host(u16),
 }
 
+/// Where an evaluation of a file stood when a fault ended it. Offsets are in bytes, from the beginning of the file.
+#[derive(Debug, Clone, Copy)]
+pub struct FaultPlace {
+    /// The offset of the file's own current command.
+    pub outermost: usize,
+    /// The offset of the innermost current command whose text was found in the file: in a body, in a procedure, or the
+    /// file's own command.
+    pub innermost: usize,
+    /// The line, from 1, in which that command begins.
+    pub line: usize,
+}
+
+/// A fault of the evaluation of a file, with the place where it ended the evaluation.
+#[derive(Debug, Drop)]
+pub struct PlacedFault {
+    /// The fault.
+    pub fault: EvalFault,
+    /// The place; None where no command had begun, or memory ran out.
+    pub place: Option<FaultPlace>,
+}
+
 impl EvalFault {
     /// The number of the fault and its text; of a host's refusal 21, and the host's number in the text.
     pub fn numbered(&self) -> NumberedMessage<'_>
@@ -91,6 +112,17 @@ impl fmt::Display for EvalFault {
 }
 
 impl Error for EvalFault {}
+
+impl From<AllocError> for PlacedFault {
+    ghost from_gives = { λ _ e. e.fault ≡ faults.OutOfMemory };
+
+    fn from(_e: AllocError) -> PlacedFault {
+        PlacedFault {
+            fault: EvalFault::OutOfMemory,
+            place: None,
+        }
+    }
+}
 
 impl From<AllocError> for EvalFault {
     ghost from_gives = { λ _ e. e ≡ faults.OutOfMemory };

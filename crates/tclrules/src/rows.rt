@@ -1,9 +1,9 @@
 //! Worked examples: small scripts and their outcomes, by computation, one for each of the main rules.
-ghost use Rattle.std.specs.Prelude.{[], ◌∷◌, codes};
+ghost use Rattle.std.specs.Prelude.{[], ◌∷◌, ◌++◌, codes};
 ghost use Rattle.tcltext.specs.declared.chars.fault.TextFault.TheVariants as text;
 ghost use Rattle.tclrules.specs.Derivation.{BadText, TooManyCommands, TooDeep, ValueTooLong, ByHost};
 ghost use Rattle.tclrules.specs.Shown.{standard, with_commands, with_depth, with_bytes, setenv_words, asked_for_mode, Results};
-ghost use Rattle.tclrules.specs.Shown.{RaisesOn, Stops, HostStops, HostTraces};
+ghost use Rattle.tclrules.specs.Shown.{RaisesOn, Stops, HostStops, HostTraces, EndsAt};
 
 /// Worked examples of the rules, each named for what it shows.
 pub fn worked_rows()
@@ -22,4 +22,21 @@ pub fn worked_rows()
         (setenv_words (codes "A") (codes "1") ∷ []) [] (asked_for_mode ∷ []) }
     ensures in_a_procedure { RaisesOn 4 (codes "proc f {} {\nset x\n}\nf")
         (codes "can't read \"x\": no such variable") }
+{}
+
+/// Worked examples of places: at which offset the file's own command begins in which the evaluation ends, and at which
+/// the innermost command.
+pub fn place_rows()
+    ensures in_if { EndsAt 0 7 2 (codes "if 1 {\nconflict b\n}") }
+    ensures in_foreach { EndsAt 8 26 3 (codes "set x 1\nforeach i {1 2} {\nconflict b\n}") }
+    ensures in_while { EndsAt 0 9 1 (codes "while 1 {conflict b}") }
+    ensures in_switch { EndsAt 0 13 1 (codes "switch a {a {conflict b}}") }
+    ensures behind_catch { EndsAt 16 16 2 (codes "catch {error a}\nerror b") }
+    ensures behind_loop { EndsAt 16 16 2 (codes "while 1 {break}\nerror e") }
+    ensures in_second_call { EndsAt 31 17 1 (codes "proc f x {if $x {error e}}\nf 0\nf 1") }
+    ensures at_break { EndsAt 18 11 1 (codes "proc f {} {break}\nf") }
+    ensures in_quotes { EndsAt 0 0 1 (codes "if 1 \"error e\"") }
+    ensures in_brackets { EndsAt 0 0 1 (codes "set x [error e]") }
+    ensures behind_continuation { EndsAt 0 19 2 (codes "if 1 {set x \\\n  1; error e}") }
+    ensures behind_two_bytes { EndsAt 9 15 2 (codes "set x " ++ 195 ∷ 169 ∷ codes "\nif 1 {error e}") }
 {}

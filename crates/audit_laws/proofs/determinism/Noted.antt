@@ -4,7 +4,7 @@ use Rattle.std.proofs.Common.{refl, ap, subst, ◌∙◌}
 use Rattle.std.proofs.lemmas.List.{append_assoc}
 use Rattle.tclrules.specs.Oracle.{CommandWords, OracleAnswer, Oracle, Question, OfCommand, OfVariable, is_question, asked_with}
 use Rattle.tclrules.specs.Derivation.{EvaluationOutcome, Plan, Query, Command, Variable, World, Eval, ends, counts}
-use Rattle.tclrules.specs.Derivation.{meets_limit, consults, reads, runs, halts, lacks_memory, question_of}
+use Rattle.tclrules.specs.Derivation.{meets_limit, moves, consults, reads, runs, halts, lacks_memory, question_of}
 use Rattle.tclrules.proofs.Consultations.{records_more}
 
 -- it is one of the list
@@ -47,6 +47,7 @@ pub was_answered : {J R : Type 0} {oracle : Oracle} {most : ℕ} {rule : J → P
 was_answered ends q a = inl a
 was_answered (counts g d) q a = was_answered d q a
 was_answered (meets_limit g) q a = inl a
+was_answered (moves d) q a = was_answered d q a
 was_answered {oracle = oracle} (consults {words = words} {k = k} {w = w} d) q a =
     ⊎_elim
     (λ i. ⊎_elim (λ before. inl before)

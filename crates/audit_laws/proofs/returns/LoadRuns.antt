@@ -12,7 +12,7 @@ use Rattle.envstate.specs.Roles.{is_editable}
 use Rattle.envstate.proofs.RoleLemmas.{no_reason_against}
 use Rattle.tclrules.specs.Oracle as oracle
 use Rattle.tclrules.specs.Oracle.{CommandWords, OracleAnswer, Oracle, Question, OfCommand, OfVariable, NewRecord, Done, Refused, HostRefusal, records_with, addition, is_question, is_refusal, refused_with}
-use Rattle.tclrules.specs.Derivation.{ByHost, EvaluationOutcome, Ended, Halted, Plan, World, Eval, ends, counts, meets_limit, consults, reads, runs, halts, lacks_memory}
+use Rattle.tclrules.specs.Derivation.{ByHost, EvaluationOutcome, Ended, Halted, Plan, World, Eval, ends, counts, meets_limit, moves, consults, reads, runs, halts, lacks_memory}
 use Rattle.tclrules.specs.Derivation.{Query, Command, Variable, Throughout, world_after}
 use Rattle.tclrules.specs.Variables.{State}
 use Rattle.tclrules.specs.Plans.{Completion, Normal, Raised, Returned, Broken, Continued}
@@ -28,7 +28,7 @@ use Rattle.modulefile.specs.Calls.{CallReason, CallForm, adds_record, adds_messa
 use Rattle.modulefile.specs.Calls.{call_of}
 use Rattle.modulefile.specs.Answers.{FileContext, record_number, record_name, refusal_of, record_answer, value_shown, command_answer, record_of, records_in}
 use Rattle.modulefile.specs.Answers.{record_outcome, or_before, environment_after, oracle_of}
-use Rattle.modulefile.specs.Files.{Ran, FileReason, refused, halt_reason, ran_of, setting_of, FinishesFile, RunsFile}
+use Rattle.modulefile.specs.Files.{Ran, FileReason, refused, halt_stop, stopped_in, ran_of, setting_of, FinishesFile, RunsFile}
 use Rattle.modulefile.proofs.Bound.{bind_ok, same_value}
 use Rattle.modulefile.proofs.HasEffects.{records_more}
 use Rattle.reversal.specs.VariableUses.{Stacked, use_by}
@@ -70,6 +70,8 @@ alike_or_full second ends t = inl ends
 alike_or_full second (counts g d) t = ⊎_elim (λ i. inl (counts g i))
     (λ i. inr (record { n = i.n; name = i.name; full = i.full; after = i.after; evaluates = counts g i.evaluates; refusal = i.refusal })) (alike_or_full second d t)
 alike_or_full second (meets_limit g) t = inl (meets_limit g)
+alike_or_full second (moves d) t = ⊎_elim (λ i. inl (moves i))
+    (λ i. inr (record { n = i.n; name = i.name; full = i.full; after = i.after; evaluates = moves i.evaluates; refusal = i.refusal })) (alike_or_full second d t)
 alike_or_full second (consults {words = words} {k = k} {w = w} d) t =
     ⊎_elim
     (λ same. ⊎_elim (λ i. inl (consults (rw same i)))
@@ -198,26 +200,23 @@ each_again c d last asked all name read k again records (Variable v) n a u =
 -- it is accepted with these records, or a counter is full
 pub data LoadsFile (rs : List Record) : Result Ran FileReason → Type 0 where
   accepted : (ran : Ran) → ran.records ≡ rs → LoadsFile rs (Ok ran)
-  full : (v : Text) → LoadsFile rs (Err (refused (refusal_of (bad_edit (counter_full v)))))
+  full : (v : Text) (reason : FileReason) → reason.stop ≡ refused (refusal_of (bad_edit (counter_full v))) → LoadsFile rs (Err reason)
 
 finished : (c d : FileContext) (text result : Text) (s : State) (w : World) (ran : Ran) (o : Result Ran FileReason) → ran_of c w.trace ≡ Ok ran
-    → FinishesFile d text (Ended (Normal result s)) w.trace o → LoadsFile ran.records o
+    → FinishesFile d text (Ended (Normal result s)) w o → LoadsFile ran.records o
 finished c d text result s w ran o h (again, read, is) =
     subst (LoadsFile ran.records) (sym is)
     (accepted again (same_value (records_in w.trace.records) again.records ran.records (ran_parts d w.trace again read).read (ran_parts c w.trace ran h).read))
 
-full_reason : (n : ℕ) (name : Option Text) → (full : IsFull n name) → LoadsFile [] (Err (refused (record { number = n; name = name })))
-full_reason n name (v, number, named) =
-    subst (λ (r : HostRefusal). LoadsFile [] (Err (refused r))) (λ i. record { number = sym number i; name = sym named i }) (full v)
-
-any_records : (rs : List Record) (reason : FileReason) → LoadsFile [] (Err reason) → LoadsFile rs (Err reason)
-any_records rs reason (full v) = full v
+full_stop : (n : ℕ) (name : Option Text) → IsFull n name
+    → (v : Text) × (refused (record { number = n; name = name }) ≡ refused (refusal_of (bad_edit (counter_full v))))
+full_stop n name (v, number, named) = (v, λ i. refused (record { number = number i; name = named i }))
 
 ended_full : (rs : List Record) (d : FileContext) (text : Text) (n : ℕ) (name : Option Text) (w : World) (o : Result Ran FileReason) → IsFull n name
-    → w.trace.refused ≡ Some (record { number = n; name = name }) → FinishesFile d text (Halted (ByHost n)) w.trace o → LoadsFile rs o
+    → w.trace.refused ≡ Some (record { number = n; name = name }) → FinishesFile d text (Halted (ByHost n)) w o → LoadsFile rs o
 ended_full rs d text n name w o is_full refusal is =
-    let r = refused (record { number = n; name = name }) in
-    subst (LoadsFile rs) (sym (is ∙ ap (λ (x : Option HostRefusal). Err (halt_reason (ByHost n) x)) refusal)) (any_records rs r (full_reason n name is_full))
+    let (v, same) = full_stop n name is_full in
+    subst (LoadsFile rs) (sym is) (full v (stopped_in d text w (halt_stop (ByHost n) w.trace.refused)) (ap (λ (x : Option HostRefusal). halt_stop (ByHost n) x) refusal ∙ same))
 
 run_ended : (limits : Limits) (c d : FileContext) (text : Text) (ran : Ran) (result : Text) (s : State) (w : World) (o : Result Ran FileReason)
     → EvaluatesTo (setting_of limits c text) (Ended (Normal result s)) w → ran_of c w.trace ≡ Ok ran → IsAskedAgain c d ran.asked ran.records → LoadsInto d ran.records
@@ -231,10 +230,10 @@ run_ended limits c d text ran result s w o e h again k name path (out, w2, e2, f
     ⊎_elim
     (λ i. let same = one_outcome e3 i in
     finished c d text result s w ran o h
-    (subst (λ (x : EvaluationOutcome Completion). FinishesFile d text x w.trace o) same.0 (subst (λ (v : World). FinishesFile d text out v.trace o) same.1 f)))
+    (subst (λ (x : EvaluationOutcome Completion). FinishesFile d text x w o) same.0 (subst (λ (v : World). FinishesFile d text out v o) same.1 f)))
     (λ i. let same = one_outcome e3 i.evaluates in
     ended_full ran.records d text i.n i.name i.after o i.full i.refusal
-    (subst (λ (x : EvaluationOutcome Completion). FinishesFile d text x i.after.trace o) same.0 (subst (λ (v : World). FinishesFile d text out v.trace o) same.1 f)))
+    (subst (λ (x : EvaluationOutcome Completion). FinishesFile d text x i.after o) same.0 (subst (λ (v : World). FinishesFile d text out v o) same.1 f)))
     (alike_or_full (oracle_of d) e each)
 
 pub files_load : (limits : Limits) (c d : FileContext) (text : Text) (ran : Ran) (o : Result Ran FileReason) → RunsFile limits c text (Ok ran) → IsAskedAgain c d ran.asked ran.records

@@ -20,7 +20,7 @@ use Rattle.modulefile.specs.Effects as modes
 use Rattle.modulefile.specs.Effects.{effects, edit_outcome}
 use Rattle.modulefile.specs.Moves.{Module, Loads, entry_of, entry_moved, moved}
 use Rattle.modulefile.specs.Answers.{FileContext, any_loaded}
-use Rattle.modulefile.specs.Files.{Ran, FileReason, refused, RunsFile}
+use Rattle.modulefile.specs.Files.{Ran, FileReason, RunsFile}
 use Rattle.modulefile.specs.Laws as files
 use Rattle.modulefile.specs.Laws.{RecordsHaveEffects, RecordsAreAllowed}
 use Rattle.modulefile.proofs.Effected.{whole}
@@ -50,7 +50,7 @@ use Rattle.audit_laws.specs.determinism.Laws.{UndoIsTested}
 use Rattle.audit_laws.specs.site.Sites.{Site, over_site, ReadsEquivalently, candidate_file}
 use Rattle.audit_laws.specs.site.Laws.{AreDeterministic}
 use Rattle.audit_laws.proofs.site.Evaluations.{evaluated}
-use Rattle.audit_laws.specs.returns.Loads.{MayForbidLoad, IsAcceptedOrForbidden}
+use Rattle.audit_laws.specs.returns.Loads.{IsFullCounter, MayForbidLoad, IsAcceptedOrForbidden}
 use Rattle.audit_laws.specs.returns.Laws.{LoadsAreAccepted, ReadsAreOfStart}
 use Rattle.audit_laws.proofs.site.Chosen.{loaded_by, chosen_alike, all_loaded}
 use Rattle.audit_laws.proofs.site.Covered.{matched, is_way, are_tried, in_way}
@@ -219,11 +219,11 @@ evaluated_loads laws s in_switch name before xs m rs o list spelled path absent 
       step = if_no (has m.name (names_of xs)) (Is (Ok before)) _ (joins before xs n ran.messages) absent (Ok ran, (Ok ran, other, refl), refl);
       ends_so = joins_end before xs n (load_objection m.name ran.records xs) (continued before (Loads n) ran.messages) done (with_conflicts_once (entry_of n)) refl went j.list absent;
     }
-evaluated_loads laws s in_switch name before xs m rs o list spelled path absent other (full v) =
+evaluated_loads laws s in_switch name before xs m rs o list spelled path absent other (full v reason stop) =
     record {
-      result = Err (file_refused (refused _));
-      step = if_no (has m.name (names_of xs)) (Is (Ok before)) _ (Err (file_refused (refused _))) absent (Err (file_refused (refused _)), (Err (refused _), other, refl), refl);
-      ends_so = forbidden (file_refused (refused _)) (v, refl);
+      result = Err (file_refused reason);
+      step = if_no (has m.name (names_of xs)) (Is (Ok before)) _ (Err (file_refused reason)) absent (Err (file_refused reason), (Err reason, other, refl), refl);
+      ends_so = forbidden (file_refused reason) (subst IsFullCounter (sym stop) (v, refl));
     }
 
 pub found_loads : Laws → (site : Site) (shell : Shell) (in_switch : Bool) (name : Text) (before : Done) (xs : List Entry) (m : FoundModule) → loaded_in before.env ≡ Some xs → is_module_name m.name ≡ true → is_path m.path ≡ true

@@ -4,7 +4,7 @@ use Rattle.envvars.specs.Texts.{Text}
 use Rattle.envvars.specs.Environment.{Environment}
 use Rattle.envstate.specs.loaded_list.Loaded.{Entry, loaded_in}
 use Rattle.filetree.specs.Modulefiles.{script, modulefile}
-use Rattle.modulefile.specs.Files.{Ran, RunsFile, refused_by, IsSameOrRefused}
+use Rattle.modulefile.specs.Files.{Ran, RunsFile, IsSameOrRefused}
 use Rattle.modulefile.specs.Laws.{RecordsAreAllowed, PlainFilesAgree}
 use Rattle.modulefile.specs.Moves.{Module, Move, Loads, Unloads}
 use Rattle.modulefile.specs.Records.{Record}
@@ -128,7 +128,7 @@ same_script s path a b h k = let q : script a ≡ script b = sym h ∙ k in cc
 
 agreed : (ran other : Ran) → IsSameOrRefused ran (Ok other) → other.records ≡ ran.records
 agreed ran other (inl (again, same, records)) = let q : other ≡ again = (let r : Ok other ≡ Ok again = same in cc) in ap (λ (x : Ran). x.records) q ∙ records
-agreed ran other (inr (n, refusal, same)) = absurd (let r : Ok other ≡ Err (refused_by n refusal) = same in cc)
+agreed ran other (inr (n, refusal, reason, same, stop)) = absurd (let r : Ok other ≡ Err reason = same in cc)
 
 pub plain_modules_load_plainly : PlainFilesAgree → PlainModulesLoadPlainly
 plain_modules_load_plainly law s m ran (first, plain, none) left records =

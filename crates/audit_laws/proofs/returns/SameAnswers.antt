@@ -3,7 +3,7 @@
 use Rattle.std.proofs.Common.{◌≡◌, ℕ, Bool, false, List, ◌++◌, ap, ◌∙◌}
 use Rattle.std.proofs.lemmas.List.{append_assoc}
 use Rattle.tclrules.specs.Oracle.{CommandWords, Oracle, Question, records_with, addition}
-use Rattle.tclrules.specs.Derivation.{EvaluationOutcome, Plan, World, Eval, ends, counts, meets_limit, consults, reads, runs, halts}
+use Rattle.tclrules.specs.Derivation.{EvaluationOutcome, Plan, World, Eval, ends, counts, meets_limit, moves, consults, reads, runs, halts}
 use Rattle.tclrules.specs.Derivation.{lacks_memory, Query, Command, Variable, Throughout, IsUnrefused, IsNoted}
 use Rattle.tclrules.proofs.Consultations.{records_more}
 
@@ -19,6 +19,7 @@ pub evaluates_alike : {J R : Type 0} {may_lack_memory : Bool} {first : Oracle} {
 evaluates_alike second ends t = ends
 evaluates_alike second (counts g d) t = counts g (evaluates_alike second d t)
 evaluates_alike second (meets_limit g) t = meets_limit g
+evaluates_alike second (moves d) t = moves (evaluates_alike second d t)
 evaluates_alike second (consults d) t = consults (rw t.0 (evaluates_alike second d t.1))
 evaluates_alike second (reads d) t = reads (rw t.0 (evaluates_alike second d t.1))
 evaluates_alike second (runs d c) t = runs (evaluates_alike second d t.0) (evaluates_alike second c t.1)
@@ -41,6 +42,7 @@ pub additions : {J R : Type 0} {oracle : Oracle} {most : ℕ} {rule : J → Plan
 additions ends all rest h = tt
 additions (counts g d) all rest h = additions d all rest h
 additions (meets_limit g) all rest h = tt
+additions (moves d) all rest h = additions d all rest h
 additions {oracle = oracle} {w' = w'} (consults {words = words} {w = w} d) all rest h =
     let m = records_more d in
     let now = records_with w.trace.records (addition (oracle.command w.trace.records words)) in
@@ -69,6 +71,7 @@ pub all_are : {J R : Type 0} {may_lack_memory : Bool} {first : Oracle} {most : �
 all_are Holds asked all each ends n a u = tt
 all_are Holds asked all each (counts g d) n a u = all_are Holds asked all each d n a u
 all_are Holds asked all each (meets_limit g) n a u = tt
+all_are Holds asked all each (moves d) n a u = all_are Holds asked all each d n a u
 all_are Holds asked all each (consults {words = words} {w = w} d) n a u =
     (each w.trace.records (Command words) n.0 a.0 u.0, all_are Holds asked all each d n.1 a.1 u.1)
 all_are Holds asked all each (reads {name = name} {w = w} d) n a u =

@@ -7,7 +7,7 @@ use Rattle.filetree.specs.Modulefiles.{script, modulefile}
 use Rattle.modulefile.specs.Answers.{any_loaded}
 use Rattle.modulefile.specs.Records.{Record}
 use Rattle.audit_certificate.specs.RecordUses.{IsAmong}
-use Rattle.modulefile.specs.Files.{Ran, refused_by, RunsFile, IsSameOrRefused}
+use Rattle.modulefile.specs.Files.{Ran, RunsFile, IsSameOrRefused}
 use Rattle.modulefile.specs.Laws as files
 use Rattle.reversal.specs.Undone.{UndoEquivalently}
 use Rattle.requests.specs.Steps.{RequestContext}
@@ -32,7 +32,7 @@ one_text s path a b h k = let q : script a ≡ script b = sym h ∙ k in cc
 
 agreed : (ran other : Ran) → IsSameOrRefused ran (Ok other) → other.records ≡ ran.records
 agreed ran other (inl (again, same, records)) = let q : other ≡ again = (let r : Ok other ≡ Ok again = same in cc) in ap (λ (x : Ran). x.records) q ∙ records
-agreed ran other (inr (n, refusal, same)) = absurd (let r : Ok other ≡ Err (refused_by n refusal) = same in cc)
+agreed ran other (inr (n, refusal, reason, same, stop)) = absurd (let r : Ok other ≡ Err reason = same in cc)
 
 pub deterministic_records : DeterministicFilesAgree → UndoIsTested → DeterministicRecordsAreAll
 deterministic_records law tested site m rs ran left p changing alike =

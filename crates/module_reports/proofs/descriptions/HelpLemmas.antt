@@ -106,13 +106,13 @@ module _ (limits : Limits) (c : FileContext) (m : search.FoundModule) where
     pub without_help : (reason : Option FileReason) → lacks_by reason ≡ true → IfSome reason (λ r. RunsFile limits c (with_call m.text) (Err r))
         → HelpsCalled limits c m description (Ok (described description))
     without_help None lacks h = absurd (cc)
-    without_help (Some r) lacks h = (Err r, h, if_yes (lacks_help r) _ _ (Ok (described description)) lacks refl)
+    without_help (Some r) lacks h = (Err r, h, if_yes (lacks_help r.stop) _ _ (Ok (described description)) lacks refl)
 
     -- the procedure is refused
     pub unhelped : (reason : Option FileReason) → lacks_by reason ≡ false → IfSome reason (λ r. RunsFile limits c (with_call m.text) (Err r))
         → Applies (by_reason file_refused reason) ⊥ (λ r. HelpsCalled limits c m description (Err r))
     unhelped None lacks h = tt
-    unhelped (Some r) lacks h = (Err r, h, if_no (lacks_help r) _ _ (Err (file_refused r)) lacks refl)
+    unhelped (Some r) lacks h = (Err r, h, if_no (lacks_help r.stop) _ _ (Err (file_refused r)) lacks refl)
 
   -- ---- both
 

@@ -7,7 +7,7 @@ use Rattle.filetree.specs.Relations.{Is, If, ◌>>◌}
 use Rattle.tclrules.specs.declared.limits.Limits.{Limits}
 use Rattle.modulefile.specs.Effects as modes
 use Rattle.modulefile.specs.Answers.{FileContext}
-use Rattle.modulefile.specs.Files.{FileReason, Ran, RunsFile, failed, halted, refused}
+use Rattle.modulefile.specs.Files.{FileReason, FileStop, Ran, RunsFile, failed, halted, refused}
 use Rattle.modulefile.specs.Reports.{whatis_text}
 use Rattle.search.specs.Found as search
 use Rattle.requests.specs.Reasons.{RequestReason, file_refused}
@@ -20,8 +20,8 @@ pub data HelpAnswer : Type 0 where
   own : (text : Text) → HelpAnswer
   described : (text : Text) → HelpAnswer
 
--- The file was refused because it has no such procedure.
-abbrev pub lacks_help : FileReason → Bool
+-- The evaluation stopped because the file has no such procedure.
+abbrev pub lacks_help : FileStop → Bool
 lacks_help (halted halt) = false
 lacks_help (refused refusal) = false
 lacks_help (failed message line) = bytes_eq message (codes "invalid command name \"ModulesHelp\"")
@@ -45,7 +45,7 @@ said_or (b ∷ said) description = own (b ∷ said)
 abbrev pub HelpsBy : Text → Result Ran FileReason → Result HelpAnswer RequestReason → Type 0
 HelpsBy description (Ok ran) = Is (Ok (said_or (joined ran.messages) description))
 HelpsBy description (Err reason) =
-    If (lacks_help reason) (Is (Ok (described description))) (Is (Err (file_refused reason)))
+    If (lacks_help reason.stop) (Is (Ok (described description))) (Is (Err (file_refused reason)))
 
 -- the answer of the module with this description
 abbrev pub HelpsCalled : Limits → FileContext → search.FoundModule → Text → Result HelpAnswer RequestReason → Type 0

@@ -26,7 +26,7 @@ help_view (texts.Described text) = described (string_bytes text)
 -- the file was refused because it has no procedure; not where memory ran out
 abbrev pub lacks_by : Option FileReason → Bool
 lacks_by None = false
-lacks_by (Some reason) = lacks_help reason
+lacks_by (Some reason) = lacks_help reason.stop
 
 -- the context in which the file of a module is evaluated
 abbrev pub context_for : HelpRequest → search.FoundModule → Environment → FileContext

@@ -25,7 +25,7 @@ use envvars::{Env, Working};
 use filetree::Tree;
 use lookup::EvaluatedDefaultFiles;
 use modulefile::Mode;
-use modulefile_run::{FileContext, FileRun, RunFault, run_file};
+use modulefile_run::{FileContext, FileRun, RunFault, RunStop, run_file};
 use modules::Refusal;
 use requests::{modulepath, whatis_report};
 use search::{LocatedModule, locate};
@@ -57,11 +57,11 @@ struct HelpRequest<'a> {
 const WITHOUT_HELP: &str = "invalid command name \"ModulesHelp\"";
 
 /// Whether a file was refused because it has no procedure `ModulesHelp`.
-fn lacks_help(fault: &RunFault) -> bool
-    ensures { result ≡ lacks_by (file_reason_of fault.now) }
+fn lacks_help(refused: &RunFault) -> bool
+    ensures { result ≡ lacks_by (file_reason_of refused.now) }
 {
-    match fault {
-        RunFault::Eval(EvalFault::TclError(message, _)) => message.as_str() == WITHOUT_HELP,
+    match &refused.stop {
+        RunStop::Eval(EvalFault::TclError(message, _)) => message.as_str() == WITHOUT_HELP,
         _ => false,
     }
 }
@@ -144,11 +144,11 @@ fn called(
             let said = joined(alloc, ran.messages.as_slice())?;
             Ok(said_or(said, description))
         }
-        Err(fault) => {
-            if lacks_help(&fault) {
+        Err(refused) => {
+            if lacks_help(&refused) {
                 Ok(HelpText::Described(description))
             } else {
-                Err(Refusal::Run(fault))
+                Err(Refusal::Run(refused))
             }
         }
     }

@@ -29,7 +29,7 @@ pub fn is_transient(refusal: &Refusal) -> bool
 {
     match refusal {
         Refusal::OutOfMemory => true,
-        Refusal::Run(fault) => wants_memory(fault),
+        Refusal::Run(refused) => wants_memory(refused),
         Refusal::Find(fault) => is_search_transient(fault),
         Refusal::Env(fault) => matches!(fault, EnvFault::OutOfMemory),
         Refusal::BadArguments

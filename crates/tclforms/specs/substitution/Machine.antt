@@ -7,7 +7,7 @@ use Rattle.tcltext.specs.script.View.{parts_view, script_view}
 use Rattle.tcltext.specs.declared.script.piece.ByteRange.{ByteRange}
 use Rattle.tcltext.specs.expr.View.{expr_view}
 use Rattle.tclvalue.specs.operators.Operators.{truth, truth_text, unary_value, binary_value}
-use Rattle.tclrules.specs.Derivation.{Runs}
+use Rattle.tclrules.specs.Derivation.{OpenScript, Runs}
 use Rattle.tclrules.specs.Variables.{State}
 use Rattle.tclrules.specs.Plans as plans
 use Rattle.tclrules.specs.Plans.{Bounds, Job, Next, Bracket, on_normal, given, sized}
@@ -112,12 +112,11 @@ WeighsLess source (steps.Bracket cs) fs n = frames_weight source fs < n
 
 -- a step follows the rules: whatever its result and the stack evaluate to from the second point, the plan evaluates to
 -- from the first; and what is still to be done weighs less than this number
-abbrev pub StepsTo : (Bounds → Next → plans.Step) → SubstitutionContext → (ℕ → Point) → Result Step Stop
-    → List WaitingFrame → ℕ
-    → (ℕ → Point) → Type 0
+abbrev pub StepsTo : (Bounds → Next → plans.Step) → SubstitutionContext → (ℕ → List OpenScript → Point)
+    → Result Step Stop → List WaitingFrame → ℕ → (ℕ → List OpenScript → Point) → Type 0
 StepsTo p c x result fs n y =
-    ((most used remaining : ℕ) (r : Job → plans.Step) (k : Next)
-    → Simulates most r (p (bounds c.limits.value_bytes remaining) k) (x used)
+    ((most used remaining : ℕ) (scripts : List OpenScript) (r : Job → plans.Step) (k : Next)
+    → Simulates most r (p (bounds c.limits.value_bytes remaining) k) (x used scripts)
     (after result (λ st s. step_plan c.source.now (bounds c.limits.value_bytes remaining) st fs s k) c.variables.now)
-    (y used))
+    (y used scripts))
     × IfOk result (λ st. WeighsLess c.source.now st fs n)

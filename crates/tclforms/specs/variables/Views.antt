@@ -30,5 +30,4 @@ variables_view v = record {
   globals = texts_of v.globals.entries;
   frame = v.local;
   procedures = map (λ e. (string_bytes e.0, procedure_view e.1.value)) v.procedures.entries;
-  offset = v.offset;
 }

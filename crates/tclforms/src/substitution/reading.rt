@@ -1,6 +1,6 @@
 //! The values of scalar variables and of elements of the array `env`, with the errors of Tcl where there is none.
-ghost use Rattle.std.specs.Prelude.{◌≡◌, ◌++◌, ℕ, Some, IfOk, codes, option_map, string_bytes};
-ghost use Rattle.tclrules.specs.Derivation.{ReadsEnvironment};
+ghost use Rattle.std.specs.Prelude.{◌≡◌, ◌++◌, ℕ, List, Some, IfOk, codes, option_map, string_bytes};
+ghost use Rattle.tclrules.specs.Derivation.{OpenScript, ReadsEnvironment};
 ghost use Rattle.tclrules.specs.Simulates.{Simulates, Point, point};
 ghost use Rattle.tclrules.specs.Plans as plans;
 ghost use Rattle.tclrules.specs.Plans.{Job, Next};
@@ -72,11 +72,11 @@ fn read_env<H: Host>(
     spelled: &str,
     name: &str,
 ) -> Result<String, Stop>
-    ensures { (most used : ℕ) (r : Job → plans.Step) (k : Next)
+    ensures { (most used : ℕ) (scripts : List OpenScript) (r : Job → plans.Step) (k : Next)
         → Simulates most r (ReadsEnvironment name.now (found (no_variable spelled.now) variables.now k))
-        (point (H.oracle host.old) (H.trace host.old) used)
+        (point (H.oracle host.old) (H.trace host.old) used scripts)
         (after result (λ t s. k (string_bytes t) s) variables.now)
-        (point (H.oracle host.new) (H.trace host.new) used) }
+        (point (H.oracle host.new) (H.trace host.new) used scripts) }
 {
     match host.read_env(name)? {
         Some(value) => Ok(value),
@@ -93,11 +93,11 @@ fn read_location<H: Host>(
     spelled: &str,
     location: Location<'_>,
 ) -> Result<String, Stop>
-    ensures { (most used : ℕ) (r : Job → plans.Step) (k : Next)
+    ensures { (most used : ℕ) (scripts : List OpenScript) (r : Job → plans.Step) (k : Next)
         → Simulates most r (read_location spelled.now variables.now k (location_view location.entry))
-        (point (H.oracle host.old) (H.trace host.old) used)
+        (point (H.oracle host.old) (H.trace host.old) used scripts)
         (after result (λ t s. k (string_bytes t) s) variables.now)
-        (point (H.oracle host.new) (H.trace host.new) used) }
+        (point (H.oracle host.new) (H.trace host.new) used scripts) }
 {
     match location {
         Location::Scalar(variable) => read_scalar(alloc, variables, spelled, variable),
@@ -119,11 +119,11 @@ pub fn read<H: Host>(
     host: &mut H,
     name: &str,
 ) -> Result<String, Stop>
-    ensures { (most used : ℕ) (r : Job → plans.Step) (k : Next)
+    ensures { (most used : ℕ) (scripts : List OpenScript) (r : Job → plans.Step) (k : Next)
         → Simulates most r (read name.now variables.now k)
-        (point (H.oracle host.old) (H.trace host.old) used)
+        (point (H.oracle host.old) (H.trace host.old) used scripts)
         (after result (λ t s. k (string_bytes t) s) variables.now)
-        (point (H.oracle host.new) (H.trace host.new) used) }
+        (point (H.oracle host.new) (H.trace host.new) used scripts) }
 {
     let location = location_named(variables, alloc, name)?;
     read_location(alloc, variables, host, name, location)
@@ -148,11 +148,11 @@ pub fn read_element<H: Host>(
     name: &str,
     index: &str,
 ) -> Result<String, Stop>
-    ensures { (most used : ℕ) (r : Job → plans.Step) (k : Next)
+    ensures { (most used : ℕ) (scripts : List OpenScript) (r : Job → plans.Step) (k : Next)
         → Simulates most r (read_element name.now index.now variables.now k)
-        (point (H.oracle host.old) (H.trace host.old) used)
+        (point (H.oracle host.old) (H.trace host.old) used scripts)
         (after result (λ t s. k (string_bytes t) s) variables.now)
-        (point (H.oracle host.new) (H.trace host.new) used) }
+        (point (H.oracle host.new) (H.trace host.new) used scripts) }
 {
     let location = location_of(variables, alloc, name, Some(index))?;
     let spelled = spelled(alloc, name, index)?;

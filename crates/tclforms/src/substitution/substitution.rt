@@ -112,10 +112,11 @@ fn append_piece<'a, H: Host>(
         (λ b k. sized b.bytes (string_bytes text ++ piece.now)
         (parts b (parts_view (range_text context.entry.source.now) rest.now) (string_bytes text ++ piece.now)
         context.entry.variables.now (stack_continuation context.entry.source.now b (reverse stack.old.items) k)))
-        context.entry (λ used. point (H.oracle host.old) (H.trace host.old) used) result (reverse stack.new.items)
+        context.entry (λ used scripts. point (H.oracle host.old) (H.trace host.old) used scripts) result
+        (reverse stack.new.items)
         (2 + parts_weight (parts_view (range_text context.entry.source.now) rest.now)
         + frames_weight context.entry.source.now (reverse stack.old.items))
-        (λ used. point (H.oracle host.new) (H.trace host.new) used) }
+        (λ used scripts. point (H.oracle host.new) (H.trace host.new) used scripts) }
 {
     let text = with_piece(text, piece)?;
     if text.len() > context.limits.value_bytes {
@@ -139,12 +140,13 @@ fn part<'a, H: Host>(
         (λ u s'. sized b.bytes (string_bytes text ++ u)
         (parts b (parts_view (range_text context.entry.source.now) rest.now) (string_bytes text ++ u) s'
         (stack_continuation context.entry.source.now b (reverse stack.old.items) k))))
-        context.entry (λ used. point (H.oracle host.old) (H.trace host.old) used) result (reverse stack.new.items)
+        context.entry (λ used scripts. point (H.oracle host.old) (H.trace host.old) used scripts) result
+        (reverse stack.new.items)
         (1
         + (part_weight (part_view (range_text context.entry.source.now) part.now)
         + parts_weight (parts_view (range_text context.entry.source.now) rest.now))
         + frames_weight context.entry.source.now (reverse stack.old.items))
-        (λ used. point (H.oracle host.new) (H.trace host.new) used) }
+        (λ used scripts. point (H.oracle host.new) (H.trace host.new) used scripts) }
 {
     match part {
         Part::Literal(range) => append_piece(
@@ -194,10 +196,11 @@ fn operand<'a, H: Host>(
         (λ b k. operand_value b
         (operand_view (range_text context.entry.source.now) operand.now) context.entry.variables.now
         (stack_continuation context.entry.source.now b (reverse stack.old.items) k))
-        context.entry (λ used. point (H.oracle host.old) (H.trace host.old) used) result (reverse stack.new.items)
+        context.entry (λ used scripts. point (H.oracle host.old) (H.trace host.old) used scripts) result
+        (reverse stack.new.items)
         (operand_weight (operand_view (range_text context.entry.source.now) operand.now)
         + frames_weight context.entry.source.now (reverse stack.old.items))
-        (λ used. point (H.oracle host.new) (H.trace host.new) used) }
+        (λ used scripts. point (H.oracle host.new) (H.trace host.new) used scripts) }
 {
     match operand {
         Operand::Number(range) => {
@@ -251,10 +254,11 @@ fn expression<'a, H: Host>(
     ensures { StepsTo
         (λ b k. expr b (expr_view (range_text context.entry.source.now) expression.now) context.entry.variables.now
         (stack_continuation context.entry.source.now b (reverse stack.old.items) k))
-        context.entry (λ used. point (H.oracle host.old) (H.trace host.old) used) result (reverse stack.new.items)
+        context.entry (λ used scripts. point (H.oracle host.old) (H.trace host.old) used scripts) result
+        (reverse stack.new.items)
         (expr_weight (expr_view (range_text context.entry.source.now) expression.now)
         + frames_weight context.entry.source.now (reverse stack.old.items))
-        (λ used. point (H.oracle host.new) (H.trace host.new) used) }
+        (λ used scripts. point (H.oracle host.new) (H.trace host.new) used scripts) }
 {
     match expression {
         Expr::Operand(value) => {
@@ -301,10 +305,11 @@ fn and<'a, H: Host>(
         (λ b k. continuation context.entry.source.now b (And right.entry)
         (stack_continuation context.entry.source.now b (reverse stack.old.items) k) (string_bytes value)
         context.entry.variables.now)
-        context.entry (λ used. point (H.oracle host.old) (H.trace host.old) used) result (reverse stack.new.items)
+        context.entry (λ used scripts. point (H.oracle host.old) (H.trace host.old) used scripts) result
+        (reverse stack.new.items)
         (3 + expr_weight (expr_view (range_text context.entry.source.now) right.now)
         + frames_weight context.entry.source.now (reverse stack.old.items))
-        (λ used. point (H.oracle host.new) (H.trace host.new) used) }
+        (λ used scripts. point (H.oracle host.new) (H.trace host.new) used scripts) }
 {
     if truth(context.alloc, value.as_str())? {
         push_frame(stack, WaitingFrame::Truth)?;
@@ -326,10 +331,11 @@ fn or<'a, H: Host>(
         (λ b k. continuation context.entry.source.now b (Or right.entry)
         (stack_continuation context.entry.source.now b (reverse stack.old.items) k) (string_bytes value)
         context.entry.variables.now)
-        context.entry (λ used. point (H.oracle host.old) (H.trace host.old) used) result (reverse stack.new.items)
+        context.entry (λ used scripts. point (H.oracle host.old) (H.trace host.old) used scripts) result
+        (reverse stack.new.items)
         (3 + expr_weight (expr_view (range_text context.entry.source.now) right.now)
         + frames_weight context.entry.source.now (reverse stack.old.items))
-        (λ used. point (H.oracle host.new) (H.trace host.new) used) }
+        (λ used scripts. point (H.oracle host.new) (H.trace host.new) used scripts) }
 {
     if truth(context.alloc, value.as_str())? {
         return Ok(Step::Next(Control::Value(copy(context.alloc, "1")?)));
@@ -352,12 +358,13 @@ fn choice<'a, H: Host>(
         (λ b k. continuation context.entry.source.now b (Choice yes.entry no.entry)
         (stack_continuation context.entry.source.now b (reverse stack.old.items) k) (string_bytes value)
         context.entry.variables.now)
-        context.entry (λ used. point (H.oracle host.old) (H.trace host.old) used) result (reverse stack.new.items)
+        context.entry (λ used scripts. point (H.oracle host.old) (H.trace host.old) used scripts) result
+        (reverse stack.new.items)
         (1
         + (expr_weight (expr_view (range_text context.entry.source.now) yes.now)
         + expr_weight (expr_view (range_text context.entry.source.now) no.now))
         + frames_weight context.entry.source.now (reverse stack.old.items))
-        (λ used. point (H.oracle host.new) (H.trace host.new) used) }
+        (λ used scripts. point (H.oracle host.new) (H.trace host.new) used scripts) }
 {
     if truth(context.alloc, value.as_str())? {
         return Ok(Step::Next(Control::Expression(yes)));
@@ -378,10 +385,11 @@ fn resume<'a, H: Host>(
         (λ b k. continuation context.entry.source.now b frame.entry
         (stack_continuation context.entry.source.now b (reverse stack.old.items) k) (string_bytes value)
         context.entry.variables.now)
-        context.entry (λ used. point (H.oracle host.old) (H.trace host.old) used) result (reverse stack.new.items)
+        context.entry (λ used scripts. point (H.oracle host.old) (H.trace host.old) used scripts) result
+        (reverse stack.new.items)
         (frame_weight context.entry.source.now frame.entry
         + frames_weight context.entry.source.now (reverse stack.old.items))
-        (λ used. point (H.oracle host.new) (H.trace host.new) used) }
+        (λ used scripts. point (H.oracle host.new) (H.trace host.new) used scripts) }
 {
     match frame {
         WaitingFrame::Element(name) => {
@@ -433,10 +441,11 @@ fn step<'a, H: Host>(
     ensures { StepsTo
         (λ b k. control_plan context.entry.source.now b control.entry context.entry.variables.now
         (stack_continuation context.entry.source.now b (reverse stack.old.items) k))
-        context.entry (λ used. point (H.oracle host.old) (H.trace host.old) used) result (reverse stack.new.items)
+        context.entry (λ used scripts. point (H.oracle host.old) (H.trace host.old) used scripts) result
+        (reverse stack.new.items)
         (control_weight context.entry.source.now control.entry
         + frames_weight context.entry.source.now (reverse stack.old.items))
-        (λ used. point (H.oracle host.new) (H.trace host.new) used) }
+        (λ used scripts. point (H.oracle host.new) (H.trace host.new) used scripts) }
 {
     match control {
         Control::Parts(text, parts) => match parts.split_first() {
@@ -466,10 +475,11 @@ pub fn advance<'a, H: Host>(
     ensures { StepsTo
         (λ b k. control_plan context.entry.source.now b control.entry context.entry.variables.now
         (stack_continuation context.entry.source.now b (reverse stack.old.items) k))
-        context.entry (λ used. point (H.oracle host.old) (H.trace host.old) used) result (reverse stack.new.items)
+        context.entry (λ used scripts. point (H.oracle host.old) (H.trace host.old) used scripts) result
+        (reverse stack.new.items)
         (control_weight context.entry.source.now control.entry
         + frames_weight context.entry.source.now (reverse stack.old.items))
-        (λ used. point (H.oracle host.new) (H.trace host.new) used) }
+        (λ used scripts. point (H.oracle host.new) (H.trace host.new) used scripts) }
 {
     let mut control = control;
     loop {

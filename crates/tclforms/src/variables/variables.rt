@@ -41,8 +41,7 @@ pub struct Procedure {
     pub body: String,
 }
 
-/// The names that the host reserves, the global variables, the frame of the procedure that runs, the procedures, and how
-/// many bytes of the file precede its current command.
+/// The names that the host reserves, the global variables, the frame of the procedure that runs, and the procedures.
 ///
 /// A call that fails for `AllocError` has changed nothing.
 #[derive(Drop)]
@@ -51,7 +50,6 @@ pub struct Variables {
     globals: Table,
     local: Option<Local>,
     procedures: IndexMap<String, Rc<Procedure>>,
-    offset: usize,
 }
 
 impl Model for Variables {
@@ -74,7 +72,6 @@ impl Variables {
             globals: IndexMap::new(alloc),
             local: None,
             procedures: IndexMap::new(alloc),
-            offset: 0,
         }
     }
 
@@ -280,19 +277,5 @@ impl Variables {
             texts.push((name, content.into_text()))?;
         }
         Ok(texts)
-    }
-
-    /// The offset in the file, in bytes, at which its current command begins.
-    pub fn offset(&self) -> usize
-        ensures { result ≡ self.now.offset }
-    {
-        self.offset
-    }
-
-    /// Records the offset in the file, in bytes, at which its current command begins.
-    pub fn set_offset(&mut self, offset: usize)
-        ensures { self.new ≡ record self.old { offset = offset } }
-    {
-        self.offset = offset;
     }
 }

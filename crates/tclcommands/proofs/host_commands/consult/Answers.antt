@@ -9,9 +9,9 @@ pub returns-in_err-ask_host : goal.returns-in_err-ask_host
 returns-in_err-ask_host g c =
     let p = err_from_is_err_and c.from_residual.result c.from_residual.ensures.1 in
     let h = rw c.command_name.ensures at c.in_err-ask_host.ensures in
-    rw (p.1, p.2) (λ most used b r k. h most used r k)
+    rw (p.1, p.2) (λ most used scripts b r k. h most used scripts r k)
 
 pub returns : goal.returns
 returns g c =
     let h = rw c.command_name.ensures at c.in_ok-ask_host.ensures in
-    λ most used b r k. h most used r k
+    λ most used scripts b r k. h most used scripts r k

@@ -11,26 +11,26 @@ read_env-requires-text-name g c = search rules
 pub returns-in_err-location : goal.returns-in_err-location
 returns-in_err-location g c =
     let p = err_from_is_err_and c.from_residual.result c.from_residual.ensures.1 in
-    rw (p.1, p.2) (λ most used b r k. given_stops _ _ _ _ c.in_err-location.ensures)
+    rw (p.1, p.2) (λ most used scripts b r k. given_stops _ _ _ _ c.in_err-location.ensures)
 
 pub returns-in-Scalar : goal.returns-in-Scalar
 returns-in-Scalar g c =
     let e = rw c.in-Scalar.is at c.in_ok-location.ensures in
-    λ most used b r k. rw (c.truth.ensures c.args.variables.now, ← c.is_set.ensures k) (given_on _ _ _ _ e)
+    λ most used scripts b r k. rw (c.truth.ensures c.args.variables.now, ← c.is_set.ensures k) (given_on _ _ _ _ e)
 
 pub returns-in_err-value-in-Global : goal.returns-in_err-value-in-Global
 returns-in_err-value-in-Global g c =
     let p = err_from_is_err_and c.from_residual-in_err-value-in-Global.result c.from_residual-in_err-value-in-Global.ensures.1 in
     let e = rw (c.in-Element.is, c.in-Global.is) at c.in_ok-location.ensures in
     let h = c.in_err-value-in-Global.ensures in
-    rw (p.1, p.2) (λ most used b r k. continue_with (given_on _ _ _ _ e) (want h.answer.0 h.answer.1 h.same))
+    rw (p.1, p.2) (λ most used scripts b r k. continue_with (given_on _ _ _ _ e) (want h.answer.0 h.answer.1 h.same))
 
 pub returns-in_ok-value-in-Global : goal.returns-in_ok-value-in-Global
 returns-in_ok-value-in-Global g c =
     let e = rw (c.in-Element.is, c.in-Global.is) at c.in_ok-location.ensures in
     let h = c.in_ok-value-in-Global.ensures in
     let s = c.args.variables.now in
-    λ most used b r k. rw (
+    λ most used scripts b r k. rw (
       c.truth-in-Global.ensures s,
       ← seen s k c.in_ok-value-in-Global.value c.is_some.result
           c.is_some.ensures,
@@ -40,4 +40,4 @@ returns-in_ok-value-in-Global g c =
 pub returns-in-Procedure : goal.returns-in-Procedure
 returns-in-Procedure g c =
     let e = rw (c.in-Element.is, c.in-Procedure.is) at c.in_ok-location.ensures in
-    λ most used b r k. rw (c.truth-in-Procedure.ensures c.args.variables.now) (given_on _ _ _ _ e)
+    λ most used scripts b r k. rw (c.truth-in-Procedure.ensures c.args.variables.now) (given_on _ _ _ _ e)

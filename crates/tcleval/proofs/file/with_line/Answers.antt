@@ -2,4 +2,4 @@ use Rattle.std.proofs.Common.{refl}
 use Rattle.tcleval.proofs.file.with_line.Goals as goal
 
 pub returns-in-TclError : goal.returns-in-TclError
-returns-in-TclError c = rw c.in-TclError.is (λ s e. (s, refl, rw e c.line_at.ensures))
+returns-in-TclError c = rw c.in-TclError.is (λ scripts e s. (s, refl, rw e c.line_at.ensures))

@@ -26,9 +26,9 @@ returns-then-lacks_help c =
     let limits = c.args.request.limits in
     let context = context_for c.args.request m c.args.env.now in
     let called = c.as_str-2.ensures.value ∙ c.in_ok-text.ensures ∙ ap with_call c.as_str.ensures.value in
-    let result : Result FileRun RunFault = Err c.in-Err.fault in
+    let result : Result FileRun RunFault = Err c.in-Err.refused in
     let ran = of_text limits context (with_call m.text) c.as_str-2.result.now result called c.in-Err.ensures in
-    without_help limits context m (string_bytes c.args.description) (file_reason_of c.in-Err.fault) (sym c.lacks_help.ensures ∙ c.if-lacks_help.true) ran
+    without_help limits context m (string_bytes c.args.description) (file_reason_of c.in-Err.refused) (sym c.lacks_help.ensures ∙ c.if-lacks_help.true) ran
 
 pub returns-else-lacks_help : goal.returns-else-lacks_help
 returns-else-lacks_help c =
@@ -36,6 +36,6 @@ returns-else-lacks_help c =
     let limits = c.args.request.limits in
     let context = context_for c.args.request m c.args.env.now in
     let called = c.as_str-2.ensures.value ∙ c.in_ok-text.ensures ∙ ap with_call c.as_str.ensures.value in
-    let result : Result FileRun RunFault = Err c.in-Err.fault in
+    let result : Result FileRun RunFault = Err c.in-Err.refused in
     let ran = of_text limits context (with_call m.text) c.as_str-2.result.now result called c.in-Err.ensures in
-    unhelped limits context m (string_bytes c.args.description) (file_reason_of c.in-Err.fault) (sym c.lacks_help.ensures ∙ c.if-lacks_help.false) ran
+    unhelped limits context m (string_bytes c.args.description) (file_reason_of c.in-Err.refused) (sym c.lacks_help.ensures ∙ c.if-lacks_help.false) ran

@@ -12,8 +12,9 @@ use Rattle.tclrules.specs.Plans.{Next, sized}
 use Rattle.tclrules.specs.Rules.{rule, called, turn}
 use Rattle.tclforms.specs.Views.{pair_texts, form_view}
 use Rattle.tclforms.specs.substitution.Machine.{range_text}
-use Rattle.tcleval.specs.Continues.{bounds_of}
-use Rattle.tclcommands.specs.Completions.{sized_next, guarded, condition_plan}
+use Rattle.tcleval.specs.Continues.{bounds_of, with_text}
+use Rattle.tclcommands.specs.declared.completion.CaughtCompletion.{CaughtCompletion}
+use Rattle.tclcommands.specs.Completions.{sized_next, guarded, condition_plan, loop_continuation}
 use Rattle.tclforms.specs.substitution.Stops.{stop_of}
 use Rattle.tclforms.proofs.substitution.AtHand.{from_same}
 use Rattle.tclrules.specs.Rules as table
@@ -26,14 +27,17 @@ use Rattle.tcltext.specs.chars.Numerals.{numeral}
 use Rattle.tclrules.specs.Plans.{given}
 use Rattle.tclrules.specs.Words.{expanded}
 use Rattle.tclrules.specs.Expressions.{normal}
-use Rattle.tclrules.proofs.Leading.{stay, continue_with, starve, count_on, count_over, run_on, run_halts, run_tail}
+use Rattle.tclrules.proofs.Leading.{stay, continue_with, starve, count_on, count_over, move_on, run_on, run_halts}
+use Rattle.tclrules.proofs.Leading.{run_tail}
 use Rattle.tclforms.proofs.substitution.Leading.{passed_on, starved_end, given_on, given_stops, value_stops, sized_on}
 use Rattle.tclforms.proofs.substitution.Leading.{run_stops}
 use Rattle.tclforms.proofs.substitution.Trees.{empty_of}
 use Rattle.tclcommands.proofs.Stopping.{same_as}
 use Rattle.tclcommands.proofs.CommandWordLemmas.{whole}
 use Rattle.tcleval.proofs.Running.{run_known, run_normal, run_comes, run_turn, run_next, comes_stopped, comes_cut}
-use Rattle.tcleval.proofs.Running.{begin_on, begin_stops, drop_here, script_commands, command_words, word_content}
+use Rattle.tcleval.proofs.Running.{comes_cut_before}
+use Rattle.tcleval.proofs.Running.{begin_on, begin_stops, drop_here, script_commands, command_words, command_place}
+use Rattle.tcleval.proofs.Running.{word_content}
 use Rattle.tcleval.proofs.Running.{content_bare, content_braced, content_parts, later_refl, later_on, later_still}
 use Rattle.tcleval.proofs.Running.{later_counted, later_beside, later_begun, later_parsed, text_stops, limited_stops}
 use Rattle.tcleval.proofs.Running.{limited_on, ok_any, counted_on, core_stops, turned_some, turned_none, foreach_done}
@@ -144,26 +148,28 @@ call-parameter_values-requires-text-name g t c κs = search rules
 pub call-returns-clause-evaluates_to : goal.call-returns-clause-evaluates_to
 call-returns-clause-evaluates_to g t c = λ k.
     let b = bounds_of c.args.bounds in
-    let next = λ (s' : State). table.body b (string_bytes c.args.procedure.now.body) s' (table.after_call c.args.self.now.variables.frame k) in
+    let next = λ (s' : State). table.body b (string_bytes c.args.procedure.now.body) s' (table.after_call b c.args.self.now.variables.frame k) in
     let v = rw (c.name.ensures, c.operands.ensures, c.deref.ensures.value) at c.in_ok-values.ensures in
     let a = rw c.enter-caller.ensures.entered at (c.in_ok-assign.ensures c.args.bounds.limits.commands
     c.args.bounds.remaining (rule c.args.bounds.limits.value_bytes) next
-    (point (g.H.Host.oracle c.args.host.now) (g.H.Host.trace c.args.host.now) c.args.self.now.used)) in
+    (point (g.H.Host.oracle c.args.host.now) (g.H.Host.trace c.args.host.now) c.args.self.now.used c.args.self.now.scripts)) in
     let r = rw c.as_str.ensures.value at c.script-outcome.ensures.evaluates_to in
     let l = continue_with (continue_with (given_on _ _ _ _ v) a) (run_known _ _ _ _ r) in
-    rw (c.leave.ensures, c.enter-caller.ensures.caller) (continue_with l (c.after_call.ensures _ _ c.args.self.now.variables.frame k _ _))
+    let n = rw (c.leave.ensures, c.enter-caller.ensures.caller) at (c.left.ensures.evaluates_to (with_text k)
+    (g.H.Host.oracle c.script-outcome.new.host) (g.H.Host.trace c.script-outcome.new.host)) in
+    continue_with (continue_with l (c.after_call.ensures _ _ b c.args.self.now.variables.frame k _ _)) n
 
 pub call-returns-clause-only_grows : goal.call-returns-clause-only_grows
-call-returns-clause-only_grows g t c = later_beside refl refl refl refl c.script-outcome.ensures.only_grows
+call-returns-clause-only_grows g t c = later_beside refl refl (sym c.left.ensures.used) (sym c.left.ensures.cache) c.script-outcome.ensures.only_grows
 
 pub call-returns-in_err-assign-clause-evaluates_to : goal.call-returns-in_err-assign-clause-evaluates_to
 call-returns-in_err-assign-clause-evaluates_to g t c = λ k.
     let b = bounds_of c.args.bounds in
-    let next = λ (s' : State). table.body b (string_bytes c.args.procedure.now.body) s' (table.after_call c.args.self.now.variables.frame k) in
+    let next = λ (s' : State). table.body b (string_bytes c.args.procedure.now.body) s' (table.after_call b c.args.self.now.variables.frame k) in
     let v = rw (c.name.ensures, c.operands.ensures, c.deref.ensures.value) at c.in_ok-values.ensures in
     let a = rw c.enter-caller.ensures.entered at (c.in_err-assign.ensures c.args.bounds.limits.commands
     c.args.bounds.remaining (rule c.args.bounds.limits.value_bytes) next
-    (point (g.H.Host.oracle c.args.host.now) (g.H.Host.trace c.args.host.now) c.args.self.now.used)) in
+    (point (g.H.Host.oracle c.args.host.now) (g.H.Host.trace c.args.host.now) c.args.self.now.used c.args.self.now.scripts)) in
     passed_on _ _ _ _ c.from_residual-in_err-assign.ensures.1 (continue_with (given_on _ _ _ _ v) a)
 
 pub call-returns-in_err-assign-clause-only_grows : goal.call-returns-in_err-assign-clause-only_grows
@@ -229,10 +235,30 @@ pub called-returns-in_err-value-clause-only_grows : goal.called-returns-in_err-v
 called-returns-in_err-value-clause-only_grows g t c = later_refl
 
 pub catch-returns-clause-evaluates_to : goal.catch-returns-clause-evaluates_to
-catch-returns-clause-evaluates_to g t c = λ k. continue_with (run_known _ _ _ _ c.script-outcome.ensures.evaluates_to) (c.after_catch.ensures _ c.args.bounds.remaining _ k _)
+catch-returns-clause-evaluates_to g t c = λ k.
+    let b = bounds_of c.args.bounds in
+    let v = option_map (λ (v : Bor (List ℕ)). v.now) c.args.name in
+    let n = same_as (c.catch_outcome-caught.ensures b v k _) (run_known _ _ _ _ c.script-outcome.ensures.evaluates_to) in
+    let next = λ (caught : CaughtCompletion) (s : State). table.catch_into b v caught.code.now (string_bytes caught.value) s k in
+    let l = c.in_ok-caught.ensures.evaluates_to next (g.H.Host.oracle c.script-outcome.new.host)
+    (g.H.Host.trace c.script-outcome.new.host) in
+    continue_with (continue_with n l) (c.store_caught.ensures _ c.args.bounds.remaining _ k _)
 
 pub catch-returns-clause-only_grows : goal.catch-returns-clause-only_grows
-catch-returns-clause-only_grows g t c = later_beside refl refl refl refl c.script-outcome.ensures.only_grows
+catch-returns-clause-only_grows g t c = later_on c.script-outcome.ensures.only_grows (later_still c.in_ok-caught.ensures.used c.in_ok-caught.ensures.cache)
+
+pub catch-returns-in_err-caught-clause-evaluates_to : goal.catch-returns-in_err-caught-clause-evaluates_to
+catch-returns-in_err-caught-clause-evaluates_to g t c = λ k.
+    let b = bounds_of c.args.bounds in
+    let v = option_map (λ (v : Bor (List ℕ)). v.now) c.args.name in
+    let n = same_as (c.catch_outcome-caught.ensures b v k _) (run_known _ _ _ _ c.script-outcome.ensures.evaluates_to) in
+    let next = λ (caught : CaughtCompletion) (s : State). table.catch_into b v caught.code.now (string_bytes caught.value) s k in
+    let l = c.in_err-caught.ensures.evaluates_to next (g.H.Host.oracle c.script-outcome.new.host)
+    (g.H.Host.trace c.script-outcome.new.host) in
+    passed_on _ _ _ _ c.from_residual.ensures.1 (continue_with n l)
+
+pub catch-returns-in_err-caught-clause-only_grows : goal.catch-returns-in_err-caught-clause-only_grows
+catch-returns-in_err-caught-clause-only_grows g t c = later_on c.script-outcome.ensures.only_grows (later_still c.in_err-caught.ensures.used c.in_err-caught.ensures.cache)
 
 pub catch-script-outcome-requires : goal.catch-script-outcome-requires
 catch-script-outcome-requires g t c κs within = search rules
@@ -246,7 +272,7 @@ command-returns-clause-evaluates_to g t c =
     let h = c.in_ok-count.ensures in
     let v = command_words (range_text c.args.command.source.now) c.args.command.tree.now in
     let a = rw c.deref.ensures.value at c.called.ensures.evaluates_to in
-    let w = λ (k : Next). rw (h.variables, h.counted.1, c.as_slice.ensures.value) at
+    let w = λ (k : Next). rw (h.variables, h.counted.1, h.scripts, c.as_slice.ensures.value) at
     (c.in_ok-texts.ensures.evaluates_to (λ texts s1. called b texts s1
     (sized_next c.args.bounds.limits.value_bytes k))) in (
       a.0,
@@ -262,7 +288,7 @@ command-returns-clause-only_grows g t c = later_on (later_counted c.in_ok-count.
 pub command-returns-in_err-count-clause-evaluates_to : goal.command-returns-in_err-count-clause-evaluates_to
 command-returns-in_err-count-clause-evaluates_to g t c =
     let h = c.in_err-count.ensures.counted in
-    comes_stopped _ _ _ _ _ c.from_residual.ensures.1 (λ k. rw (h.2, h.1) (count_over h.0))
+    comes_stopped _ _ _ _ _ c.from_residual.ensures.1 (λ k. rw (h.2, h.1, c.in_err-count.ensures.scripts) (count_over h.0))
 
 pub command-returns-in_err-count-clause-only_grows : goal.command-returns-in_err-count-clause-only_grows
 command-returns-in_err-count-clause-only_grows g t c = later_still c.in_err-count.ensures.counted.1 c.in_err-count.ensures.cache
@@ -272,7 +298,7 @@ command-returns-in_err-texts-clause-evaluates_to g t c =
     let b = bounds_of c.args.bounds in
     let h = c.in_ok-count.ensures in
     let v = command_words (range_text c.args.command.source.now) c.args.command.tree.now in
-    let w = λ (k : Next). rw (h.variables, h.counted.1, c.as_slice.ensures.value) at
+    let w = λ (k : Next). rw (h.variables, h.counted.1, h.scripts, c.as_slice.ensures.value) at
     (c.in_err-texts.ensures.evaluates_to (λ texts s1. called b texts s1
     (sized_next c.args.bounds.limits.value_bytes k))) in
     comes_stopped _ _ _ _ _ c.from_residual-in_err-texts.ensures.1
@@ -397,44 +423,47 @@ pub for_turns-loop-next-preserved : goal.for_turns-loop-next-preserved
 for_turns-loop-next-preserved g t c = record {
   evaluates_to = λ k.
       let again = λ (s3 : State). Runs (plans.For c.args.bounds.remaining c.args.parts.condition.now c.args.parts.next.now c.args.parts.body.now s3) plans.ended in
-      let between = λ (s2 : State). table.body (bounds_of c.args.bounds) c.args.parts.next.now s2 (table.after_next again) in
+      let between = λ (s2 : State). table.body (bounds_of c.args.bounds) c.args.parts.next.now s2 (table.after_next (bounds_of c.args.bounds) again) in
       let h = rw c.if-not-branch.false at (continue_with
       (given_on _ _ c.loop-next.self.variables (λ e. condition_plan (bounds_of c.args.bounds) e
       c.loop-next.self.variables (guarded (bounds_of c.args.bounds) c.args.parts.body.now between))
       c.in_ok-condition.ensures.tree) (rw (c.deref.ensures, c.loop-next.invariant.body.0) at
       (c.in_ok-guarded_turn.ensures.evaluates_to between))) in
-      let n = continue_with h (run_next again _ _ _ (rw c.loop-next.invariant.next.0 at c.repeated_script.ensures.evaluates_to)) in
-      let e = rw c.if-not-branch-2.false at (c.in_ok-after_next.ensures again c.repeated_script.new.self.variables) in
-      continue_with (c.loop-next.invariant.evaluates_to k) (run_tail (same_as e n));
+      let n = same_as (c.after_next-more.ensures (bounds_of c.args.bounds) again _) (continue_with h (run_next (bounds_of c.args.bounds) again _ _ _ (rw c.loop-next.invariant.next.0 at c.repeated_script.ensures.evaluates_to))) in
+      let e = rw c.if-not-branch-2.false at (c.in_ok-left.ensures.evaluates_to (loop_continuation again)
+      (g.H.Host.oracle c.repeated_script.new.host) (g.H.Host.trace c.repeated_script.new.host)) in
+      continue_with (c.loop-next.invariant.evaluates_to k) (run_tail (continue_with n e));
   body = (c.in_ok-guarded_turn.ensures.kept.0 ∙ c.loop-next.invariant.body.0, c.in_ok-guarded_turn.ensures.kept.1);
   next = (c.repeated_script.ensures.kept.0 ∙ c.loop-next.invariant.next.0, c.repeated_script.ensures.kept.1);
-  only_grows = later_on (later_on c.loop-next.invariant.only_grows c.in_ok-guarded_turn.ensures.only_grows) c.repeated_script.ensures.only_grows;
+  only_grows = later_on (later_on (later_on c.loop-next.invariant.only_grows c.in_ok-guarded_turn.ensures.only_grows) c.repeated_script.ensures.only_grows) (later_still c.in_ok-left.ensures.used c.in_ok-left.ensures.cache);
 }
 
 pub for_turns-loop-next-smaller : goal.for_turns-loop-next-smaller
 for_turns-loop-next-smaller g t c =
     let h = c.in_ok-guarded_turn.ensures.counted c.if-not-branch.false in
-    omega (arith, h.0, h.1, c.repeated_script.ensures.only_grows.rises)
+    omega (arith, h.0, h.1, c.repeated_script.ensures.only_grows.rises, c.in_ok-left.ensures.used)
 
-pub for_turns-returns-in_err-after_next-clause-evaluates_to : goal.for_turns-returns-in_err-after_next-clause-evaluates_to
-for_turns-returns-in_err-after_next-clause-evaluates_to g t c = λ k.
+pub for_turns-returns-in_err-left-clause-evaluates_to : goal.for_turns-returns-in_err-left-clause-evaluates_to
+for_turns-returns-in_err-left-clause-evaluates_to g t c = λ k.
     let again = λ (s3 : State). Runs (plans.For c.args.bounds.remaining c.args.parts.condition.now c.args.parts.next.now c.args.parts.body.now s3) plans.ended in
-    let between = λ (s2 : State). table.body (bounds_of c.args.bounds) c.args.parts.next.now s2 (table.after_next again) in
+    let between = λ (s2 : State). table.body (bounds_of c.args.bounds) c.args.parts.next.now s2 (table.after_next (bounds_of c.args.bounds) again) in
     let h = rw c.if-not-branch.false at (continue_with
     (given_on _ _ c.loop-next.self.variables (λ e. condition_plan (bounds_of c.args.bounds) e
     c.loop-next.self.variables (guarded (bounds_of c.args.bounds) c.args.parts.body.now between))
     c.in_ok-condition.ensures.tree) (rw (c.deref.ensures, c.loop-next.invariant.body.0) at
     (c.in_ok-guarded_turn.ensures.evaluates_to between))) in
-    let n = continue_with h (run_next again _ _ _ (rw c.loop-next.invariant.next.0 at c.repeated_script.ensures.evaluates_to)) in
-    passed_on _ _ _ _ c.from_residual-in_err-after_next.ensures.1 (continue_with (c.loop-next.invariant.evaluates_to k) (run_stops _ _ (same_as (c.in_err-after_next.ensures again _) n)))
+    let n = same_as (c.after_next-more.ensures (bounds_of c.args.bounds) again _) (continue_with h (run_next (bounds_of c.args.bounds) again _ _ _ (rw c.loop-next.invariant.next.0 at c.repeated_script.ensures.evaluates_to))) in
+    let e = c.in_err-left.ensures.evaluates_to (loop_continuation again)
+    (g.H.Host.oracle c.repeated_script.new.host) (g.H.Host.trace c.repeated_script.new.host) in
+    passed_on _ _ _ _ c.from_residual-in_err-left.ensures.1 (continue_with (c.loop-next.invariant.evaluates_to k) (run_stops _ _ (continue_with n e)))
 
-pub for_turns-returns-in_err-after_next-clause-only_grows : goal.for_turns-returns-in_err-after_next-clause-only_grows
-for_turns-returns-in_err-after_next-clause-only_grows g t c = later_on (later_on c.loop-next.invariant.only_grows c.in_ok-guarded_turn.ensures.only_grows) c.repeated_script.ensures.only_grows
+pub for_turns-returns-in_err-left-clause-only_grows : goal.for_turns-returns-in_err-left-clause-only_grows
+for_turns-returns-in_err-left-clause-only_grows g t c = later_on (later_on (later_on c.loop-next.invariant.only_grows c.in_ok-guarded_turn.ensures.only_grows) c.repeated_script.ensures.only_grows) (later_still c.in_err-left.ensures.used c.in_err-left.ensures.cache)
 
 pub for_turns-returns-in_err-guarded_turn-clause-evaluates_to : goal.for_turns-returns-in_err-guarded_turn-clause-evaluates_to
 for_turns-returns-in_err-guarded_turn-clause-evaluates_to g t c = λ k.
     let again = λ (s3 : State). Runs (plans.For c.args.bounds.remaining c.args.parts.condition.now c.args.parts.next.now c.args.parts.body.now s3) plans.ended in
-    let between = λ (s2 : State). table.body (bounds_of c.args.bounds) c.args.parts.next.now s2 (table.after_next again) in
+    let between = λ (s2 : State). table.body (bounds_of c.args.bounds) c.args.parts.next.now s2 (table.after_next (bounds_of c.args.bounds) again) in
     passed_on _ _ _ _ c.from_residual-in_err-guarded_turn.ensures.1
     (continue_with (c.loop-next.invariant.evaluates_to k)
     (run_stops _ _ (continue_with (given_on _ _ c.loop-next.self.variables
@@ -448,23 +477,24 @@ for_turns-returns-in_err-guarded_turn-clause-only_grows g t c = later_on c.loop-
 pub for_turns-returns-then-not-branch-2-clause-evaluates_to : goal.for_turns-returns-then-not-branch-2-clause-evaluates_to
 for_turns-returns-then-not-branch-2-clause-evaluates_to g t c = λ k.
     let again = λ (s3 : State). Runs (plans.For c.args.bounds.remaining c.args.parts.condition.now c.args.parts.next.now c.args.parts.body.now s3) plans.ended in
-    let between = λ (s2 : State). table.body (bounds_of c.args.bounds) c.args.parts.next.now s2 (table.after_next again) in
+    let between = λ (s2 : State). table.body (bounds_of c.args.bounds) c.args.parts.next.now s2 (table.after_next (bounds_of c.args.bounds) again) in
     let h = rw c.if-not-branch.false at (continue_with
     (given_on _ _ c.loop-next.self.variables (λ e. condition_plan (bounds_of c.args.bounds) e
     c.loop-next.self.variables (guarded (bounds_of c.args.bounds) c.args.parts.body.now between))
     c.in_ok-condition.ensures.tree) (rw (c.deref.ensures, c.loop-next.invariant.body.0) at
     (c.in_ok-guarded_turn.ensures.evaluates_to between))) in
-    let n = continue_with h (run_next again _ _ _ (rw c.loop-next.invariant.next.0 at c.repeated_script.ensures.evaluates_to)) in
-    let e = rw c.if-not-branch-2.true at (c.in_ok-after_next.ensures again c.repeated_script.new.self.variables) in
-    rw c.new-then-not-branch-2.ensures.bytes (continue_with (c.loop-next.invariant.evaluates_to k) (run_on (same_as e n)))
+    let n = same_as (c.after_next-more.ensures (bounds_of c.args.bounds) again _) (continue_with h (run_next (bounds_of c.args.bounds) again _ _ _ (rw c.loop-next.invariant.next.0 at c.repeated_script.ensures.evaluates_to))) in
+    let e = rw c.if-not-branch-2.true at (c.in_ok-left.ensures.evaluates_to (loop_continuation again)
+    (g.H.Host.oracle c.repeated_script.new.host) (g.H.Host.trace c.repeated_script.new.host)) in
+    rw c.new-then-not-branch-2.ensures.bytes (continue_with (c.loop-next.invariant.evaluates_to k) (run_on (continue_with n e)))
 
 pub for_turns-returns-then-not-branch-2-clause-only_grows : goal.for_turns-returns-then-not-branch-2-clause-only_grows
-for_turns-returns-then-not-branch-2-clause-only_grows g t c = later_on (later_on c.loop-next.invariant.only_grows c.in_ok-guarded_turn.ensures.only_grows) c.repeated_script.ensures.only_grows
+for_turns-returns-then-not-branch-2-clause-only_grows g t c = later_on (later_on (later_on c.loop-next.invariant.only_grows c.in_ok-guarded_turn.ensures.only_grows) c.repeated_script.ensures.only_grows) (later_still c.in_ok-left.ensures.used c.in_ok-left.ensures.cache)
 
 pub for_turns-returns-then-not-branch-clause-evaluates_to : goal.for_turns-returns-then-not-branch-clause-evaluates_to
 for_turns-returns-then-not-branch-clause-evaluates_to g t c = λ k.
     let again = λ (s3 : State). Runs (plans.For c.args.bounds.remaining c.args.parts.condition.now c.args.parts.next.now c.args.parts.body.now s3) plans.ended in
-    let between = λ (s2 : State). table.body (bounds_of c.args.bounds) c.args.parts.next.now s2 (table.after_next again) in
+    let between = λ (s2 : State). table.body (bounds_of c.args.bounds) c.args.parts.next.now s2 (table.after_next (bounds_of c.args.bounds) again) in
     let h = rw c.if-not-branch.true at (continue_with
     (given_on _ _ c.loop-next.self.variables (λ e. condition_plan (bounds_of c.args.bounds) e
     c.loop-next.self.variables (guarded (bounds_of c.args.bounds) c.args.parts.body.now between))
@@ -503,7 +533,7 @@ foreach_turns-loop-bounds-preserved g t c = record {
       let e = sym c.are_done.ensures ∙ c.if-are_done.false in
       let again = λ (s2 : State). Runs (plans.Foreach c.args.bounds.remaining (table.shortened c.loop-bounds.loops) c.args.body.now s2) plans.ended in
       let next = λ (s1 : State). turn b c.args.body.now s1 again in
-      let here = point (g.H.Host.oracle c.loop-bounds.host) (g.H.Host.trace c.loop-bounds.host) c.loop-bounds.self.used in
+      let here = point (g.H.Host.oracle c.loop-bounds.host) (g.H.Host.trace c.loop-bounds.host) c.loop-bounds.self.used c.loop-bounds.self.scripts in
       let a = continue_with (foreach_more b c.loop-bounds.loops c.args.body.now c.loop-bounds.self.variables e)
       (c.in_ok-begin_turn.ensures.evaluates_to c.args.bounds.limits.commands c.args.bounds.remaining
       (rule c.args.bounds.limits.value_bytes) next here) in
@@ -524,7 +554,7 @@ foreach_turns-returns-in_err-begin_turn-clause-evaluates_to g t c = λ k.
     let e = sym c.are_done.ensures ∙ c.if-are_done.false in
     let again = λ (s2 : State). Runs (plans.Foreach c.args.bounds.remaining (table.shortened c.loop-bounds.loops) c.args.body.now s2) plans.ended in
     let next = λ (s1 : State). turn b c.args.body.now s1 again in
-    let here = point (g.H.Host.oracle c.loop-bounds.host) (g.H.Host.trace c.loop-bounds.host) c.loop-bounds.self.used in
+    let here = point (g.H.Host.oracle c.loop-bounds.host) (g.H.Host.trace c.loop-bounds.host) c.loop-bounds.self.used c.loop-bounds.self.scripts in
     let a = continue_with (foreach_more b c.loop-bounds.loops c.args.body.now c.loop-bounds.self.variables e)
     (c.in_err-begin_turn.ensures.evaluates_to c.args.bounds.limits.commands c.args.bounds.remaining
     (rule c.args.bounds.limits.value_bytes) next here) in
@@ -539,7 +569,7 @@ foreach_turns-returns-in_err-turn-clause-evaluates_to g t c = λ k.
     let e = sym c.are_done.ensures ∙ c.if-are_done.false in
     let again = λ (s2 : State). Runs (plans.Foreach c.args.bounds.remaining (table.shortened c.loop-bounds.loops) c.args.body.now s2) plans.ended in
     let next = λ (s1 : State). turn b c.args.body.now s1 again in
-    let here = point (g.H.Host.oracle c.loop-bounds.host) (g.H.Host.trace c.loop-bounds.host) c.loop-bounds.self.used in
+    let here = point (g.H.Host.oracle c.loop-bounds.host) (g.H.Host.trace c.loop-bounds.host) c.loop-bounds.self.used c.loop-bounds.self.scripts in
     let a = continue_with (foreach_more b c.loop-bounds.loops c.args.body.now c.loop-bounds.self.variables e)
     (c.in_ok-begin_turn.ensures.evaluates_to c.args.bounds.limits.commands c.args.bounds.remaining
     (rule c.args.bounds.limits.value_bytes) next here) in
@@ -566,7 +596,7 @@ foreach_turns-returns-then-not-branch-clause-evaluates_to g t c = λ k.
     let e = sym c.are_done.ensures ∙ c.if-are_done.false in
     let again = λ (s2 : State). Runs (plans.Foreach c.args.bounds.remaining (table.shortened c.loop-bounds.loops) c.args.body.now s2) plans.ended in
     let next = λ (s1 : State). turn b c.args.body.now s1 again in
-    let here = point (g.H.Host.oracle c.loop-bounds.host) (g.H.Host.trace c.loop-bounds.host) c.loop-bounds.self.used in
+    let here = point (g.H.Host.oracle c.loop-bounds.host) (g.H.Host.trace c.loop-bounds.host) c.loop-bounds.self.used c.loop-bounds.self.scripts in
     let a = continue_with (foreach_more b c.loop-bounds.loops c.args.body.now c.loop-bounds.self.variables e)
     (c.in_ok-begin_turn.ensures.evaluates_to c.args.bounds.limits.commands c.args.bounds.remaining
     (rule c.args.bounds.limits.value_bytes) next here) in
@@ -743,7 +773,7 @@ pub other_command-returns-in-None-clause-evaluates_to : goal.other_command-retur
 other_command-returns-in-None-clause-evaluates_to g t c =
     let a = c.unknown_command.ensures in
     let n = rw c.name.ensures at c.in-None.ensures in
-    (a.0, a.1, λ k. rw (← n) (a.2 c.args.bounds.limits.commands c.args.self.now.used (bounds_of c.args.bounds) (rule c.args.bounds.limits.value_bytes) k))
+    (a.0, a.1, λ k. rw (← n) (a.2 c.args.bounds.limits.commands c.args.self.now.used c.args.self.now.scripts (bounds_of c.args.bounds) (rule c.args.bounds.limits.value_bytes) k))
 
 pub other_command-returns-in-None-clause-only_grows : goal.other_command-returns-in-None-clause-only_grows
 other_command-returns-in-None-clause-only_grows g t c = later_refl
@@ -789,8 +819,8 @@ otherwise-returns-in-Some-clause-only_grows g t c = c.script.ensures.only_grows
 pub otherwise-script-requires : goal.otherwise-script-requires
 otherwise-script-requires g t c κs within = search rules
 
-pub script-commands-requires : goal.script-commands-requires
-script-commands-requires g t c κs within = search rules
+pub script-parsed_script-requires : goal.script-parsed_script-requires
+script-parsed_script-requires g t c κs within = search rules
 
 pub script-returns-in-Err-clause-evaluates_to : goal.script-returns-in-Err-clause-evaluates_to
 script-returns-in-Err-clause-evaluates_to g t c = ([], tt, rw c.from.ensures (continue_with (begin_on _ _ c.in_ok-inside.ensures.0) (text_stops _ _ _ _ c.in-Err.ensures.tree)))
@@ -801,11 +831,11 @@ script-returns-in-Err-clause-only_grows g t c = later_begun refl c.script_tree.e
 pub script-returns-in-Ok-clause-evaluates_to : goal.script-returns-in-Ok-clause-evaluates_to
 script-returns-in-Ok-clause-evaluates_to g t c =
     let i = c.in_ok-inside.ensures in
-    let h = rw (i.1, c.as_str.ensures.value, c.deref.ensures, c.deref-in-Ok.ensures) at c.commands.ensures.evaluates_to in
-    (h.0, h.1, rw c.in-Ok.ensures.tree (continue_with (begin_on _ _ i.0) h.2))
+    let h = rw i.1 at c.parsed_script.ensures.evaluates_to in
+    (h.0, h.1, rw (c.in-Ok.ensures.tree, ← c.in-Ok.ensures.text) (continue_with (begin_on _ _ i.0) h.2))
 
 pub script-returns-in-Ok-clause-only_grows : goal.script-returns-in-Ok-clause-only_grows
-script-returns-in-Ok-clause-only_grows g t c = later_parsed refl c.script_tree.ensures.begins c.commands.ensures.only_grows
+script-returns-in-Ok-clause-only_grows g t c = later_parsed refl c.script_tree.ensures.begins c.parsed_script.ensures.only_grows
 
 pub script-returns-in_err-inside-clause-evaluates_to : goal.script-returns-in_err-inside-clause-evaluates_to
 script-returns-in_err-inside-clause-evaluates_to g t c =
@@ -821,8 +851,8 @@ script-script_tree-requires-text-text g t c κs = search rules
 pub repeated_script-tree-requires : goal.repeated_script-tree-requires
 repeated_script-tree-requires g t c = c.requires
 
-pub repeated_script-commands-requires : goal.repeated_script-commands-requires
-repeated_script-commands-requires g t c κs within = search rules
+pub repeated_script-parsed_script-requires : goal.repeated_script-parsed_script-requires
+repeated_script-parsed_script-requires g t c κs within = search rules
 
 pub repeated_script-returns-in-Err-clause-evaluates_to : goal.repeated_script-returns-in-Err-clause-evaluates_to
 repeated_script-returns-in-Err-clause-evaluates_to g t c = ([], tt, rw c.from.ensures (continue_with (begin_on _ _ c.in_ok-inside.ensures.0) (text_stops _ _ _ _ c.in-Err.ensures.tree)))
@@ -842,11 +872,11 @@ repeated_script-returns-in-Err-clause-only_grows g t c = later_begun refl c.tree
 pub repeated_script-returns-in-Ok-clause-evaluates_to : goal.repeated_script-returns-in-Ok-clause-evaluates_to
 repeated_script-returns-in-Ok-clause-evaluates_to g t c =
     let i = c.in_ok-inside.ensures in
-    let h = rw (i.1, c.as_str.ensures.value, c.deref.ensures, c.deref-in-Ok.ensures) at c.commands.ensures.evaluates_to in
-    (h.0, h.1, rw c.in-Ok.ensures.tree (continue_with (begin_on _ _ i.0) h.2))
+    let h = rw i.1 at c.parsed_script.ensures.evaluates_to in
+    (h.0, h.1, rw (c.in-Ok.ensures.tree, ← c.in-Ok.ensures.text) (continue_with (begin_on _ _ i.0) h.2))
 
 pub repeated_script-returns-in-Ok-clause-only_grows : goal.repeated_script-returns-in-Ok-clause-only_grows
-repeated_script-returns-in-Ok-clause-only_grows g t c = later_parsed refl c.tree.ensures.begins c.commands.ensures.only_grows
+repeated_script-returns-in-Ok-clause-only_grows g t c = later_parsed refl c.tree.ensures.begins c.parsed_script.ensures.only_grows
 
 pub repeated_script-returns-in_err-inside-clause-evaluates_to : goal.repeated_script-returns-in_err-inside-clause-evaluates_to
 repeated_script-returns-in_err-inside-clause-evaluates_to g t c =
@@ -859,17 +889,20 @@ repeated_script-returns-in_err-inside-clause-only_grows g t c = later_refl
 pub turn-returns-clause-evaluates_to : goal.turn-returns-clause-evaluates_to
 turn-returns-clause-evaluates_to g t c = λ again.
     let h = c.in_ok-count.ensures in
-    let r = rw (h.variables, h.counted.1) at c.repeated_script.ensures.evaluates_to in
-    same_as (c.after_turn.ensures again _) (continue_with (count_on h.counted.0) (run_turn again _ _ _ r))
+    let r = rw (h.variables, h.counted.1, h.scripts) at c.repeated_script.ensures.evaluates_to in
+    let b = bounds_of c.args.bounds in
+    continue_with (same_as (c.after_turn-more.ensures b again _) (continue_with (count_on h.counted.0) (run_turn b again _ _ _ r)))
+    (c.left.ensures.evaluates_to (loop_continuation again) (g.H.Host.oracle c.repeated_script.new.host)
+    (g.H.Host.trace c.repeated_script.new.host))
 
 pub turn-returns-clause-counted : goal.turn-returns-clause-counted
 turn-returns-clause-counted g t c =
     let h = c.in_ok-count.ensures.counted in
-    let p : (c.args.self.now.used < c.args.bounds.limits.commands) × (c.args.self.now.used < c.repeated_script.new.self.used) = (h.0, omega (arith, h.1, c.repeated_script.ensures.only_grows.rises)) in
-    ok_any c.after_turn.result _ p
+    let p : (c.args.self.now.used < c.args.bounds.limits.commands) × (c.args.self.now.used < c.left.new.self.used) = (h.0, omega (arith, h.1, c.repeated_script.ensures.only_grows.rises, c.left.ensures.used)) in
+    ok_any c.left.result _ p
 
 pub turn-returns-clause-only_grows : goal.turn-returns-clause-only_grows
-turn-returns-clause-only_grows g t c = later_on (later_counted c.in_ok-count.ensures.counted.1 c.in_ok-count.ensures.cache) c.repeated_script.ensures.only_grows
+turn-returns-clause-only_grows g t c = later_on (later_on (later_counted c.in_ok-count.ensures.counted.1 c.in_ok-count.ensures.cache) c.repeated_script.ensures.only_grows) (later_still c.left.ensures.used c.left.ensures.cache)
 
 pub turn-returns-clause-kept : goal.turn-returns-clause-kept
 turn-returns-clause-kept g t c = c.repeated_script.ensures.kept
@@ -880,7 +913,7 @@ turn-returns-in_err-count-clause-kept g t c = (refl, c.requires)
 pub turn-returns-in_err-count-clause-evaluates_to : goal.turn-returns-in_err-count-clause-evaluates_to
 turn-returns-in_err-count-clause-evaluates_to g t c = λ again.
     let h = c.in_err-count.ensures.counted in
-    passed_on _ _ _ _ c.from_residual.ensures.1 (rw (h.2, h.1) (count_over h.0))
+    passed_on _ _ _ _ c.from_residual.ensures.1 (rw (h.2, h.1, c.in_err-count.ensures.scripts) (count_over h.0))
 
 pub turn-returns-in_err-count-clause-counted : goal.turn-returns-in_err-count-clause-counted
 turn-returns-in_err-count-clause-counted g t c =
@@ -907,14 +940,14 @@ value-loop-stack-preserved g t c =
     let h = rw c.in-Bracket.is at c.in_ok-next.ensures in
     record {
       evaluates_to = λ k. continue_with (continue_with (c.loop-stack.invariant.evaluates_to k)
-          (h.0 _ c.loop-stack.self.used c.args.bounds.remaining _ k)) (c.in_ok-value-in-Bracket.ensures.evaluates_to _);
+          (h.0 _ c.loop-stack.self.used c.args.bounds.remaining c.loop-stack.self.scripts _ k)) (c.in_ok-value-in-Bracket.ensures.evaluates_to _);
       only_grows = later_on c.loop-stack.invariant.only_grows c.in_ok-value-in-Bracket.ensures.only_grows;
     }
 
 pub value-loop-stack-preserved-in-Next : goal.value-loop-stack-preserved-in-Next
 value-loop-stack-preserved-in-Next g t c =
     let h = rw c.in-Next.is at c.in_ok-next.ensures in
-    record { evaluates_to = λ k. continue_with (c.loop-stack.invariant.evaluates_to k) (h.0 _ c.loop-stack.self.used c.args.bounds.remaining _ k); only_grows = c.loop-stack.invariant.only_grows }
+    record { evaluates_to = λ k. continue_with (c.loop-stack.invariant.evaluates_to k) (h.0 _ c.loop-stack.self.used c.args.bounds.remaining c.loop-stack.self.scripts _ k); only_grows = c.loop-stack.invariant.only_grows }
 
 pub value-loop-stack-smaller : goal.value-loop-stack-smaller
 value-loop-stack-smaller g t c =
@@ -929,7 +962,7 @@ value-loop-stack-smaller-in-Next g t c =
 pub value-returns-in-Done-clause-evaluates_to : goal.value-returns-in-Done-clause-evaluates_to
 value-returns-in-Done-clause-evaluates_to g t c = λ k.
     let h = rw c.in-Done.is at c.in_ok-next.ensures in
-    continue_with (c.loop-stack.invariant.evaluates_to k) (h.0 _ c.loop-stack.self.used c.args.bounds.remaining _ k)
+    continue_with (c.loop-stack.invariant.evaluates_to k) (h.0 _ c.loop-stack.self.used c.args.bounds.remaining c.loop-stack.self.scripts _ k)
 
 pub value-returns-in-Done-clause-only_grows : goal.value-returns-in-Done-clause-only_grows
 value-returns-in-Done-clause-only_grows g t c = c.loop-stack.invariant.only_grows
@@ -937,7 +970,7 @@ value-returns-in-Done-clause-only_grows g t c = c.loop-stack.invariant.only_grow
 pub value-returns-in_err-next-clause-evaluates_to : goal.value-returns-in_err-next-clause-evaluates_to
 value-returns-in_err-next-clause-evaluates_to g t c = λ k. passed_on _ _ _ _ c.from_residual.ensures.1
     (continue_with (c.loop-stack.invariant.evaluates_to k)
-    (c.in_err-next.ensures.0 _ c.loop-stack.self.used c.args.bounds.remaining _ k))
+    (c.in_err-next.ensures.0 _ c.loop-stack.self.used c.args.bounds.remaining c.loop-stack.self.scripts _ k))
 
 pub value-returns-in_err-next-clause-only_grows : goal.value-returns-in_err-next-clause-only_grows
 value-returns-in_err-next-clause-only_grows g t c = c.loop-stack.invariant.only_grows
@@ -947,7 +980,7 @@ value-returns-in_err-value-in-Bracket-clause-evaluates_to g t c = λ k.
     let h = rw c.in-Bracket.is at c.in_ok-next.ensures in
     passed_on _ _ _ _ c.from_residual-in_err-value-in-Bracket.ensures.1
     (continue_with (continue_with (c.loop-stack.invariant.evaluates_to k)
-    (h.0 _ c.loop-stack.self.used c.args.bounds.remaining _ k)) (c.in_err-value-in-Bracket.ensures.evaluates_to _))
+    (h.0 _ c.loop-stack.self.used c.args.bounds.remaining c.loop-stack.self.scripts _ k)) (c.in_err-value-in-Bracket.ensures.evaluates_to _))
 
 pub value-returns-in_err-value-in-Bracket-clause-only_grows : goal.value-returns-in_err-value-in-Bracket-clause-only_grows
 value-returns-in_err-value-in-Bracket-clause-only_grows g t c = later_on c.loop-stack.invariant.only_grows c.in_err-value-in-Bracket.ensures.only_grows
@@ -1163,7 +1196,7 @@ command-returns-in-Some-clause-evaluates_to g t c =
     let v = command_words (range_text c.args.command.source.now) c.args.command.tree.now in
     let a = c.simple.ensures.evaluates_to in
     let e = λ (k : Next). rw c.as_slice.ensures.value at (c.in-Some.ensures c.args.bounds.remaining c.args.self.now.variables (sized_next c.args.bounds.limits.value_bytes k)) in
-    let w = λ (k : Next). rw (h.variables, h.counted.1) at (a.2 k) in (
+    let w = λ (k : Next). rw (h.variables, h.counted.1, h.scripts) at (a.2 k) in (
       a.0,
       a.1,
       λ k. from_same (ap (λ ws. Counts (pieces.words (bounds_of c.args.bounds) ws [] c.args.self.now.variables
@@ -1305,7 +1338,7 @@ for_turns-returns-in_err-condition-clause-evaluates_to g t c = λ k.
     let b = bounds_of c.args.bounds in
     let s = c.args.self.now.variables in
     let again = λ (s3 : State). Runs (plans.For c.args.bounds.remaining c.args.parts.condition.now c.args.parts.next.now c.args.parts.body.now s3) plans.ended in
-    let between = λ (s2 : State). table.body b c.args.parts.next.now s2 (table.after_next again) in
+    let between = λ (s2 : State). table.body b c.args.parts.next.now s2 (table.after_next (bounds_of c.args.bounds) again) in
     passed_on _ _ _ _ c.from_residual.ensures.1 (run_stops s (stop_of c.before.in_err-condition.field-0.0)
     (given_stops _ _ s (λ e. condition_plan b e s (guarded b c.args.parts.body.now between))
     c.in_err-condition.ensures.tree))
@@ -1354,12 +1387,6 @@ command-fact_in-words g t c = search rules
 pub commands-fact_in-command : goal.commands-fact_in-command
 commands-fact_in-command g t c = search rules
 
-pub repeated_script-fact_in-script : goal.repeated_script-fact_in-script
-repeated_script-fact_in-script g t c = search rules
-
-pub script-fact_in-script : goal.script-fact_in-script
-script-fact_in-script g t c = search rules
-
 pub value-fact_in-source-in-Bracket : goal.value-fact_in-source-in-Bracket
 value-fact_in-source-in-Bracket g t c = search rules
 
@@ -1380,3 +1407,86 @@ words-fact_in-content g t c = search rules
 
 pub word-fact_in-parts : goal.word-fact_in-parts
 word-fact_in-parts g t c = search rules
+
+pub parsed_script-script_commands-requires : goal.parsed_script-script_commands-requires
+parsed_script-script_commands-requires g t c κs within = search rules
+
+pub parsed_script-fact_in-script : goal.parsed_script-fact_in-script
+parsed_script-fact_in-script g t c = search rules
+
+pub parsed_script-returns-clause-evaluates_to : goal.parsed_script-returns-clause-evaluates_to
+parsed_script-returns-clause-evaluates_to g t c =
+    let h = rw (c.in_ok-begin.ensures.ok, c.as_str.ensures.value, c.deref.ensures, c.deref-2.ensures) at c.in_ok-last.ensures.evaluates_to in
+    (h.0, h.1, rw c.end.ensures (continue_with (continue_with move_on h.2) move_on))
+
+pub parsed_script-returns-clause-only_grows : goal.parsed_script-returns-clause-only_grows
+parsed_script-returns-clause-only_grows g t c = later_beside refl refl refl refl c.in_ok-last.ensures.only_grows
+
+pub parsed_script-returns-in_err-begin-clause-evaluates_to : goal.parsed_script-returns-in_err-begin-clause-evaluates_to
+parsed_script-returns-in_err-begin-clause-evaluates_to g t c = rw c.in_err-begin.ensures.err (comes_cut _ _ _ _ _ c.from_residual.ensures.1 starve)
+
+pub parsed_script-returns-in_err-begin-clause-only_grows : goal.parsed_script-returns-in_err-begin-clause-only_grows
+parsed_script-returns-in_err-begin-clause-only_grows g t c = later_still refl refl
+
+pub parsed_script-returns-in_err-last-clause-evaluates_to : goal.parsed_script-returns-in_err-last-clause-evaluates_to
+parsed_script-returns-in_err-last-clause-evaluates_to g t c =
+    let h = rw (c.in_ok-begin.ensures.ok, c.as_str.ensures.value, c.deref.ensures, c.deref-2.ensures) at c.in_err-last.ensures.evaluates_to in
+    comes_cut _ _ _ _ _ c.from_residual-in_err-last.ensures.1 (continue_with move_on h.2)
+
+pub parsed_script-returns-in_err-last-clause-only_grows : goal.parsed_script-returns-in_err-last-clause-only_grows
+parsed_script-returns-in_err-last-clause-only_grows g t c = later_beside refl refl refl refl c.in_err-last.ensures.only_grows
+
+pub script_commands-command-requires : goal.script_commands-command-requires
+script_commands-command-requires g t c κs within = search rules
+
+pub script_commands-fact_in-command : goal.script_commands-fact_in-command
+script_commands-fact_in-command g t c = search rules
+
+pub script_commands-loop-command-init : goal.script_commands-loop-command-init
+script_commands-loop-command-init g t c = record {
+  evaluates_to = (
+    [],
+    (omega arith, λ q. c.new-last.ensures.bytes),
+    rw
+        (script_commands (range_text c.args.script.source.now) c.args.script.tree.now) stay,
+  );
+  only_grows = later_refl;
+}
+
+pub script_commands-loop-command-preserved : goal.script_commands-loop-command-preserved
+script_commands-loop-command-preserved g t c =
+    let s = c.deref-command-items.ensures.value in
+    let d = drop_here _ _ _ (rw s at c.loop-command-test.true) (rw s at c.command-item.is) in
+    let l = rw (d, command_place (range_text c.args.script.source.now) c.command-item.result) at c.loop-command.invariant.evaluates_to.2 in
+    let a = rw c.move_to.ensures at c.in_ok-last.ensures.evaluates_to in
+    record {
+      evaluates_to = (a.0, a.1, continue_with l (continue_with move_on (a.2 _)));
+      only_grows = later_on c.loop-command.invariant.only_grows (later_beside refl refl refl refl c.in_ok-last.ensures.only_grows);
+    }
+
+pub script_commands-loop-command-smaller : goal.script_commands-loop-command-smaller
+script_commands-loop-command-smaller g t c = omega arith
+
+pub script_commands-offset_bounds-command-items-command-index : goal.script_commands-offset_bounds-command-items-command-index
+script_commands-offset_bounds-command-items-command-index g t c = omega arith
+
+pub script_commands-returns-clause-evaluates_to : goal.script_commands-returns-clause-evaluates_to
+script_commands-returns-clause-evaluates_to g t c =
+    let s = c.deref-command-items.ensures.value in
+    let d = drop_all _ _ (rw s at c.loop-command-test.false) in
+    let i = c.loop-command.invariant.evaluates_to in
+    (i.0, i.1, rw d at i.2)
+
+pub script_commands-returns-clause-only_grows : goal.script_commands-returns-clause-only_grows
+script_commands-returns-clause-only_grows g t c = c.loop-command.invariant.only_grows
+
+pub script_commands-returns-in_err-last-clause-evaluates_to : goal.script_commands-returns-in_err-last-clause-evaluates_to
+script_commands-returns-in_err-last-clause-evaluates_to g t c =
+    let s = c.deref-command-items.ensures.value in
+    let d = drop_here _ _ _ (rw s at c.loop-command-test.true) (rw s at c.command-item.is) in
+    let l = rw (d, command_place (range_text c.args.script.source.now) c.command-item.result) at c.loop-command.invariant.evaluates_to.2 in
+    let a = rw c.move_to.ensures at c.in_err-last.ensures.evaluates_to in
+    comes_cut_before _ _ _ _ _ _ c.from_residual.ensures.1 (continue_with l (continue_with move_on (a.2 _)))
+
+pub script_commands-returns-in_err-last-clause-only_grows : goal.script_commands-returns-in_err-last-clause-only_grows
+script_commands-returns-in_err-last-clause-only_grows g t c = later_on c.loop-command.invariant.only_grows (later_beside refl refl refl refl c.in_err-last.ensures.only_grows)

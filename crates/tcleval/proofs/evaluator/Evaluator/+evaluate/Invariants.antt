@@ -116,9 +116,9 @@ invariant-branches-loop-condition g l =
     record {
       evaluates_to : (k : Next) → Simulates l.bounds.limits.commands (rule l.bounds.limits.value_bytes)
           (rules.branches b (pair_texts l.branches) other l.fn.self.variables k)
-          (point (o l.fn.host) (t l.fn.host) l.fn.self.used)
+          (point (o l.fn.host) (t l.fn.host) l.fn.self.used l.fn.self.scripts)
           (rules.branches b (pair_texts (drop l.condition-index l.branches)) other l.self.variables k)
-          (point (o l.host) (t l.host) l.self.used);
+          (point (o l.host) (t l.host) l.self.used l.self.scripts);
       only_grows : OnlyGrows l.fn.self l.self;
     }
 
@@ -132,10 +132,10 @@ invariant-commands-loop-command g l =
       evaluates_to : EvaluatesToText l.result_use l.bounds.limits.value_bytes (Ok l.last)
           (λ u. Simulates l.bounds.limits.commands (rule l.bounds.limits.value_bytes)
           (rules.commands b (script_view (range_text l.script.source.now) l.script.tree.now) [] l.fn.self.variables)
-          (point (o l.fn.host) (t l.fn.host) l.fn.self.used)
+          (point (o l.fn.host) (t l.fn.host) l.fn.self.used l.fn.self.scripts)
           (rules.commands b (commands_of (view (drop l.command-index
           (out-Script ByteRange l.script.tree.now).commands.items))) u l.self.variables)
-          (point (o l.host) (t l.host) l.self.used));
+          (point (o l.host) (t l.host) l.self.used l.self.scripts));
       only_grows : OnlyGrows l.fn.self l.self;
     }
 
@@ -146,9 +146,9 @@ invariant-for_turns-loop-next g l =
     record {
       evaluates_to : (k : Next) → Simulates l.bounds.limits.commands (rule l.bounds.limits.value_bytes)
           (Runs (plans.For l.bounds.remaining l.parts.condition.now l.parts.next.now l.parts.body.now
-          l.fn.self.variables) (on_normal k)) (point (o l.fn.host) (t l.fn.host) l.fn.self.used)
+          l.fn.self.variables) (on_normal k)) (point (o l.fn.host) (t l.fn.host) l.fn.self.used l.fn.self.scripts)
           (Runs (plans.For l.bounds.remaining l.parts.condition.now l.parts.next.now l.parts.body.now l.self.variables)
-          (on_normal k)) (point (o l.host) (t l.host) l.self.used);
+          (on_normal k)) (point (o l.host) (t l.host) l.self.used l.self.scripts);
       body : (l.body.text.now ≡ l.parts.body.now) × HasItsTree l.body;
       next : (l.next.text.now ≡ l.parts.next.now) × HasItsTree l.next;
       only_grows : OnlyGrows l.fn.self l.self;
@@ -164,9 +164,9 @@ invariant-while_turns-loop-body g l =
     record {
       evaluates_to : (k : Next) → Simulates l.bounds.limits.commands (rule l.bounds.limits.value_bytes)
           (Runs (plans.While l.bounds.remaining l.parts.condition.now l.parts.body.now l.fn.self.variables)
-          (on_normal k)) (point (o l.fn.host) (t l.fn.host) l.fn.self.used)
+          (on_normal k)) (point (o l.fn.host) (t l.fn.host) l.fn.self.used l.fn.self.scripts)
           (Runs (plans.While l.bounds.remaining l.parts.condition.now l.parts.body.now l.self.variables) (on_normal k))
-          (point (o l.host) (t l.host) l.self.used);
+          (point (o l.host) (t l.host) l.self.used l.self.scripts);
       body : (l.body.text.now ≡ l.parts.body.now) × HasItsTree l.body;
       only_grows : OnlyGrows l.fn.self l.self;
     }
@@ -181,9 +181,9 @@ invariant-value-loop-stack g l =
     let b = bounds_of l.bounds in
     record {
       evaluates_to : (k : Next) → Simulates l.bounds.limits.commands (rule l.bounds.limits.value_bytes)
-          (control_plan l.source b l.fn.start l.fn.self.variables k) (point (o l.fn.host) (t l.fn.host) l.fn.self.used)
+          (control_plan l.source b l.fn.start l.fn.self.variables k) (point (o l.fn.host) (t l.fn.host) l.fn.self.used l.fn.self.scripts)
           (control_plan l.source b l.control l.self.variables (stack_continuation l.source b (reverse l.stack.items) k))
-          (point (o l.host) (t l.host) l.self.used);
+          (point (o l.host) (t l.host) l.self.used l.self.scripts);
       only_grows : OnlyGrows l.fn.self l.self;
     }
 
@@ -200,9 +200,9 @@ invariant-words-loop-word g l =
       evaluates_to : (k : List Text → State → plans.Step)
           → Simulates l.bounds.limits.commands (rule l.bounds.limits.value_bytes)
           (pieces.words b (words_of (view l.words.tree.now)) [] l.fn.self.variables k)
-          (point (o l.fn.host) (t l.fn.host) l.fn.self.used)
+          (point (o l.fn.host) (t l.fn.host) l.fn.self.used l.fn.self.scripts)
           (pieces.words b (words_of (view (drop l.word-index l.words.tree.now))) (map string_bytes l.texts.items)
-          l.self.variables k) (point (o l.host) (t l.host) l.self.used);
+          l.self.variables k) (point (o l.host) (t l.host) l.self.used l.self.scripts);
       only_grows : OnlyGrows l.fn.self l.self;
     }
 
@@ -213,12 +213,35 @@ invariant-foreach_turns-loop-bounds g l =
     record {
       evaluates_to : (k : Next) → Simulates l.bounds.limits.commands (rule l.bounds.limits.value_bytes)
           (Runs (plans.Foreach l.bounds.remaining l.fn.loops l.fn.body l.fn.self.variables) (on_normal k))
-          (point (o l.fn.host) (t l.fn.host) l.fn.self.used)
+          (point (o l.fn.host) (t l.fn.host) l.fn.self.used l.fn.self.scripts)
           (Runs (plans.Foreach l.bounds.remaining l.loops l.fn.body l.self.variables) (on_normal k))
-          (point (o l.host) (t l.host) l.self.used);
+          (point (o l.host) (t l.host) l.self.used l.self.scripts);
       script : (l.script.text.now ≡ l.fn.body) × HasItsTree l.script;
       only_grows : OnlyGrows l.fn.self l.self;
     }
 
 abbrev pub decreases-foreach_turns-loop-bounds : goal.decreases-foreach_turns-loop-bounds
 decreases-foreach_turns-loop-bounds g l = l.bounds.limits.commands - l.self.used
+
+abbrev pub decreases-parsed_script : goal.decreases-parsed_script
+decreases-parsed_script g l = 16 * l.bounds.remaining + 13
+
+abbrev pub decreases-script_commands : goal.decreases-script_commands
+decreases-script_commands g l = 16 * l.bounds.remaining + 12
+
+abbrev pub invariant-script_commands-loop-command : goal.invariant-script_commands-loop-command
+invariant-script_commands-loop-command g l =
+    let o = g.H.Host.oracle in
+    let t = g.H.Host.trace in
+    let b = bounds_of l.bounds in
+    let view = map (command_view (range_text l.script.source.now)) in
+    record {
+      evaluates_to : EvaluatesToText l.result_use l.bounds.limits.value_bytes (Ok l.last)
+          (λ u. Simulates l.bounds.limits.commands (rule l.bounds.limits.value_bytes)
+          (rules.script_commands b (script_view (range_text l.script.source.now) l.script.tree.now) []
+          l.fn.self.variables) (point (o l.fn.host) (t l.fn.host) l.fn.self.used l.fn.self.scripts)
+          (rules.script_commands b (commands_of (view (drop l.command-index
+          (out-Script ByteRange l.script.tree.now).commands.items))) u l.self.variables)
+          (point (o l.host) (t l.host) l.self.used l.self.scripts));
+      only_grows : OnlyGrows l.fn.self l.self;
+    }

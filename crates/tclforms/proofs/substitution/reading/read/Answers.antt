@@ -6,8 +6,8 @@ use Rattle.tclforms.proofs.substitution.reading.read.Goals as goal
 pub returns-in_err-location : goal.returns-in_err-location
 returns-in_err-location g c =
     let p = err_from_is_err_and c.from_residual.result c.from_residual.ensures.1 in
-    rw (p.1, p.2) (λ most used r k. given_stops _ _ _ _ c.in_err-location.ensures)
+    rw (p.1, p.2) (λ most used scripts r k. given_stops _ _ _ _ c.in_err-location.ensures)
 
 pub returns : goal.returns
 returns g c =
-    (λ most used r k. continue_with (given_on _ _ _ _ c.in_ok-location.ensures) (c.read_location.ensures most used r k))
+    (λ most used scripts r k. continue_with (given_on _ _ _ _ c.in_ok-location.ensures) (c.read_location.ensures most used scripts r k))

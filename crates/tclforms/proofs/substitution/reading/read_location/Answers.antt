@@ -8,12 +8,12 @@ read_env-requires-text-name g c =
 
 pub returns-in-Scalar : goal.returns-in-Scalar
 returns-in-Scalar g c =
-    (λ most used r k. rw c.in-Scalar.is (c.read_scalar.ensures most r k _))
+    (λ most used scripts r k. rw c.in-Scalar.is (c.read_scalar.ensures most r k _))
 
 pub returns-in-Global : goal.returns-in-Global
 returns-in-Global g c =
-    (λ most used r k. rw (c.in-Element.is, c.in-Global.is) (c.read_env.ensures most used r k))
+    (λ most used scripts r k. rw (c.in-Element.is, c.in-Global.is) (c.read_env.ensures most used scripts r k))
 
 pub returns-in-Procedure : goal.returns-in-Procedure
 returns-in-Procedure g c =
-    (λ most used r k. rw (c.in-Element.is, c.in-Procedure.is) (rw c.from.ensures (reason_stops _ _ _ c.no_variable.ensures)))
+    (λ most used scripts r k. rw (c.in-Element.is, c.in-Procedure.is) (rw c.from.ensures (reason_stops _ _ _ c.no_variable.ensures)))

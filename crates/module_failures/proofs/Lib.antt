@@ -1,3 +1,0 @@
-pub mod TrialLemmas
-pub mod FailedLemmas
-pub mod CommandLemmas

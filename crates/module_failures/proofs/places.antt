@@ -1,5 +1,0 @@
-mod OffsetLemmas
-mod PlaceLemmas
-mod WordLemmas
-mod PartLemmas
-mod BodyLemmas
