@@ -77,7 +77,7 @@ fn is_of_gone(refusal: &RequestRefusal) -> bool
     }
 }
 
-/// Whether a command is.
+/// Whether a command is refused since the file of a loaded module is gone.
 fn is_by_gone(refusal: &Refusal<'_>) -> bool
     ensures { result ≡ spec.is_by_gone refusal.now }
 {
