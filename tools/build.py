@@ -244,7 +244,8 @@ class Schedule:
         print(f"[{clock(time.monotonic() - self.start)}] {text}; {counts}", flush=True)
 
     def begin(self, pool):
-        """Begins what can begin. Processors that nothing else waits for go into the crates that are begun."""
+        """Begins what can begin. Processors that nothing else waits for go into the crates that are begun, and half of them
+        into the one with the longest chain above it: it decides when all is done."""
         ready = [it for it in self.left if all(dep in self.done for dep in it.below)]
         for place, work in enumerate(ready):
             idle = self.lanes - sum(jobs for _, jobs, _ in self.running.values())
@@ -253,7 +254,9 @@ class Schedule:
             if idle <= 0 or (self.running and need > room):
                 continue
             more = int((room / need - 1) / 0.6) if room > need else 0
-            jobs = max(1, min(MOST_JOBS, idle // (len(ready) - place), 1 + more))
+            share = idle // (len(ready) - place)
+            share = max(share, (idle + 1) // 2) if place == 0 else share
+            jobs = max(1, min(MOST_JOBS, share, 1 + more))
             self.left.remove(work)
             memory = need * (1 + 0.6 * (jobs - 1))
             self.running[pool.submit(work.do, jobs)] = (work, jobs, memory)
