@@ -19,6 +19,9 @@ from tests.lib.harness import HERE, true
 
 ABOVE = 1.1
 
+# How many times the instructions of `modulecmd` the program behind the function may take for the same load.
+ABOVE_MODULECMD = 1.15
+
 # What makes the counts of each function of bench/, and shows whether it can.
 COUNTERS = {
     goals.instructions: ["valgrind", "--version"],
@@ -85,3 +88,17 @@ def test_what_is_written_down(title, most, counts, note):
     count = counts.count(title)
     note(f"{goals.written(count)}, written down {goals.written(most)}")
     true(count <= ABOVE * most, "it is more than a tenth above")
+
+
+def test_a_load_by_the_function(product, program, folder, note):
+    if not is_static(program) or hindrance(COUNTERS[goals.instructions]):
+        pytest.skip("the counts are those of a static link, by valgrind")
+    folder.module("m/1.0", "setenv M on\nprepend-path PATH /opt/m/bin\n")
+    env = {"MODULEPATH": os.fsdecode(folder.modules), "PATH": "/usr/bin:/bin", "PWD": os.getcwd(), "LANG": "C.UTF-8"}
+    with tempfile.TemporaryDirectory(prefix="modulecmd-costs-") as room:
+        alone, behind = (
+            goals.instructions(room, [f"{product}/{path}", *words, "load", "m/1.0"], env)
+            for path, words in (("bin/modulecmd", ["sh"]), ("libexec/module", ["sh:24:80"]))
+        )
+    note(f"{behind:,} instructions, {alone:,} by modulecmd: {behind / alone:.3f} times as many")
+    true(behind <= ABOVE_MODULECMD * alone, f"{behind / alone:.3f} times the instructions of modulecmd")

@@ -1,5 +1,6 @@
 //! What the function `module` does: which call answers its words, what is written where, and the status (module(1)).
 //! Takes memory; reads the files and directories (`Tree`) that it is given; reads, saves and removes collections (`Storage`).
+//! `site_of` asks the system for the working directory and for MODULEPATH.
 #![tactic(auto)]
 
 mod after;
@@ -14,6 +15,7 @@ mod editing;
 mod exchanging;
 mod explaining;
 mod forgetting;
+mod given;
 mod lines;
 mod listing;
 mod moving;
@@ -29,6 +31,7 @@ mod writing;
 pub use answering::{Answer, answer_to, refusal_line};
 pub use asking::Asking;
 pub use explaining::{Cause, cause_line};
+pub use given::site_of;
 pub use program::{Program, program_at};
 pub use refusal::Refusal;
 pub use site::Site;

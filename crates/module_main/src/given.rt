@@ -1,17 +1,14 @@
 //! What the process is given: its arguments, its environment, where it works, and by which path it was called.
 
 use crate::streams::say_refusal;
-use envvars::{Env, Vars};
-use module_commands::{Asking, Refusal, Site};
+use envvars::Env;
+use module_commands::{Asking, Refusal, site_of};
 use module_words::protocol::{Asker, Streams, read_asker, refusal_status};
 use process::{InputFault, arguments, environment_block};
 use shelltext::Shell;
-use std::alloc::AllocError;
-use std::env::VarError;
-use std::io::{ErrorKind, IsTerminal};
-use std::os::unix::fs::MetadataExt;
+use std::io::IsTerminal;
 use std::rt::Env as _;
-use std::{env, fs, process as own, str};
+use std::{process as own, str};
 
 /// How many bytes a path of the system has at most, with its end (PATH_MAX of Linux).
 const LONGEST_PATH: usize = 4096;
@@ -70,45 +67,17 @@ fn streams(rt: &HostRuntime, asker: Asker) -> Streams {
     Streams { output, error }
 }
 
-/// The working directory by the system's name; nothing where it has none.
-fn directory(rt: &HostRuntime) -> Result<Option<String>, AllocError> {
-    match env::current_dir(rt) {
-        Ok(place) => Ok(Some(place.into_string())),
-        Err(fault) if fault.kind() == ErrorKind::OutOfMemory => Err(AllocError),
-        Err(_) => Ok(None),
-    }
-}
-
-/// Whether a path leads to the working directory.
-fn leads_here(rt: &HostRuntime, path: &str) -> bool {
-    match (fs::metadata(rt, path), fs::metadata(rt, ".")) {
-        (Ok(named), Ok(here)) => named.dev() == here.dev() && named.ino() == here.ino(),
-        _ => false,
-    }
-}
-
-/// What the process is given beside its words and its environment.
-fn site(rt: &HostRuntime, asker: Asker, env: &Env) -> Result<Site, AllocError> {
-    let has_text_modulepath = match env::var(rt, "MODULEPATH") {
-        Ok(_) | Err(VarError::NotPresent) => true,
-        Err(VarError::NotUnicode) => false,
-        Err(VarError::OutOfMemory) => return Err(AllocError),
-    };
-    Ok(Site {
-        called_as: env::args(rt).ok().and_then(|mut all| all.next()),
-        streams: streams(rt, asker),
-        directory: directory(rt)?,
-        is_at_pwd: env.get("PWD").is_some_and(|path| leads_here(rt, path)),
-        has_text_modulepath,
-        number: own::id(rt.process()),
-    })
-}
-
 /// Who asks, in which environment, and what the process is given besides.
-pub fn asking(rt: &HostRuntime, shell: Shell, asker: Asker) -> Result<Asking, Refusal<'static>> {
+pub fn asking(
+    rt: &HostRuntime,
+    called_as: &[u8],
+    shell: Shell,
+    asker: Asker,
+) -> Result<Asking, Refusal<'static>> {
     let block = environment_block(rt)?;
     let env = Env::from_block(rt.alloc(), block)?;
-    let site = site(rt, asker, &env)?;
+    let streams = streams(rt, asker);
+    let site = site_of(rt, called_as, streams, own::id(rt.process()), &env)?;
     Ok(Asking {
         shell,
         asker,
