@@ -46,8 +46,8 @@ Requires(preun): {alternatives}
 Users of clusters and shared machines load software by `module load NAME`,
 which changes variables such as PATH as a modulefile says, and take it away
 again by `module unload NAME`. This is a modulecmd of Environment Modules 5
-with proofs that unloads lead back, and functions for sh, bash, ksh, zsh,
-csh, tcsh and fish.
+with proofs that unloads lead back, and functions for POSIX shells such as
+bash and zsh, and for csh and fish.
 
 %install
 cp -a '{root}/.' %{{buildroot}}

@@ -34,8 +34,9 @@ from tests.lib.harness import same, true
 from tests.lib.properties import SPELLINGS, examples, several
 from tests.models import runs as model
 from tests.models import standings
-from tests.models.evaluations import OTHER, TYPES, VARIABLE, Question
+from tests.models.evaluations import OTHER, VARIABLE, Question
 from tests.models.standings import MODULEPATH, SiteModule
+from tests.shells.shells import FAMILIES
 
 # How many sites the model alone goes through until a clause that is left out loses something, at most.
 MOST_SITES = 20_000
@@ -649,7 +650,7 @@ def test_modules_that_ask_for_their_way(programs, product, tmp_path, shell):
     site = Site(sentence.Tree((directory,), files, {}), directory, {"HOME": HOME})
     start = sentence.in_a_shell({"HOME": HOME, "PWD": top, "P": "/q:/r", MODULEPATH: directory}, shell)
     commands = [words.split() for words in THROUGH]
-    names = [name for name in TYPES if TYPES[name] == TYPES[shell]]
+    names = [name for name in FAMILIES if FAMILIES[name] == FAMILIES[shell]]
     session = Session(site, product, shell, site.tree, start, commands, 0, names)
     same([module.name for module in site.certified], sorted(HARMLESS, key=sentence.NAMES.index), "who is certified")
     session.tree.write()

@@ -19,6 +19,7 @@ from tests.lib.harness import SECONDS, same, true
 from tests.models import evaluations, standings
 from tests.models.evaluations import LOADED, MODE, OTHER, SHELL, VARIABLE, Question, Ran
 from tests.models.standings import SiteModule
+from tests.shells.shells import FAMILIES
 
 SH = shutil.which("dash") or "/bin/sh"
 ENV = shutil.which("env")
@@ -272,7 +273,7 @@ class Session:
         if "=" in words:
             self.env.update([words.split("=")])
             return
-        call = words if words.split()[0] in evaluations.TYPES else f"sh {words}"
+        call = words if words.split()[0] in FAMILIES else f"sh {words}"
         done = subprocess.run(
             [SH, "-c", f'text=$("$0" {call}) || exit 1; eval "$text"; exec {ENV} -0', os.fsdecode(self.folder.program)],
             env=self.env,
@@ -320,7 +321,7 @@ def answer_of(words, way):
         return str(int(evaluations.means_one(" ".join(rest), way.loaded)))
     if kind != "module-info":
         return "".join(rest[1:])
-    answers = {"mode": way.mode, "shell": way.shell, "shelltype": evaluations.TYPES[way.shell]}
+    answers = {"mode": way.mode, "shell": way.shell, "shelltype": FAMILIES[way.shell]}
     if len(rest) == 1:
         return answers[rest[0]]
     is_second = rest == ["mode", "remove"] and way.mode == "unload" or rest == ["mode", "switch"] and way.in_switch

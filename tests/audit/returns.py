@@ -34,7 +34,7 @@ from tests.lib.named import content
 from tests.lib.properties import examples, several
 from tests.models import runs as model
 from tests.models import standings
-from tests.models.evaluations import TYPES
+from tests.shells.shells import FAMILIES
 
 # How many sessions there are until a wrong program is found, at most.
 MOST_SESSIONS = 200
@@ -51,7 +51,8 @@ OLD_TEXTS = ["setenv OLD x\n", "prepend-path OLD_PATH /old\nputs stderr old\n", 
 SEEDS = st.integers(0, 2**32 - 1)
 
 # The shells that call the program on the way back, by that of the session.
-CALLED = {shell: [name for name in TYPES if TYPES[name] == TYPES[shell]] for shell in sentence.SHELLS} | {"any": list(TYPES)}
+CALLED = {shell: [name for name in FAMILIES if FAMILIES[name] == FAMILIES[shell]] for shell in sentence.SHELLS}
+CALLED["any"] = list(FAMILIES)
 
 
 class Wrong(plain.Wrong):
@@ -184,7 +185,7 @@ def returned(call, env, words, left):
         raise Wrong(f"{words} is refused: {said!r}")
     if needy:
         raise Wrong(f"{words} is accepted, and {needy} lose what they need")
-    made = plain.after(env, plain.printed(TYPES[words[0]], out))
+    made = plain.after(env, plain.printed(FAMILIES[words[0]], out))
     if names_in(made) != left:
         raise Wrong(f"{words} leaves {names_in(made)} loaded, and not {left}")
     return made
@@ -208,7 +209,7 @@ class WaysBack:
     def shell(self, chance, moment):
         """A shell that has a text for each value."""
         has_lines = any("\n" in value for env in (moment.env, moment.start) for value in env.values())
-        return chance.choice([name for name in self.shells if not (has_lines and TYPES[name] == "csh")])
+        return chance.choice([name for name in self.shells if not (has_lines and FAMILIES[name] == "csh")])
 
     def goes(self, kind, env, words, left):
         made = returned(self.call, env, words, left)
@@ -231,7 +232,7 @@ class WaysBack:
         if ends[0][2] != ends[1][2] or (ends[1][2] != 0 and ends[0] != ends[1]):
             raise Wrong(f"{words} ends in {ends[0]}, and at the start in {ends[1]}")
         if ends[1][2] == 0:
-            made = [plain.after(env, plain.printed(TYPES[words[0]], end[0])) for env, end in zip((moment.env, moment.start), ends)]
+            made = [plain.after(env, plain.printed(FAMILIES[words[0]], end[0])) for env, end in zip((moment.env, moment.start), ends)]
             leads_back(moment._replace(start=made[1]), made[0], words)
             self.counts["accepted purges over others"] += 1
 
@@ -565,7 +566,7 @@ def ends(session, row, commands):
         else:
             session.folder.module(name, text)
     last = row.last[0]
-    words = [os.fsdecode(session.folder.program), *(last if last.split()[0] in TYPES else f"sh {last}").split()]
+    words = [os.fsdecode(session.folder.program), *(last if last.split()[0] in FAMILIES else f"sh {last}").split()]
     options = {"env": session.env, "cwd": row.place, "capture_output": True, "text": True, "timeout": SECONDS}
     done = subprocess.run(words, check=False, **options)
     return done.stdout, done.stderr, done.returncode

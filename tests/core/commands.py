@@ -9,9 +9,10 @@ import subprocess
 
 import pytest
 
-from tests.core.plain import FAMILIES, printed
+from tests.core.plain import printed
 from tests.lib.examples import each, is_put, is_refusal, put, real, words, write, written
 from tests.lib.harness import SECONDS, encoded, evaluated, examples, same, true
+from tests.shells.shells import FAMILIES
 
 STATUS = re.compile(r"= (\d)(?:, (\d+))?")
 VERDICT = re.compile(r"(\d+) (.*)")

@@ -13,9 +13,9 @@ import pytest
 
 from tests.lib.harness import HERE, MOST_RUNS, refuses_each, same, true
 from tests.lib.worked import FILES, real, write
+from tests.shells.shells import FAMILIES
 
 TOP = os.path.dirname(HERE)
-SHELLS = ("sh", "bash", "ksh", "zsh", "csh", "tcsh", "fish")
 MOST_BYTES = 1_048_576
 ERROR = "ERROR: {}\n"
 WRITING_FAILED = ERROR.format("Writing failed").encode()
@@ -104,7 +104,7 @@ def test_the_verdict_on(text, verdict, folder):
 
 def test_a_file_that_is_plain(folder):
     check = Check(folder, PATH="/usr/bin:/bin")
-    for shell in SHELLS:
+    for shell in FAMILIES:
         check.says("load foo\nunload foo\n", ["1 accepted", "2 accepted", "foo/1.0: Plain"], shell=shell)
 
 
@@ -166,7 +166,7 @@ def test_variables_that_are_not_utf8(folder):
     check = Check(folder, PATH="/usr/bin:/bin")
     check.env.update({b"FOO": b"\xfe", b"a-b": b"\xff", b"FINE": "é".encode(), b"_X1": b"/z\xff", b"1X": b"\xff"})
     lines = ["1 accepted", "2 accepted", "foo/1.0: Plain", "# environment: FOO isn't UTF-8", "# environment: _X1 isn't UTF-8"]
-    for shell in SHELLS:
+    for shell in FAMILIES:
         check.says("load foo\nunload foo\n", lines, shell=shell)
     check.says("", lines[3:])
     check.says("nope\n", ["1 refused: Unknown subcommand 'nope'", *lines[3:]], status=1)
@@ -274,13 +274,9 @@ def test_the_text_of_all_requests_for_each_family(folder):
     given = "load foo\nload y\nunload foo\n"
     lines = [*(f"{number} accepted" for number in (1, 2, 3)), "foo/1.0: Plain", "y/1: Plain"]
     names = (("LOADEDMODULES", "y/1"), ("P", "/s"), ("_LMFILES_", "/m/y/1"))
-    for shells, line in (
-        (("sh", "bash", "ksh", "zsh"), "{0}='{1}'; export {0};\n"),
-        (("csh", "tcsh"), "setenv {0} '{1}';\n"),
-        (("fish",), "set -xg {0} '{1}';\n"),
-    ):
-        for shell in shells:
-            check.says(given, lines, "".join(line.format(*pair) for pair in names), shell=shell)
+    texts = {"sh": "{0}='{1}'; export {0};\n", "csh": "setenv {0} '{1}';\n", "fish": "set -xg {0} '{1}';\n"}
+    for shell, family in FAMILIES.items():
+        check.says(given, lines, "".join(texts[family].format(*pair) for pair in names), shell=shell)
 
 
 # Whole checks: the modulefiles beside the worked ones, the variables, the shell and its input; then the text, the lines

@@ -9,10 +9,11 @@ import subprocess
 
 import pytest
 
-from tests.core.plain import FAMILIES, printed
+from tests.core.plain import printed
 from tests.lib.examples import is_refusal, meant, written
 from tests.lib.harness import SECONDS, examples, same, true
 from tests.lib.worked import real, write
+from tests.shells.shells import FAMILIES
 
 OTHER = "other/1"
 REFUSAL = re.compile(r"(\d+) (.*)")

@@ -24,6 +24,7 @@ from tests.core import sentence
 from tests.lib.harness import true
 from tests.lib.properties import SPELLINGS, Spelling, examples, several
 from tests.models import runs as model
+from tests.shells.shells import FAMILIES
 
 SECONDS = 120
 
@@ -32,7 +33,6 @@ SECONDS = 120
 MOST_REFUSED = 0.15
 LEAST_JUDGED = 0.04
 
-FAMILIES = {"sh": "sh", "bash": "sh", "ksh": "sh", "zsh": "sh", "csh": "csh", "tcsh": "csh", "fish": "fish"}
 LINES = {
     "sh": re.compile(r"(\w+)='((?:[^']|'\\'')*)'; export \1;\n|unset (\w+);\n"),
     "csh": re.compile(r"setenv (\w+) '((?:[^']|'\\''|'\\!')*)';\n|unsetenv (\w+);\n"),

@@ -28,7 +28,8 @@ from tests.lib.harness import same, true
 from tests.lib.properties import SPELLINGS, Spelling, examples, several
 from tests.models import runs as model
 from tests.models import evaluations
-from tests.models.evaluations import TYPES, VARIABLE, Question, Ran, Way
+from tests.models.evaluations import VARIABLE, Question, Ran, Way
+from tests.shells.shells import FAMILIES
 
 SHELLS = {"sh": [shutil.which("dash") or "/bin/sh"], "tcsh": ["tcsh", "-f"], "fish": ["fish", "--no-config"]}
 ENV = shutil.which("env")
@@ -539,7 +540,7 @@ def directories(top):
 def callings(shell=None):
     """By which names of shells the commands of a session call the program, in turn: those that are read as this one is,
     or any."""
-    names = [name for name, kind in TYPES.items() if shell is None or kind == TYPES[shell]]
+    names = [name for name, kind in FAMILIES.items() if shell is None or kind == FAMILIES[shell]]
     return st.lists(st.sampled_from(names), min_size=1, max_size=3).map(tuple)
 
 
@@ -670,7 +671,7 @@ class Session:
     def unsaid(self, before, shell):
         """The first variable whose new value the shell has no text for, or none."""
         changed = [name for name, value in self.env.items() if before.get(name) != value]
-        return min((name for name in changed if "\n" in self.env[name] and TYPES[shell] == "csh"), default=None)
+        return min((name for name in changed if "\n" in self.env[name] and FAMILIES[shell] == "csh"), default=None)
 
 
 class Reversible(Session):

@@ -3,8 +3,7 @@
 import itertools
 import typing
 
-# The shells, each with its type, as `module-info shelltype` has it.
-TYPES = {"sh": "sh", "bash": "sh", "ksh": "sh", "zsh": "sh", "csh": "csh", "tcsh": "csh", "fish": "fish"}
+from tests.shells.shells import FAMILIES
 
 
 class Way(typing.NamedTuple):
@@ -64,7 +63,7 @@ def means_one(words, loaded):
 def ways_of(asked):
     """The ways that these questions can tell apart, with nothing loaded."""
     modes = MODES if MODE in asked_for(asked) else MODES[:1]
-    shells = TYPES if SHELL in asked_for(asked) else ["sh"]
+    shells = FAMILIES if SHELL in asked_for(asked) else ["sh"]
     return [Way(*mode, shell) for shell, mode in itertools.product(shells, modes)]
 
 
@@ -112,8 +111,8 @@ CONDITIONS = {
     "unloads": Condition("[module-info mode] eq {unload}", MODE, lambda way: way.mode == "unload"),
     "removes": Condition("[module-info mode remove]", MODE, lambda way: way.mode == "unload"),
     "switches": Condition("[module-info mode switch]", MODE, lambda way: way.in_switch),
-    "in sh": Condition("[module-info shelltype sh]", SHELL, lambda way: TYPES[way.shell] == "sh"),
-    "in csh": Condition("[module-info shelltype] eq {csh}", SHELL, lambda way: TYPES[way.shell] == "csh"),
+    "in sh": Condition("[module-info shelltype sh]", SHELL, lambda way: FAMILIES[way.shell] == "sh"),
+    "in csh": Condition("[module-info shelltype] eq {csh}", SHELL, lambda way: FAMILIES[way.shell] == "csh"),
     "in zsh": Condition("[module-info shell zsh]", SHELL, lambda way: way.shell == "zsh"),
     "in fish": Condition("[module-info shell] eq {fish}", SHELL, lambda way: way.shell == "fish"),
     "beside w_1": beside("w_1"),
@@ -136,6 +135,6 @@ class Answer(typing.NamedTuple):
 ANSWERS = {
     "mode": Answer("[module-info mode]", MODE, lambda way: way.mode),
     "shell": Answer("[module-info shell]", SHELL, lambda way: way.shell),
-    "type": Answer("[module-info shelltype]", SHELL, lambda way: TYPES[way.shell]),
+    "type": Answer("[module-info shelltype]", SHELL, lambda way: FAMILIES[way.shell]),
     "loaded": Answer("[is-loaded m k/9]", LOADED, lambda way: str(int(means_one("m k/9", way.loaded))), "m k/9"),
 }

@@ -8,7 +8,7 @@ import subprocess
 import pytest
 
 from tests.lib.harness import loaded, same, true
-from tests.shells.shells import FAMILIES, content, in_sh, in_shells
+from tests.shells.shells import FAMILIES, SHELLS, content, in_sh, in_shells
 
 HERE = os.path.dirname(os.path.abspath(__file__))
 TOP = os.path.dirname(os.path.dirname(HERE))
@@ -81,6 +81,14 @@ def below(path):
     for folder, _, names in os.walk(path):
         found += [os.path.relpath(os.path.join(folder, name), path) for name in names]
     return sorted(found)
+
+
+def test_scripts_name_the_shells_of_the_table():
+    """An install tries each of them, and what the suites need of them is installed for the tests."""
+    tried = re.findall(r"^ *try_shell (\w+) ", content(os.path.join(TOP, "package", "install.sh")).decode(), re.MULTILINE)
+    same(set(tried), set(FAMILIES), "the shells in which an install loads a module")
+    needed = re.findall(r"^ *need \S+ (\S+)$", content(os.path.join(TOP, "tools", "deps.sh")).decode(), re.MULTILINE)
+    same({it.command[0] for it in SHELLS if it.is_needed} - set(needed), set(), "the shells that deps.sh doesn't install")
 
 
 @pytest.mark.usefixtures("as_shipped")
