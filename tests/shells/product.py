@@ -57,14 +57,17 @@ SCRIPTS = (
 )
 
 SUBCOMMAND = re.compile(r"^  ([a-z][a-z, -]*?)(?: [A-Z\[]|  |$)", re.MULTILINE)
-SUBCOMMANDS = ("load", "add", "unload", "rm", "switch", "swap", "purge", "list", "avail", "show", "display", "whatis")
 
-# What the functions of the shells replace, and what they add.
-OF_FUNCTIONS = ("del", "remove", "help")
-ADDED = (
-    "use", "unuse", "save", "restore", "savelist", "saverm", "saveshow", "reload", "forget", "is-loaded", "is-avail",
-    "keyword", "apropos", "refresh", "search",
-)  # fmt: skip
+
+def subcommands():
+    """The names in the synopsis of module(1), and those in its first list, which are modulecmd's too, except `help`."""
+    synopsis, description = content(os.path.join(TOP, "man", "module.1")).decode().split(".Sh DESCRIPTION\n")
+    names = re.findall(r"[a-z-]+", " ".join(re.findall(r"^\.Cm (.*)", synopsis, re.MULTILINE)))
+    items = re.findall(r"^\.It Cm .*", description.split(".El\n")[0], re.MULTILINE)
+    return sorted(set(names)), [name for name in re.findall(r"Cm ([a-z-]+)", " ".join(items)) if name != "help"]
+
+
+SUBCOMMANDS, OF_PROGRAM = subcommands()
 
 
 def make(*words):
@@ -178,17 +181,18 @@ def test_the_usage_tells_what_the_program_does(folder, built):
     """Each subcommand is known, and none is missing."""
     text = subprocess.run([built("module"), "sh", "help"], capture_output=True, check=True).stdout.decode()
     names = [name for found in SUBCOMMAND.findall(text.split("Subcommands:\n")[1]) for name in found.split(", ")]
-    same(sorted(set(names)), sorted([*SUBCOMMANDS, "del", "remove", *ADDED]), "the names of the usage")
-    for name in SUBCOMMANDS:
+    same(sorted({*names, "help"}), SUBCOMMANDS, "the names of the usage")
+    true(len(SUBCOMMANDS) >= 30 and len(OF_PROGRAM) >= 12, f"the page has names: {SUBCOMMANDS}, {OF_PROGRAM}")
+    for name in OF_PROGRAM:
         done = folder.run("sh", name, "a b")
         true(b"Unknown subcommand" not in done.stderr, f"the program knows {name}")
-    for name in (*OF_FUNCTIONS, *ADDED):
+    for name in {*SUBCOMMANDS} - {*OF_PROGRAM}:
         folder.refuses(["sh", name], f"Unknown subcommand '{name}'")
 
 
 def test_no_file_of_shells_has_a_list_of_subcommands():
     """The program alone knows them. What these files name is what they run themselves."""
-    names = {*SUBCOMMANDS, *OF_FUNCTIONS, *ADDED} - {"help", "list", "use", "save", "load", "show", "add", "rm"}
+    names = {*SUBCOMMANDS} - {"help", "list", "use", "save", "load", "show", "add", "rm"}
     for folder in ("init", "libexec", "completion"):
         for name in os.listdir(os.path.join(TOP, folder)):
             text = re.sub(r"--description '.*'", "", content(os.path.join(TOP, folder, name)).decode())
@@ -208,7 +212,7 @@ def test_the_functions_are_short():
 
 def test_completion_offers_what_the_program_does(built):
     names = subprocess.run([built("module"), "sh", "names", "subcommands"], capture_output=True, check=True)
-    same(sorted(names.stdout.decode().split()), sorted([*SUBCOMMANDS, *OF_FUNCTIONS, *ADDED]), "the names for completion")
+    same(sorted(names.stdout.decode().split()), SUBCOMMANDS, "the names for completion")
 
 
 def test_the_pages_are_well_formed():
@@ -227,7 +231,7 @@ def test_the_pages_are_well_formed():
 def test_the_page_has_each_sub_command():
     page = content(os.path.join(TOP, "man", "module.1")).decode()
     there = page.split(".Sh DESCRIPTION")[1].split(".Ss Names and versions")[0]
-    for name in (*SUBCOMMANDS, *OF_FUNCTIONS, *ADDED):
+    for name in SUBCOMMANDS:
         true(re.search(rf"Cm {name}\b", there), f"the page has {name}")
 
 

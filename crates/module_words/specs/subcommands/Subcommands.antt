@@ -1,6 +1,8 @@
 -- The subcommands of `module`, with their names (module(1), as Environment Modules has them).
-use Rattle.std.specs.Prelude.{List, [], ◌∷◌, codes}
+use Rattle.std.specs.Prelude.{List, [], ◌∷◌, codes, Option, Some, None}
 use Rattle.message.specs.Messages.{Text}
+use Rattle.module_words.specs.declared.protocol.place.ReportKind.{ReportKind}
+use Rattle.module_words.specs.declared.protocol.place.ReportKind.TheVariants.{Columns, Lines, OfProgram}
 use Rattle.module_words.specs.declared.subcommands.table.Subcommand.{Subcommand}
 use Rattle.module_words.specs.declared.subcommands.table.Subcommand.TheVariants as subcommands
 
@@ -71,3 +73,18 @@ name_of subcommands.SaveShow = codes "saveshow"
 name_of subcommands.SaveRemove = codes "saverm"
 name_of subcommands.Help = codes "help"
 name_of subcommands.Version = codes "--version"
+
+-- what the report of each subcommand with these words is like, unless an option says otherwise; if it makes one
+abbrev pub report_of : Subcommand → List Text → Option ReportKind
+report_of subcommands.List words = Some Columns
+report_of subcommands.Avail words = Some Columns
+report_of subcommands.Show words = Some Lines
+report_of subcommands.Whatis words = Some Lines
+report_of subcommands.Keyword words = Some Lines
+report_of subcommands.SaveList words = Some Lines
+report_of subcommands.SaveShow words = Some Lines
+report_of subcommands.Use [] = Some Lines
+report_of subcommands.Help [] = Some OfProgram
+report_of subcommands.Help (word ∷ words) = Some Lines
+report_of subcommands.Version words = Some OfProgram
+report_of other words = None

@@ -35,41 +35,13 @@ fn asks_for_lines(subcommand: Subcommand, words: &[String]) -> bool
     is_of_lines(subcommand, word.as_str()) || asks_for_lines(subcommand, rest)
 }
 
-/// The report of names that a subcommand makes with these words.
-fn names_kind(subcommand: Subcommand, words: &[String]) -> ReportKind
-    ensures { result ≡ spec.names_kind subcommand (map string_bytes words.now) }
-{
-    if asks_for_lines(subcommand, words) {
-        ReportKind::Lines
-    } else {
-        ReportKind::Columns
-    }
-}
-
-/// What the report of a subcommand with these words is like; nothing where it makes none.
+/// What the report of a subcommand with these words is like; nothing where it makes none. Names stand in columns, unless
+/// an option asks for one a line.
 pub fn report_kind(subcommand: Subcommand, words: &[String]) -> Option<ReportKind>
     ensures { result ≡ spec.report_kind subcommand (map string_bytes words.now) }
 {
-    match subcommand {
-        Subcommand::List | Subcommand::Avail => Some(names_kind(subcommand, words)),
-        Subcommand::Show
-        | Subcommand::Whatis
-        | Subcommand::Keyword
-        | Subcommand::SaveList
-        | Subcommand::SaveShow => Some(ReportKind::Lines),
-        Subcommand::Version => Some(ReportKind::OfProgram),
-        Subcommand::Help => Some(if words.is_empty() {
-            ReportKind::OfProgram
-        } else {
-            ReportKind::Lines
-        }),
-        Subcommand::Use => {
-            if words.is_empty() {
-                Some(ReportKind::Lines)
-            } else {
-                None
-            }
-        }
-        _ => None,
+    match subcommand.report(words) {
+        Some(ReportKind::Columns) if asks_for_lines(subcommand, words) => Some(ReportKind::Lines),
+        kind => kind,
     }
 }

@@ -1,8 +1,10 @@
 //! The subcommands with their names.
-ghost use Rattle.std.specs.Prelude.{◌≡◌, map};
+ghost use Rattle.std.specs.Prelude.{◌≡◌, map, string_bytes};
 ghost use Rattle.module_words.specs.subcommands.Subcommands as spec;
-ghost use Rattle.module_words.specs.subcommands.Subcommands.{name_of};
+ghost use Rattle.module_words.specs.subcommands.Subcommands.{name_of, report_of};
 ghost use Rattle.module_words.specs.subcommands.Views.{row_view};
+
+use crate::protocol::ReportKind;
 
 /// A subcommand of `module`.
 #[derive(Clone, Copy, Debug, PartialEq, Eq)]
@@ -59,6 +61,24 @@ impl Subcommand {
             Subcommand::SaveRemove => "saverm",
             Subcommand::Help => "help",
             Subcommand::Version => "--version",
+        }
+    }
+
+    /// What its report with these words is like, unless an option says otherwise; nothing where it makes none.
+    pub(crate) fn report(self, words: &[String]) -> Option<ReportKind>
+        ensures { result ≡ report_of self (map string_bytes words.now) }
+    {
+        match self {
+            Subcommand::List | Subcommand::Avail => Some(ReportKind::Columns),
+            Subcommand::Show
+            | Subcommand::Whatis
+            | Subcommand::Keyword
+            | Subcommand::SaveList
+            | Subcommand::SaveShow => Some(ReportKind::Lines),
+            Subcommand::Use if words.is_empty() => Some(ReportKind::Lines),
+            Subcommand::Help if !words.is_empty() => Some(ReportKind::Lines),
+            Subcommand::Help | Subcommand::Version => Some(ReportKind::OfProgram),
+            _ => None,
         }
     }
 }
