@@ -3,6 +3,7 @@ by hand, and each row says in which line the command stands that no modulefile m
 
 import os
 import pty
+import re
 import select
 import subprocess
 
@@ -11,6 +12,11 @@ import pytest
 from tests.lib.harness import SECONDS, dynamic, refuser, refuses_each, same
 
 COOKIE = "#%Module\n"
+
+# Words that make no request, one for each name of a subcommand of modulecmd whose words can be wrong.
+REFUSED_WORDS = (
+    "load", "add", "unload", "rm", "switch a b c", "swap", "purge x", "list x", "show", "display", "whatis",
+)  # fmt: skip
 
 # A modulefile behind its first line, the line in which its command fails, and that command.
 FILES = [
@@ -187,6 +193,16 @@ def test_the_word_of_older_functions(program, site):
         same((done.returncode, done.stdout, done.stderr), (0, "", f"  in {path}, line 2\n"), "what a log has")
         same(at_terminal(command, env, 0), told(program, words, env), "what a user is told")
     same(at_terminal([program, "sh", "explain", "load"], env, 0), "usage: module load NAME...\n", "a load without names")
+
+
+def test_a_usage_is_that_of_help(program):
+    """Behind words that are refused stands what `help` has of their subcommand, without the option `--auto`."""
+    done = subprocess.run([program, "sh", "help"], capture_output=True, text=True, timeout=SECONDS, check=True)
+    found = re.findall(r"^  ([a-z-]+(?:, [a-z-]+)*)(.*?)(?:  |$)", done.stdout.split("Subcommands:\n")[1], re.MULTILINE)
+    usages = {name: names.split(", ")[0] + rest.replace(" [--auto]", "") for names, rest in found for name in names.split(", ")}
+    for words in REFUSED_WORDS:
+        said = at_terminal([program, "sh", "explain", *words.split()], {}, 0)
+        same(said, f"usage: module {usages[words.split()[0]]}\n", f"what is said behind {words}")
 
 
 def test_an_exchange(program, site):

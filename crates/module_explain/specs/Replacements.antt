@@ -56,7 +56,7 @@ usage_of word =
     else if has word (codes "unload" ∷ codes "rm" ∷ []) then Some (codes "usage: module unload NAME...")
     else if has word (codes "switch" ∷ codes "swap" ∷ []) then Some (codes "usage: module switch [OLD] NEW")
     else if has word (codes "purge" ∷ []) then Some (codes "usage: module purge")
-    else if has word (codes "list" ∷ []) then Some (codes "usage: module list [-t]")
+    else if has word (codes "list" ∷ []) then Some (codes "usage: module list [-t] [TEXT...]")
     else if has word (codes "show" ∷ codes "display" ∷ []) then Some (codes "usage: module show NAME...")
     else if has word (codes "whatis" ∷ []) then Some (codes "usage: module whatis [NAME...]")
     else None

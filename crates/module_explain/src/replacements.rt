@@ -67,7 +67,7 @@ pub(crate) fn usage_of(subcommand: &str) -> Option<&'static str>
         "unload" | "rm" => Some("usage: module unload NAME..."),
         "switch" | "swap" => Some("usage: module switch [OLD] NEW"),
         "purge" => Some("usage: module purge"),
-        "list" => Some("usage: module list [-t]"),
+        "list" => Some("usage: module list [-t] [TEXT...]"),
         "show" | "display" => Some("usage: module show NAME..."),
         "whatis" => Some("usage: module whatis [NAME...]"),
         _ => None,
