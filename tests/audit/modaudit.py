@@ -24,6 +24,7 @@ from instructions import instructions
 
 from tests.audit import certified, losses
 from tests.core import sentence
+from tests.lib.examples import wording
 from tests.lib.harness import HERE, SECONDS, refuses_each, same, true
 from tests.lib.harness import examples as examples_in
 from tests.lib.properties import examples
@@ -33,7 +34,7 @@ from tests.models import standings
 TOP = os.path.dirname(HERE)
 ERROR = "ERROR: {}\n"
 USAGE = "Usage: modaudit [--quiet] [--json] [--without NAME]... [DIR...]"
-WRITING_FAILED = ERROR.format("Writing failed").encode()
+WRITING_FAILED = ERROR.format(wording(64)).encode()
 
 # How many directories a site may have (modaudit(1), Too many directories).
 MOST_DIRECTORIES = 65_536
@@ -240,12 +241,12 @@ HERE_ROWS = {
     "a load that is refused": (
         {"/m/a/1": "is-loaded\nprereq gone other\n"},
         {},
-        [("/m/a/1", "its load is refused: Missing one of 'gone other'", refused("load", "Missing one of 'gone other'"))],
+        [("/m/a/1", f"its load is refused: {wording(52, 'gone other')}", refused("load", wording(52, "gone other")))],
     ),
     "a load that is in conflict with what is loaded": (
         {"/m/a/1": "is-loaded\nconflict b\n", "/m/b/1": ""},
         {"LOADEDMODULES": "b/1", "_LMFILES_": "/m/b/1"},
-        [("/m/a/1", "its load is refused: Conflict with 'b/1'", refused("load", "Conflict with 'b/1'"))],
+        [("/m/a/1", f"its load is refused: {wording(51, 'b/1')}", refused("load", wording(51, "b/1")))],
     ),
     "an unload that is refused": (
         {"/m/a/1": 'if {[module-info mode unload]} {error "not\\tnow"}\n'},
@@ -284,8 +285,8 @@ HERE_ROWS = {
         [
             (
                 "/n/b/1",
-                "its load is refused: Unable to locate a modulefile for 'b/1'",
-                refused("load", "Unable to locate a modulefile for 'b/1'"),
+                f"its load is refused: {wording(42, 'b/1')}",
+                refused("load", wording(42, "b/1")),
             )
         ],
     ),
@@ -302,7 +303,7 @@ HERE_ROWS = {
         {},
         [
             ("/m/b/1", "returns", RETURNS),
-            ("/m/c/1", "its load is refused: Missing one of 'a'", refused("load", "Missing one of 'a'")),
+            ("/m/c/1", f"its load is refused: {wording(52, 'a')}", refused("load", wording(52, "a"))),
             ("/m/e/1", "returns", RETURNS),
             ("/m/f/1", "leaves F", leaves("F")),
             ("/m/g/1", "returns", RETURNS),
@@ -342,7 +343,7 @@ STOPPED = {
     "the body of an if": ("if 1 {\n    setenv A x\n    nope\n}\n", 'invalid command name "nope" (line 2)', 4),
     "the body of an else in a loop": (
         "foreach x {1 2} {\n    if {$x == 1} {\n        setenv A x\n    } else {\n        exit\n    }\n}\n",
-        "Stopped by the modulefile",
+        wording(20),
         6,
     ),
     "a procedure": ("proc f {} {\n    nope\n}\nsetenv A x\nf\n", 'invalid command name "nope" (line 6)', 3),
@@ -354,8 +355,8 @@ STOPPED = {
     "behind a caught error": ("catch {\n    nope\n}\nerror gone\n", "gone (line 5)", 5),
     "behind a continued line": ("setenv A \\\n    x\nerror gone\n", "gone (line 4)", 4),
     "a body that the file has put together": ('set x gone\nif 1 "error $x"\n', "gone (line 3)", 3),
-    "a command with too few words": ("while 1 {\n    setenv A x\n    setenv B\n}\n", "Bad arguments", 4),
-    "a file that is no script": ("setenv A x\nif 1 {\n", "Missing close-brace at byte 25", None),
+    "a command with too few words": ("while 1 {\n    setenv A x\n    setenv B\n}\n", wording(56), 4),
+    "a file that is no script": ("setenv A x\nif 1 {\n", wording(2, 25), None),
 }
 
 
@@ -770,7 +771,7 @@ NOT_UTF8_HERE = (
     ("is-loaded\nsetenv U on\ngetenv V\n", "returns"),
     ("is-loaded\nunsetenv V\n", "returns"),
     ("remove-path V /z\n", "returns"),
-    ("is-loaded\nprereq gone\nsetenv V on\n", "its load is refused: Missing one of 'gone'"),
+    ("is-loaded\nprereq gone\nsetenv V on\n", f"its load is refused: {wording(52, 'gone')}"),
 )
 
 
@@ -939,7 +940,7 @@ def test_starts_that_no_module_can_be_evaluated_over(folder):
         site.says(["a/1\trefused\tBad stack of 'V'\t/m/a/1", "b/1\tcertified\t\t/m/b/1", "# 1 certified of 2", "# 1 refused"])
         site.clear()
     twice = {"LOADEDMODULES": "x:x", "_LMFILES_": "/o/x:/o/x"}
-    Site(folder, {"/m/a/1": "setenv V x\n"}, **twice).refuses("Loaded modules are inconsistent")
+    Site(folder, {"/m/a/1": "setenv V x\n"}, **twice).refuses(wording(35))
 
 
 # Texts.
@@ -1187,7 +1188,7 @@ def test_arguments_that_are_refused(folder):
     site = Site(folder, {"/m/a/1": ""})
     for words in (("-",), ("--nope",), ("-q",), ("/m", "--nope"), ("--quiet=1",), ("--help=1",), ("-h",)):
         site.refuses(f"Bad arguments\n{USAGE}", *words)
-    site.refuses("Bad arguments", b"\xff")
+    site.refuses(wording(56), b"\xff")
     here = os.fsdecode(folder.path)
     for word in (f"{here}/nope", f"{here}/m/a/1", f"{here}/m:{here}/m", "", "nope"):
         site.refuses(f"Not a directory: '{word}'", word)
@@ -1275,7 +1276,7 @@ def test_how_much_may_not_be_read(folder):
     same((done.stderr, done.returncode), (b"", 1), "standard error and status")
     ring(folder, "/m/a/y")
     done = site.run()
-    same((done.stdout, done.stderr, done.returncode), (b"", b"ERROR: Reading failed\n", 2), "one more")
+    same((done.stdout, done.stderr, done.returncode), (b"", f"ERROR: {wording(43)}\n".encode(), 2), "one more")
 
 
 def take_away(paths):
@@ -1297,7 +1298,7 @@ def test_a_site_that_goes_away_meanwhile(folder):
         what = f"of {count} that go away after {delay} s"
         lost = done.stdout.count(b"\trefused\tReading failed\t")
         if done.returncode == 2:
-            same((done.stdout, done.stderr), (b"", b"ERROR: Reading failed\n"), f"what is said {what}")
+            same((done.stdout, done.stderr), (b"", f"ERROR: {wording(43)}\n".encode()), f"what is said {what}")
             true(count > 1000, f"there is an audit {what}")
         else:
             same((done.stderr, done.returncode in (0, 1)), (b"", True), f"standard error and the status {what}")
@@ -1309,7 +1310,7 @@ def test_a_site_that_goes_away_meanwhile(folder):
 
 def test_faults_of_a_whole_audit(folder):
     site = Site(folder, {"/m/a/1": ""}, LOADEDMODULES="x")
-    site.refuses("Loaded modules are inconsistent")
+    site.refuses(wording(35))
 
 
 def test_faults_in_their_order(folder):
@@ -1317,13 +1318,13 @@ def test_faults_in_their_order(folder):
     m, gone, none = (os.fsdecode(real(folder, f"/m{end}")) for end in ("", "/gone", "/none"))
     site.refuses(f"Bad arguments\n{USAGE}", gone, "--nope")
     site.refuses(f"Not a directory: '{gone}'", m, gone, none)
-    site.refuses("Loaded modules are inconsistent", m)
+    site.refuses(wording(35), m)
     del site.env[b"LOADEDMODULES"]
     ring = f"{m}/b"
     os.symlink("b", ring)
     site.refuses(f"Not a directory: '{gone}'", m, gone, none)
-    site.refuses("Reading failed", m, ring, gone)
-    site.refuses("Reading failed", "--json", ring)
+    site.refuses(wording(43), m, ring, gone)
+    site.refuses(wording(43), "--json", ring)
 
 
 def test_the_most_directories_of_a_site(folder):
@@ -1390,15 +1391,15 @@ def audits(folder):
 
 def test_memory_that_is_refused(folder, shim):
     for run in audits(folder):
-        refuses_each(shim("failing_malloc"), run, is_lost_by(b"Out of memory"), "Out of memory")
+        refuses_each(shim("failing_malloc"), run, is_lost_by(wording(31).encode()), wording(31))
 
 
 def test_reads_that_fail(folder, shim):
     """One that fails once is asked again; where all fail from one on, what can't be read is named, or the audit lost."""
     failing = shim("failing_calls")
     for run in audits(folder):
-        is_lost = is_lost_by(b"Reading failed")
-        count = refuses_each(failing, run, is_lost, "Reading failed", [b"FAIL_FROM"])
+        is_lost = is_lost_by(wording(43).encode())
+        count = refuses_each(failing, run, is_lost, wording(43), [b"FAIL_FROM"])
         ample = run({})
         for number in range(1, count):
             found = run({b"LD_PRELOAD": failing, b"FAIL_AT": b"%d" % number})

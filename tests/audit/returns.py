@@ -29,6 +29,7 @@ from hypothesis import strategies as st
 
 from tests.audit import certified, losses
 from tests.core import plain, sentence
+from tests.lib.examples import wording
 from tests.lib.harness import SECONDS, same, true
 from tests.lib.named import content
 from tests.lib.properties import examples, several
@@ -179,7 +180,7 @@ def returned(call, env, words, left):
     """The environment after a command that leaves these names loaded, or none where it is rightly refused."""
     out, said, status = call(env, words)
     needy = in_need(env, left)
-    if needy and (out, status) == ("", 1) and said in [f"ERROR: Still needed by '{name}'\n" for name in needy]:
+    if needy and (out, status) == ("", 1) and said in [f"ERROR: {wording(53, name)}\n" for name in needy]:
         return None
     if status != 0:
         raise Wrong(f"{words} is refused: {said!r}")
@@ -339,16 +340,16 @@ def staying_by(env, words):
 
 
 def conflict_judged(env, words):
-    return next((f"Conflict with '{entry[0]}'" for entry in taken_by(env, words) if entry[2]), None)
+    return next((wording(51, entry[0]) for entry in taken_by(env, words) if entry[2]), None)
 
 
 def need_of_none(env, words):
     needy = [entry[0] for entry in taken_by(env, words) if entry[3]]
-    return f"Still needed by '{needy[0]}'" if words[1] == "purge" and needy else None
+    return wording(53, needy[0]) if words[1] == "purge" and needy else None
 
 
 def need_that_is_met(env, words):
-    return next((f"Still needed by '{entry[0]}'" for entry in staying_by(env, words) if entry[3]), None)
+    return next((wording(53, entry[0]) for entry in staying_by(env, words) if entry[3]), None)
 
 
 def stack_of_others(env, words):
@@ -364,7 +365,7 @@ def stack_of_others(env, words):
 def searched(env, words):
     for name, *_ in taken_by(env, words):
         if not any(os.path.isfile(os.path.join(one, name)) for one in env.get("MODULEPATH", "").split(":")):
-            return f"Unable to locate a modulefile for '{name}'"
+            return wording(42, name)
     return None
 
 
@@ -462,13 +463,13 @@ ROWS = {
         {"a/1": SET, "b/1": "prereq a\n"},
         ["certified"] * 2,
         ["load a", "load b", "unload a"],
-        "Still needed by 'b/1'",
+        wording(53, "b/1"),
         breaks=["load b"],
     ),
-    "a module of the start needs it": Row({"a/1": SET}, ["certified"], ["load a", "unload a"], "Still needed by 'old/1'", NEEDY),
-    "a module of the start is purged": Row({"a/1": SET}, ["certified"], ["load a", "purge"], "No file at '/m/old/1'", OLD),
+    "a module of the start needs it": Row({"a/1": SET}, ["certified"], ["load a", "unload a"], wording(53, "old/1"), NEEDY),
+    "a module of the start is purged": Row({"a/1": SET}, ["certified"], ["load a", "purge"], wording(54, "/m/old/1"), OLD),
     "a name means a module of the start": Row(
-        {"old/2": SET}, ["certified"], ["load old/2", "unload old old"], "No file at '/m/old/1'", OLD
+        {"old/2": SET}, ["certified"], ["load old/2", "unload old old"], wording(54, "/m/old/1"), OLD
     ),
     "the module isn't certified": Row(
         {"a/1": NO.format("[module-info mode unload]")}, ["unstable"], ["load a", "unload a"], "no (line 2)"
@@ -516,20 +517,20 @@ ROWS = {
         {"a/1": "pushenv V x\n"},
         ["certified"],
         ["load a", "__MODULES_PUSHENV_V=x", "unload a"],
-        "Bad stack of 'V'",
+        wording(36, "V"),
         breaks=["__MODULES_PUSHENV_V=x"],
     ),
     "hands change the loaded list": Row(
         {"a/1": SET},
         ["certified"],
         ["load a", "_LMFILES_=", "unload a"],
-        "Loaded modules are inconsistent",
+        wording(35),
         breaks=["_LMFILES_="],
     ),
-    "the file is gone": Row({"a/1": SET}, ["certified"], ["load a", "unload a"], "No file at '/m/a/1'", later={"a/1": None}),
+    "the file is gone": Row({"a/1": SET}, ["certified"], ["load a", "unload a"], wording(54, "/m/a/1"), later={"a/1": None}),
     "the file is another": Row({"a/1": SET}, ["certified"], ["load a", "unload a"], "no (line 2)", later={"a/1": "error no\n"}),
     "the working directory is another": Row(
-        {"a/1": SET}, ["certified"], ["load a", "unload a"], "No file at './m/a/1'", {"MODULEPATH": "./m"}, place="/usr"
+        {"a/1": SET}, ["certified"], ["load a", "unload a"], wording(54, "./m/a/1"), {"MODULEPATH": "./m"}, place="/usr"
     ),
     "a module in conflict has set what is read": Row(
         {"a/1": "conflict b\nsetenv W x\n", "b/1": NO.format("[getenv W] ne {}")},
@@ -539,13 +540,13 @@ ROWS = {
         breaks=["load a"],
     ),
     "the start has another stack": Row(
-        {"a/1": "pushenv V x\n"}, ["certified"], ["load a"], "Bad stack of 'V'", {"__MODULES_PUSHENV_V": "x"}
+        {"a/1": "pushenv V x\n"}, ["certified"], ["load a"], wording(36, "V"), {"__MODULES_PUSHENV_V": "x"}
     ),
     "the shell has no text for it": Row(
         {"a/1": "unsetenv V two\\nlines\n"},
         ["certified"],
         ["load a", "csh unload a"],
-        "Value of 'V' can't be said in this shell",
+        wording(62, "V"),
         {"V": "two\nlines"},
     ),
 }

@@ -11,6 +11,7 @@ from hypothesis import given
 from hypothesis import strategies as st
 
 from tests.faults.device import Command
+from tests.lib.examples import wording
 from tests.lib.harness import NOBODY, Folder, same, true
 from tests.lib.properties import examples
 
@@ -138,7 +139,7 @@ def test_what_is_elsewhere_refuses_nothing(folder):
     os.symlink(".modulerc", folder.at("broken/.modulerc"))
     folder.module("broken/1", "")
     for texts in ([], ["r"], ["app", "lib/r"], ["ring/"], ["broken"]):
-        folder.refuses(["sh", "avail", *texts], "Reading failed")
+        folder.refuses(["sh", "avail", *texts], wording(43))
     reports(folder, ["app/"], ["app/1", "app/2(default)"])
     reports(folder, ["lib/app"], ["lib/app/1(default)"])
     reports(folder, ["broken/2", "pipe"], [])
@@ -148,8 +149,8 @@ def test_a_folder_elsewhere_that_may_not_be_listed(folder):
     some_modules(folder)
     os.chmod(folder.at("lib"), 0)
     env = folder.environment()
-    folder.refuses(["sh", "avail"], "Reading failed", env=env, user=NOBODY)
-    folder.refuses(["sh", "avail", "lib/app"], "Reading failed", env=env, user=NOBODY)
-    folder.refuses(["sh", "avail", "li"], "Reading failed", env=env, user=NOBODY)
+    folder.refuses(["sh", "avail"], wording(43), env=env, user=NOBODY)
+    folder.refuses(["sh", "avail", "lib/app"], wording(43), env=env, user=NOBODY)
+    folder.refuses(["sh", "avail", "li"], wording(43), env=env, user=NOBODY)
     reports(folder, ["app"], ["app/1", "app/2(default)", "application/1"], env=env, user=NOBODY)
     reports(folder, ["lin", "tool"], ["tool"], env=env, user=NOBODY)

@@ -11,6 +11,7 @@ import time
 
 import pytest
 
+from tests.lib.examples import wording
 from tests.lib.harness import HERE, MOST_RUNS, refuses_each, same, true
 from tests.lib.worked import FILES, real, write
 from tests.shells.shells import FAMILIES
@@ -18,7 +19,7 @@ from tests.shells.shells import FAMILIES
 TOP = os.path.dirname(HERE)
 MOST_BYTES = 1_048_576
 ERROR = "ERROR: {}\n"
-WRITING_FAILED = ERROR.format("Writing failed").encode()
+WRITING_FAILED = ERROR.format(wording(64)).encode()
 
 
 class Check:
@@ -112,7 +113,7 @@ def test_a_file_that_asks_and_one_that_is_not_there(folder):
     lines = [
         "1 accepted",
         "2 accepted",
-        "3 refused: Unable to locate a modulefile for 'nope'",
+        f"3 refused: {wording(42, 'nope')}",
         "w/1: Asked",
     ]
     Check(folder).says("load w\nunload w\nload nope\n", lines, out="X='1'; export X;\n", status=1)
@@ -120,7 +121,7 @@ def test_a_file_that_asks_and_one_that_is_not_there(folder):
 
 def test_a_file_whose_directory_another_module_adds(folder):
     lines = [*(f"{number} accepted" for number in range(1, 5)), "mp/1: Plain"]
-    lines.append("ver/1.10-rc: Unable to locate a modulefile for 'ver/1.10-rc'")
+    lines.append(f"ver/1.10-rc: {wording(42, 'ver/1.10-rc')}")
     Check(folder).says("load mp\nload ver\nunload mp\nunload ver\n", lines)
 
 
@@ -151,7 +152,7 @@ def test_each_module_once_in_the_order_of_its_first_load(folder):
     given = "load foo y\nunload foo\nload y foo\nswitch y z\nload y nope\nload c\nlist\npurge\n"
     lines = [
         *(f"{number} accepted" for number in range(1, 5)),
-        "5 refused: Unable to locate a modulefile for 'nope'",
+        f"5 refused: {wording(42, 'nope')}",
         *(f"{number} accepted" for number in range(6, 9)),
         *(f"{name}: Plain" for name in ("foo/1.0", "y/1", "z/1", "c/1")),
     ]
@@ -169,7 +170,7 @@ def test_variables_that_are_not_utf8(folder):
     for shell in FAMILIES:
         check.says("load foo\nunload foo\n", lines, shell=shell)
     check.says("", lines[3:])
-    check.says("nope\n", ["1 refused: Unknown subcommand 'nope'", *lines[3:]], status=1)
+    check.says("nope\n", [f"1 refused: {wording(57, 'nope')}", *lines[3:]], status=1)
     check.env[b"_X1"] = b"fine"
     check.says("list\n", ["1 accepted", lines[3]])
 
@@ -204,11 +205,11 @@ def test_other_characters_belong_to_words(folder):
 def test_lines_that_are_no_request(folder):
     given = "nope x\nload\nlist x\nswitch\nswitch a b c\npurge x\nhelp\nsh load foo\n#load foo\nload foo\n"
     lines = [
-        "1 refused: Unknown subcommand 'nope'",
+        f"1 refused: {wording(57, 'nope')}",
         *(f"{number} refused: Bad arguments" for number in range(2, 7)),
-        "7 refused: Unknown subcommand 'help'",
-        "8 refused: Unknown subcommand 'sh'",
-        "9 refused: Unknown subcommand '#load'",
+        f"7 refused: {wording(57, 'help')}",
+        f"8 refused: {wording(57, 'sh')}",
+        f"9 refused: {wording(57, '#load')}",
         "10 accepted",
         "foo/1.0: Plain",
     ]
@@ -240,16 +241,16 @@ def test_refusals_of_requests(folder):
     given += "load foo\nload deep\n"
     lines = [
         "1 refused: a\nb (line 2)",
-        "2 refused: Stopped by the modulefile",
-        "3 refused: Conflict with 'k/1'",
-        "4 refused: Missing one of 'gcc'",
+        f"2 refused: {wording(20)}",
+        f"3 refused: {wording(51, 'k/1')}",
+        f"4 refused: {wording(52, 'gcc')}",
         "5 accepted",
-        "6 refused: Still needed by 'mpi/1'",
-        "7 refused: Too many commands",
-        "8 refused: Missing close-brace at byte 18",
-        "9 refused: Bad default file '/m/v/.version'",
+        f"6 refused: {wording(53, 'mpi/1')}",
+        f"7 refused: {wording(14)}",
+        f"8 refused: {wording(2, 18)}",
+        f"9 refused: {wording(45, '/m/v/.version')}",
         "10 accepted",
-        "11 refused: Conflict with 'foo/1.0'",
+        f"11 refused: {wording(51, 'foo/1.0')}",
         "gcc/9: Plain",
         "mpi/1: Plain",
         "foo/1.0: Plain",
@@ -261,12 +262,12 @@ def test_refusals_of_requests(folder):
         "__MODULES_LMPREREQ='mpi/1&gcc'; export __MODULES_LMPREREQ;\n"
     )
     Check(folder, files=files).says(given, lines, out, status=1)
-    lines = ["1 refused: Loaded modules are inconsistent", "2 accepted"]
+    lines = [f"1 refused: {wording(35)}", "2 accepted"]
     Check(folder, LOADEDMODULES="a/1").says("load foo\navail\n", lines, status=1)
     check = Check(folder)
     os.remove(real(folder, "/m/x/1"))
     os.symlink("1", real(folder, "/m/x/1"))
-    check.says("load x/1\nlist\n", ["1 refused: Reading failed", "2 accepted"], status=1)
+    check.says("load x/1\nlist\n", [f"1 refused: {wording(43)}", "2 accepted"], status=1)
 
 
 def test_the_text_of_all_requests_for_each_family(folder):
@@ -306,7 +307,7 @@ WHOLE = (
         "load nope foo\nload foo\nload w foo\nunload foo\nload foo\npurge\n",
         "X='1'; export X;\n",
         [
-            "1 refused: Unable to locate a modulefile for 'nope'",
+            f"1 refused: {wording(42, 'nope')}",
             *(f"{number} accepted" for number in range(2, 7)),
             "foo/1.0: Plain",
             "w/1: Asked",
@@ -319,11 +320,11 @@ WHOLE = (
         "nope x\nload\n#load w\nlist\nlist x\nload says\nunload says\n",
         "",
         [
-            "1 refused: Unknown subcommand 'nope'",
-            "2 refused: Bad arguments",
-            "3 refused: Unknown subcommand '#load'",
+            f"1 refused: {wording(57, 'nope')}",
+            f"2 refused: {wording(56)}",
+            f"3 refused: {wording(57, '#load')}",
             "4 accepted",
-            "5 refused: Bad arguments",
+            f"5 refused: {wording(56)}",
             "6 accepted",
             "7 accepted",
             "says/1: Plain",
@@ -343,7 +344,7 @@ WHOLE = (
         "sh",
         "load w\navail\n",
         "",
-        ["1 refused: Loaded modules are inconsistent", "2 accepted"],
+        [f"1 refused: {wording(35)}", "2 accepted"],
         1,
     ),
     ({"PATH": "/bin"}, "csh", "load w\nunload w\n", "setenv X '1';\n", ["1 accepted", "2 accepted", "w/1: Asked"], 0),
@@ -360,7 +361,7 @@ def test_only_the_last_state_has_to_be_said(folder):
     check = Check(folder)
     for shell in ("csh", "tcsh"):
         check.says("load nl\nunload nl\n", ["1 accepted", "2 accepted", "nl/1: Plain"], shell=shell)
-        said = "Value of 'MSG' can't be said in this shell"
+        said = wording(62, "MSG")
         check.refuses(said, words=[shell], given=b"load nope\nload nl\n")
 
 
@@ -370,18 +371,18 @@ def test_only_the_last_state_has_to_be_said(folder):
 def test_arguments_that_are_no_shell(folder):
     check = Check(folder)
     for words in ((), ("sh", "load"), ("nope", "x"), ("sh", ""), ("sh", "sh"), (b"\xff",), ("sh", b"\xff")):
-        check.refuses("Bad arguments", words=words, given=b"load foo\n")
+        check.refuses(wording(56), words=words, given=b"load foo\n")
     for word in ("nope", "", "SH", "sh ", "dash", "--help", "-"):
-        check.refuses(f"Unknown shell '{word}'", words=[word], given=b"load foo\n")
+        check.refuses(wording(63, word), words=[word], given=b"load foo\n")
 
 
 def test_arguments_go_before_the_input(folder):
     check = Check(folder)
     directory = os.open(folder.path, os.O_RDONLY)
-    check.refuses("Bad arguments", words=(), stdin=directory)
-    check.refuses("Bad arguments", words=("nope", "x"), stdin=directory)
-    check.refuses("Unknown shell 'nope'", words=["nope"], stdin=directory)
-    check.refuses("Reading failed", stdin=directory)
+    check.refuses(wording(56), words=(), stdin=directory)
+    check.refuses(wording(56), words=("nope", "x"), stdin=directory)
+    check.refuses(wording(63, "nope"), words=["nope"], stdin=directory)
+    check.refuses(wording(43), stdin=directory)
     os.close(directory)
 
 
@@ -395,16 +396,16 @@ def test_inputs_that_are_too_long(folder):
         same(len((request + filled).encode()), MOST_BYTES, "the longest input")
         done = check.run(request + filled)
         same(done.stderr.decode().splitlines()[:2], lines[:2], f"the longest input, of {fill!r}")
-        check.refuses("Bad arguments", given=(request + filled + "\n").encode())
+        check.refuses(wording(56), given=(request + filled + "\n").encode())
     with open("/dev/zero", "rb", buffering=0) as endless:
-        check.refuses("Bad arguments", stdin=endless)
+        check.refuses(wording(56), stdin=endless)
 
 
 def test_inputs_that_are_not_utf8(folder):
     check = Check(folder)
     for odd in (b"\xff", b"\xe9\n", b"\xc3", b"\xed\xa0\x80\n", b"\xc0\xaf\n", b"\xf4\x90\x80\x80\n"):
-        check.refuses("Bad arguments", given=odd)
-        check.refuses("Bad arguments", given=b"load foo\nload " + odd)
+        check.refuses(wording(56), given=odd)
+        check.refuses(wording(56), given=b"load foo\nload " + odd)
 
 
 def test_a_standard_output_that_takes_nothing(folder):
@@ -415,7 +416,7 @@ def test_a_standard_output_that_takes_nothing(folder):
             done = check.run("load w\n", **streams)
             same((done.stderr, done.returncode), (lines + WRITING_FAILED, 1), f"what is said with {streams}")
             done = check.run("load w\nunload w\nload nope\n", **streams)
-            said = b"1 accepted\n2 accepted\n3 refused: Unable to locate a modulefile for 'nope'\nw/1: Asked\n"
+            said = f"1 accepted\n2 accepted\n3 refused: {wording(42, 'nope')}\nw/1: Asked\n".encode()
             same((done.stderr, done.returncode), (said + WRITING_FAILED, 1), f"what is said with {streams}")
             done = check.run("load foo\nunload foo\n", **streams)
             same((done.stderr, done.returncode), (b"1 accepted\n2 accepted\nfoo/1.0: Plain\n", 0), "without a text")
@@ -436,7 +437,7 @@ def test_streams_that_fail_at_each_byte(folder):
     check = Check(folder)
     given = "load w\nunload w\nload nope\n"
     out = b"X='1'; export X;\n"
-    said = b"1 accepted\n2 accepted\n3 refused: Unable to locate a modulefile for 'nope'\nw/1: Asked\n"
+    said = f"1 accepted\n2 accepted\n3 refused: {wording(42, 'nope')}\nw/1: Asked\n".encode()
     path = os.path.join(folder.path, b"taken")
     for stream, text in (("stdout", out), ("stderr", said)):
         for most in range(len(text)):
@@ -469,7 +470,7 @@ def test_nothing_is_printed_before_the_input_ends(folder):
     same(running.wait(), 1, "status")
     os.set_blocking(both[0], True)
     with os.fdopen(both[0], "rb") as reader:
-        lines = b"1 accepted\n2 refused: Unable to locate a modulefile for 'nope'\n3 accepted\nfoo/1.0: Plain\n"
+        lines = f"1 accepted\n2 refused: {wording(42, 'nope')}\n3 accepted\nfoo/1.0: Plain\n".encode()
         same(reader.read(), lines, "what is written then")
 
 
@@ -516,11 +517,11 @@ def answers_or_loses(check, library, said):
 
 
 def test_memory_that_is_refused(folder, shim):
-    answers_or_loses(Check(folder, PATH="/usr/bin:/bin"), shim("failing_malloc"), b"Out of memory")
+    answers_or_loses(Check(folder, PATH="/usr/bin:/bin"), shim("failing_malloc"), wording(31).encode())
 
 
 def test_reads_that_fail(folder, shim):
-    answers_or_loses(Check(folder, PATH="/usr/bin:/bin"), shim("failing_calls"), b"Reading failed")
+    answers_or_loses(Check(folder, PATH="/usr/bin:/bin"), shim("failing_calls"), wording(43).encode())
 
 
 # Sessions of which each read fails, and each growth of memory is refused: the variables, the lines, what is said of them
@@ -528,7 +529,7 @@ def test_reads_that_fail(folder, shim):
 VERSIONS = {f"/n/ver/{version}": f"setenv V {version}\n" for version in ("1.9", "1.10", "1.10-rc")}
 CHOSEN = {"/n/ver/.version": 'set ModulesVersion "1.9"\n'}
 OTHER = {"/o/ver/1.9": "setenv V other\n"}
-NOT_FOUND = "1 refused: Unable to locate a modulefile for 'nope'"
+NOT_FOUND = f"1 refused: {wording(42, 'nope')}"
 RECORDED = {"V": "1.9", "LOADEDMODULES": "ver/1.9:gone/1", "_LMFILES_": "/n/ver/1.9:/n/gone/1"}
 
 
@@ -577,7 +578,7 @@ LOSSES = {
     "an unload of what is gone": (
         {"modulepath": "/o", "files": {**VERSIONS, **OTHER}, **RECORDED},
         "unload gone\n",
-        ["1 refused: No file at '/n/gone/1'"],
+        [f"1 refused: {wording(54, '/n/gone/1')}"],
         {},
     ),
     # The verdict is on another file than the one that was loaded, and reads it.
@@ -590,7 +591,7 @@ LOSSES = {
     "a verdict on what isn't there": (
         {"modulepath": "/m:/o", "files": VERSIONS},
         "load mp\nload ver/1.9\n",
-        ["1 accepted", "2 accepted", "mp/1: Plain", "ver/1.9: Unable to locate a modulefile for 'ver/1.9'"],
+        ["1 accepted", "2 accepted", "mp/1: Plain", f"ver/1.9: {wording(42, 'ver/1.9')}"],
         AFTER_ADDING,
     ),
 }
@@ -627,12 +628,12 @@ class Losses:
         place = os.fsdecode(self.check.folder.path)
         lines = err.decode().replace(place, "").splitlines()
         lost = [line for line in lines if line.endswith(f": {said}")]
-        others = [*self.sound, "2 refused: Unable to locate a modulefile for 'ver/1.9'"]
+        others = [*self.sound, f"2 refused: {wording(42, 'ver/1.9')}"]
         self.met.update(lost)
         return bool(lost) and all(line in lost or line in others for line in lines) and done == self.ended(lines)
 
 
-@pytest.mark.parametrize("library, said", [("failing_calls", "Reading failed"), ("failing_malloc", "Out of memory")])
+@pytest.mark.parametrize("library, said", [("failing_calls", wording(43)), ("failing_malloc", wording(31))])
 @pytest.mark.parametrize("name", LOSSES)
 def test_a_loss_in(name, library, said, folder, shim):
     how, given, sound, texts = LOSSES[name]
@@ -647,7 +648,7 @@ def test_a_loss_in(name, library, said, folder, shim):
 def test_a_request_alone_whose_memory_is_refused(folder, shim):
     """The requests before it and after it are done."""
     check = Check(folder, PATH="/opt/x/bin:/bin")
-    lines = b"1 accepted\n2 refused: Out of memory\n3 accepted\nx/1: Plain\nz/1: Plain\n"
+    lines = f"1 accepted\n2 refused: {wording(31)}\n3 accepted\nx/1: Plain\nz/1: Plain\n".encode()
     text = text_of(LOADEDMODULES="x/1:z/1", P="/s", _LMFILES_="/m/x/1:/m/z/1", __MODULES_SHARE_PATH="/opt/x/bin:2")
     library = shim("failing_malloc")
 

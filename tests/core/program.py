@@ -12,9 +12,10 @@ import subprocess
 
 import pytest
 
+from tests.lib.examples import wording
 from tests.lib.harness import FOO, NOBODY, loaded, same, true
 
-LOST = b"ERROR: Writing failed\n"
+LOST = f"ERROR: {wording(64)}\n".encode()
 
 
 def loads_foo(folder):
@@ -46,25 +47,25 @@ def test_other_things_than_a_file(folder):
     with socket.socket(socket.AF_UNIX) as listener:
         listener.bind(folder.at("socket/1"))
         for name in ("fifo/1", "zero/1", "tty/1", "dangling/1", "folder/1", "folder", "socket/1", "file/1/x"):
-            folder.refuses(["sh", "load", name], f"Unable to locate a modulefile for '{name}'")
+            folder.refuses(["sh", "load", name], wording(42, name))
 
 
 def test_a_file_that_may_not_be_read(folder):
     os.chmod(folder.module("secret/1", FOO), 0)
-    folder.refuses(["sh", "load", "secret/1"], "Reading failed", user=NOBODY)
+    folder.refuses(["sh", "load", "secret/1"], wording(43), user=NOBODY)
 
 
 def test_a_folder_that_may_not_be_searched(folder):
     folder.module("secret/1", FOO)
     os.chmod(os.path.join(folder.modules, b"secret"), 0)
-    folder.refuses(["sh", "load", "secret/1"], "Reading failed", user=NOBODY)
+    folder.refuses(["sh", "load", "secret/1"], wording(43), user=NOBODY)
 
 
 def test_a_folder_that_may_not_be_listed(folder):
     folder.module("top", "")
     os.makedirs(folder.at("empty/1"))
     os.chmod(os.path.join(folder.modules, b"empty"), 0)
-    folder.refuses(["sh", "avail"], "Reading failed", user=NOBODY)
+    folder.refuses(["sh", "avail"], wording(43), user=NOBODY)
 
 
 def test_what_gnu_find_names_cannot_be_read(folder):
@@ -73,7 +74,7 @@ def test_what_gnu_find_names_cannot_be_read(folder):
     folder.module("shut/1", "")
     os.chmod(os.path.dirname(folder.at("shut/1")), 0)
     for name in ("bad", "shut"):
-        folder.refuses(["sh", "load", name], "Reading failed", user=NOBODY)
+        folder.refuses(["sh", "load", name], wording(43), user=NOBODY)
     find = ["find", "-L", folder.modules, "(", "!", "-readable", "-o", "-type", "d", "!", "-executable", ")"]
     user = {"user": NOBODY, "group": NOBODY, "extra_groups": []} if os.geteuid() == 0 else {}
     done = subprocess.run(find, cwd="/", capture_output=True, check=False, **user)
@@ -123,7 +124,7 @@ def test_a_write_that_failed_is_not_tried_again(folder, shim, error, stream, wor
 
 # Streams that take few bytes and then fail: how many bytes standard output and standard error take, how they fail, and
 # the words; then how the command ends, and what the streams hold. A command that is cut short has not even written why.
-NOT_FOUND = b"ERROR: Unable to locate a modulefile for 'nope'\n"
+NOT_FOUND = f"ERROR: {wording(42, 'nope')}\n".encode()
 FAILURES = {"interrupted": errno.EINTR, "zero": 0, "pipe": errno.EPIPE}
 NARROW = (
     (5, 100, "interrupted", "load foo/1.0", "reported", b"FOO='", LOST),

@@ -9,7 +9,7 @@ import re
 import pytest
 
 from tests.core.plain import printed
-from tests.lib.examples import is_put, is_refusal, put, real
+from tests.lib.examples import is_put, is_refusal, put, real, wording
 from tests.lib.harness import NOBODY, examples, refuses_each, same, true
 
 COOKIE = "#%Module\n"
@@ -174,9 +174,9 @@ def test_versions_and_default_files(disk):
     disk.lists("M: ver/1.9 ver/1.10(default) ver/1.10-rc")
     # A name without a word is no command.
     disk.file("ver/.modulerc", COOKIE + "module-version ver/1.10")
-    disk.locates("ver", "45 Bad default file 'M/ver/.modulerc'")
+    disk.locates("ver", f"45 {wording(45, 'M/ver/.modulerc')}")
     disk.file("ver/.modulerc", COOKIE + "error x")
-    disk.locates("ver", "45 Bad default file 'M/ver/.modulerc'")
+    disk.locates("ver", f"45 {wording(45, 'M/ver/.modulerc')}")
     disk.lists("M: ver/1.9 ver/1.10 ver/1.10-rc")
 
 
@@ -201,7 +201,7 @@ def test_default_files_that_compute(disk):
     disk.lists("M: ver/1.9 ver/1.10(default)")
     for text in ("while 1 {}", "proc f {} {f}; f", "catch {module-alias v ver/1.9}", "setenv A 1", "set v {"):
         disk.file("ver/.modulerc", COOKIE + text + "\n")
-        disk.locates("ver", "45 Bad default file 'M/ver/.modulerc'")
+        disk.locates("ver", f"45 {wording(45, 'M/ver/.modulerc')}")
         disk.lists("M: ver/1.9 ver/1.10")
     disk.locates("ver/1.9", "ver/1.9 M/ver/1.9")
 
@@ -217,7 +217,7 @@ def test_odd_names_are_passed_over(disk):
         disk.file(name)
     disk.lists("M: ok/1")
     disk.locates("ok", "ok/1 M/ok/1")
-    disk.locates("ok/.hidden", "44 Bad module name 'ok/.hidden'")
+    disk.locates("ok/.hidden", f"44 {wording(44, 'ok/.hidden')}")
 
 
 def test_four_levels_and_no_more(disk):
@@ -226,7 +226,7 @@ def test_four_levels_and_no_more(disk):
     disk.file("a/b/c/e/f")
     disk.lists("M: a/b/c/d top")
     disk.locates("a/b/c", "a/b/c/d M/a/b/c/d")
-    disk.locates("a/b", "42 Unable to locate a modulefile for 'a/b'")
+    disk.locates("a/b", f"42 {wording(42, 'a/b')}")
 
 
 def test_links(disk):
@@ -239,8 +239,8 @@ def test_links(disk):
     os.symlink(".", os.path.join(disk.m, "ver", "up"))
     disk.lists("M: ver/1 ver/2 ver/up/1 ver/up/2 ver/up/up/1 ver/up/up/2")
     os.symlink("ring", os.path.join(disk.m, "ring"))
-    disk.locates("ring", "43 Reading failed")
-    disk.lists("43 Reading failed")
+    disk.locates("ring", f"43 {wording(43)}")
+    disk.lists(f"43 {wording(43)}")
 
 
 def test_a_ring_of_links_among_versions(disk):
@@ -249,7 +249,7 @@ def test_a_ring_of_links_among_versions(disk):
     # Versions are read from the greatest down, so the ring below it is never followed.
     disk.locates("ver", "ver/1 M/ver/1")
     os.symlink("2", os.path.join(disk.m, "ver", "2"))
-    disk.locates("ver", "43 Reading failed")
+    disk.locates("ver", f"43 {wording(43)}")
     # A default file that names a version needs no other one.
     disk.file("ver/.version", COOKIE + "set ModulesVersion 1")
     disk.locates("ver", "ver/1 M/ver/1")
@@ -265,37 +265,37 @@ def test_directories_and_pipes_in_place_of_files(disk):
     os.mkfifo(os.path.join(disk.m, "pipe"))
     disk.locates("ver", "ver/1 M/ver/1")
     disk.lists("M: ver/1")
-    disk.locates("pipe", "42 Unable to locate a modulefile for 'pipe'")
+    disk.locates("pipe", f"42 {wording(42, 'pipe')}")
 
 
 def test_what_may_not_be_read(disk):
     disk.file("ver/1")
     secret = disk.file("ver/2")
     os.chmod(secret, 0)
-    disk.locates("ver", "43 Reading failed", user=NOBODY)
-    disk.lists("43 Reading failed", user=NOBODY)
+    disk.locates("ver", f"43 {wording(43)}", user=NOBODY)
+    disk.lists(f"43 {wording(43)}", user=NOBODY)
     disk.locates("ver/1", "ver/1 M/ver/1", user=NOBODY)
     disk.file("ver/.version", COOKIE + "set ModulesVersion 1")
     disk.locates("ver", "ver/1 M/ver/1", user=NOBODY)
     os.chmod(secret, 0o644)
     closed = os.path.join(disk.m, "closed")
     os.mkdir(closed, 0)
-    disk.locates("closed", "43 Reading failed", user=NOBODY)
-    disk.lists("43 Reading failed", user=NOBODY)
+    disk.locates("closed", f"43 {wording(43)}", user=NOBODY)
+    disk.lists(f"43 {wording(43)}", user=NOBODY)
     disk.locates("ver", "ver/1 M/ver/1", user=NOBODY)
 
 
 def test_names_and_texts_that_are_not_utf8(disk):
     disk.file("raw/1", COOKIE.encode() + b"\xff")
-    disk.locates("raw", "46 Not UTF-8: 'M/raw/1'")
+    disk.locates("raw", f"46 {wording(46, 'M/raw/1')}")
     disk.lists("M: raw/1")
     disk.file("raw/.version", COOKIE.encode() + b"\xff")
-    disk.locates("raw", "45 Bad default file 'M/raw/.version'")
+    disk.locates("raw", f"45 {wording(45, 'M/raw/.version')}")
     disk.file(b"odd/\xff")
     disk.file("odd/1")
-    disk.locates("odd", "43 Reading failed")
+    disk.locates("odd", f"43 {wording(43)}")
     disk.locates("odd/1", "odd/1 M/odd/1")
-    disk.lists("43 Reading failed")
+    disk.lists(f"43 {wording(43)}")
 
 
 def test_a_directory_of_many_names(disk, shim):
@@ -328,4 +328,4 @@ def test_growths_of_memory_that_are_refused(disk, shim, words):
         variables = {os.fsdecode(name): os.fsdecode(value) for name, value in asked.items()}
         return Search(disk.folder, words, disk.m, **variables).done
 
-    refuses_each(shim("failing_malloc"), run, ("", "ERROR: Out of memory\n", 1).__eq__, words)
+    refuses_each(shim("failing_malloc"), run, ("", f"ERROR: {wording(31)}\n", 1).__eq__, words)

@@ -24,6 +24,7 @@ import pytest
 from hypothesis import given
 from hypothesis import strategies as st
 
+from tests.lib.examples import wording
 from tests.lib.harness import same, true
 from tests.lib.properties import SPELLINGS, Spelling, examples, several
 from tests.models import runs as model
@@ -125,7 +126,7 @@ class Module:
                 ran.records.append(record)
             ran.said.extend([f"{line[1]}\n"] if line[0] == "says" else [])
             stops = stops or line[0] == "exits"
-        return ran._replace(fault="Stopped by the modulefile" if stops else None)
+        return ran._replace(fault=wording(20) if stops else None)
 
 
 def edits(env, way, name, record):
@@ -362,7 +363,7 @@ def holds(group, names):
 
 def needs_name(name):
     if not model.is_name(name):
-        raise Refusal(f"Bad module name '{name}'")
+        raise Refusal(wording(44, name))
 
 
 class Step:
@@ -402,7 +403,7 @@ class Step:
             return
         found = self.tree.found(self.env.get("MODULEPATH", ""), name)
         if found is None:
-            raise Refusal(f"Unable to locate a modulefile for '{name}'")
+            raise Refusal(wording(42, name))
         name, path = found
         if name in loaded:
             return
@@ -411,14 +412,14 @@ class Step:
         entry = model.entry_of((name, path, records))
         for other in entries:
             if any(matches(one, name) for one in other[2]):
-                raise Refusal(f"Conflict with '{other[0]}'")
+                raise Refusal(wording(51, other[0]))
         for one in entry[2]:
             for other in loaded:
                 if matches(one, other):
-                    raise Refusal(f"Conflict with '{other}'")
+                    raise Refusal(wording(51, other))
         for group in entry[3]:
             if not holds(group, loaded):
-                raise Refusal(f"Missing one of '{' '.join(group)}'")
+                raise Refusal(wording(52, " ".join(group)))
         model.write_loaded(self.env, entries + [entry])
 
     def unload(self, name):
@@ -429,7 +430,7 @@ class Step:
             return
         taken = taken[-1]
         if taken[1] not in self.tree.modules:
-            raise Refusal(f"No file at '{taken[1]}'")
+            raise Refusal(wording(54, taken[1]))
         self.edited("unload", taken[0], taken[1])
         model.write_loaded(self.env, [entry for entry in entries if entry[0] != taken[0]])
 
@@ -439,7 +440,7 @@ class Step:
         now = self.names()
         for name, _, _, groups in model.loaded_in(self.env):
             if name in before and any(holds(group, before) and not holds(group, now) for group in groups):
-                raise Refusal(f"Still needed by '{name}'")
+                raise Refusal(wording(53, name))
 
     def make(self, words):
         self.shell, subcommand, *names = words
@@ -664,7 +665,7 @@ class Session:
         unsaid = self.unsaid(before[0], words[0])
         if unsaid:
             self.env, self.left = before
-            self.commands.append((words, self.env, f"ERROR: Value of '{unsaid}' can't be said in this shell\n", 1))
+            self.commands.append((words, self.env, f"ERROR: {wording(62, unsaid)}\n", 1))
             return
         self.commands.append((words, self.env, "".join(step.said), 0))
 

@@ -11,13 +11,14 @@ import subprocess
 
 import pytest
 
+from tests.lib.examples import wording
 from tests.lib.harness import FOO, loaded, same, true
 
 # Errors that tell of no absence, and those that tell of none where the same path was seen before.
 ERRORS = (errno.EIO, errno.EACCES, errno.EMFILE, errno.ELOOP, errno.ESTALE, errno.EINVAL)
 BEHIND_A_LOOK = (errno.ENOENT, errno.ENOTDIR)
 
-REFUSED = (b"", b"ERROR: Reading failed\n", 1)
+REFUSED = (b"", f"ERROR: {wording(43)}\n".encode(), 1)
 
 # Where this can't be read, the program asks the C library for its environment.
 OWN_ENVIRONMENT = b"/proc/self/environ"
@@ -186,7 +187,7 @@ def test_a_file_that_changes_meanwhile(folder, library):
     env = {**folder.environment(PATH="/bin"), b"LD_PRELOAD": library}
     accepted = folder.run("sh", "load", "foo/1.0", env=env)
     same((accepted.stderr, accepted.returncode), (b"", 0), "a file that stays")
-    text = "Unable to locate a modulefile for 'foo/1.0'"
+    text = wording(42, "foo/1.0")
     folder.refuses(["sh", "load", "foo/1.0"], text, env={**env, b"OTHER_AT": b"1"})
     folder.accepts(["sh", "load", "foo/1.0"], accepted.stdout, env={**env, b"OTHER_AT": b"2"})
 
@@ -237,6 +238,6 @@ def test_files_that_are_no_modules_and_huge(folder):
         true(memory < MOST, f"{words} took {memory} bytes of memory")
     for words in (["sh", "load", "core"], ["sh", "load", "foo/core"]):
         found, memory = measured(folder, words, env)
-        text = f"ERROR: Unable to locate a modulefile for '{words[2]}'\n"
+        text = f"ERROR: {wording(42, words[2])}\n"
         same(found, (b"", text.encode(), 1), f"{words}, a file of 50 GB")
         true(memory < MOST, f"{words} took {memory} bytes of memory")

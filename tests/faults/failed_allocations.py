@@ -15,6 +15,7 @@ import subprocess
 
 import pytest
 
+from tests.lib.examples import wording
 from tests.lib.harness import FOO, HERE, SECONDS, encoded, loaded, refuses_each, same
 from tests.lib.worked import FILES
 
@@ -34,7 +35,7 @@ def answers_or_refuses(folder, shim):
             done = folder.run(*words, env={**env, **asked})
             return done.stdout, done.stderr, done.returncode
 
-        refuses_each(shim("failing_malloc"), run, (b"", b"ERROR: Out of memory\n", 1).__eq__, words)
+        refuses_each(shim("failing_malloc"), run, (b"", f"ERROR: {wording(31)}\n".encode(), 1).__eq__, words)
 
     return judge
 
@@ -128,12 +129,12 @@ def test_the_worked_unload_with_too_little_memory(folder, answers_or_refuses):
 def test_the_worked_needs_with_too_little_memory(folder, answers_or_refuses):
     env = worked(folder)
     answers_or_refuses(["sh", "load", "gcc", "mpi"], env)
-    folder.refuses(["sh", "load", "mpi"], "Missing one of 'gcc'", env=env)
+    folder.refuses(["sh", "load", "mpi"], wording(52, "gcc"), env=env)
     answers_or_refuses(["sh", "load", "mpi"], env)
     paths = folder.path + b"/m/gcc/9:" + folder.path + b"/m/mpi/1"
     lists = {b"LOADEDMODULES": b"gcc/9:mpi/1", b"_LMFILES_": paths, b"__MODULES_LMPREREQ": b"mpi/1&gcc"}
     env = {**env, **lists, b"GCC": b"9", b"MPI": b"1"}
-    folder.refuses(["sh", "unload", "gcc"], "Still needed by 'mpi/1'", env=env)
+    folder.refuses(["sh", "unload", "gcc"], wording(53, "mpi/1"), env=env)
     for words in (["unload", "gcc"], ["unload", "gcc", "mpi"]):
         answers_or_refuses(["sh", *words], env)
 

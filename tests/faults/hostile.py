@@ -14,6 +14,7 @@ import pytest
 from hypothesis import given
 from hypothesis import strategies as st
 
+from tests.lib.examples import wording
 from tests.lib.harness import FOO, NOBODY, encoded, loaded, same, true
 from tests.lib.properties import examples, several
 from tests.lib.worked import FILES
@@ -95,8 +96,8 @@ def test_a_ring_of_links_in_modulepath(folder):
     os.symlink(b"ring", os.path.join(folder.path, b"gnir"))
     folder.module("foo/1", "setenv A b\n")
     for env in (path_of(ring), path_of(ring, folder.modules), path_of(os.path.join(ring, b"x"), folder.modules)):
-        folder.refuses(["sh", "load", "foo/1"], "Reading failed", env=env)
-        folder.refuses(["sh", "avail"], "Reading failed", env=env)
+        folder.refuses(["sh", "load", "foo/1"], wording(43), env=env)
+        folder.refuses(["sh", "avail"], wording(43), env=env)
     names, paths = lists_of(b"foo/1", folder.at("foo/1"))
     env = path_of(folder.modules, ring)
     folder.accepts(["sh", "load", "foo/1"], b"A='b'; export A;\n" + names + paths, env=env)
@@ -106,16 +107,16 @@ def test_a_ring_of_links_among_versions(folder):
     folder.module("d/1", "setenv A b\n")
     os.symlink("3", folder.at("d/2"))
     os.symlink("2", folder.at("d/3"))
-    folder.refuses(["sh", "load", "d"], "Reading failed")
-    folder.refuses(["sh", "load", "d/2"], "Reading failed")
-    folder.refuses(["sh", "avail"], "Reading failed")
+    folder.refuses(["sh", "load", "d"], wording(43))
+    folder.refuses(["sh", "load", "d/2"], wording(43))
+    folder.refuses(["sh", "avail"], wording(43))
     loads(folder, "d/1", "d/1", folder.at("d/1"), folder.environment(A="b"))
 
 
 def test_a_ring_of_links_as_default_file(folder):
     folder.module("d/1", "")
     os.symlink(".modulerc", folder.at("d/.modulerc"))
-    folder.refuses(["sh", "load", "d"], "Reading failed")
+    folder.refuses(["sh", "load", "d"], wording(43))
     loads(folder, "d/1", "d/1", folder.at("d/1"), folder.environment())
 
 
@@ -131,7 +132,7 @@ def test_a_folder_that_links_to_itself(folder):
 def test_dangling_links(folder):
     os.symlink("nothing", folder.at("d/2"))
     os.symlink("nothing", folder.at("d/.modulerc"))
-    folder.refuses(["sh", "load", "d"], "Unable to locate a modulefile for 'd'")
+    folder.refuses(["sh", "load", "d"], wording(42, "d"))
     reports(folder, ["sh", "avail"], "", folder.environment())
     folder.module("d/1", "")
     loads(folder, "d", "d/1", folder.at("d/1"), folder.environment())
@@ -145,8 +146,8 @@ def test_a_folder_where_a_file_should_be(folder):
     folder.module("d/1/x", "setenv A b\n")
     folder.module("e/9/y", "")
     os.makedirs(folder.at("f/1"))
-    folder.refuses(["sh", "load", "d"], "Unable to locate a modulefile for 'd'")
-    folder.refuses(["sh", "load", "f/1"], "Unable to locate a modulefile for 'f/1'")
+    folder.refuses(["sh", "load", "d"], wording(42, "d"))
+    folder.refuses(["sh", "load", "f/1"], wording(42, "f/1"))
     env = folder.environment(A="b")
     loads(folder, "d/1", "d/1/x", folder.at("d/1/x"), env)
     os.makedirs(folder.at("d/.modulerc"))
@@ -160,9 +161,9 @@ def test_a_folder_where_a_file_should_be(folder):
 def test_a_file_where_a_folder_should_be(folder):
     path = folder.module("foo/1", FOO)
     for name in ("foo/1/x", "foo/1/x/y"):
-        folder.refuses(["sh", "load", name], f"Unable to locate a modulefile for '{name}'")
+        folder.refuses(["sh", "load", name], wording(42, name))
     env = path_of(path, os.path.join(path, b"below"), b"/dev/null", b"/nowhere")
-    folder.refuses(["sh", "load", "foo/1"], "Unable to locate a modulefile for 'foo/1'", env=env)
+    folder.refuses(["sh", "load", "foo/1"], wording(42, "foo/1"), env=env)
     reports(folder, ["sh", "avail"], "", env)
 
 
@@ -182,7 +183,7 @@ def test_things_that_would_not_end(folder):
         path = folder.at(f"d/{version}")
         env = folder.environment(LOADEDMODULES=f"d/{version}", _LMFILES_=path)
         folder.refuses(["sh", "unload", "d"], b"No file at '" + path + b"'", env=env)
-    folder.refuses(["sh", "load", "d"], "Unable to locate a modulefile for 'd'")
+    folder.refuses(["sh", "load", "d"], wording(42, "d"))
     folder.module("d/1", "")
     loads(folder, "d", "d/1", folder.at("d/1"), folder.environment())
     reports(folder, ["sh", "avail"], folder.modules + b":\nd/1\n", folder.environment())
@@ -205,15 +206,15 @@ def test_files_and_folders_that_may_not_be_read(folder):
     os.chmod(os.path.dirname(folder.at("g/1")), 0)
     env = folder.environment()
     for name in ("d", "d/2", "e", "f", "g", "g/1"):
-        folder.refuses(["sh", "load", name], "Reading failed", env=env, user=NOBODY)
+        folder.refuses(["sh", "load", name], wording(43), env=env, user=NOBODY)
     for name in ("d/1", "e/1", "f/1"):
         done = folder.run("sh", "load", name, env=env, user=NOBODY)
         same((done.stderr, done.returncode), (b"", 0), f"load {name}")
-    folder.refuses(["sh", "avail"], "Reading failed", env=env, user=NOBODY)
+    folder.refuses(["sh", "avail"], wording(43), env=env, user=NOBODY)
     held = folder.environment(LOADEDMODULES="d/2", _LMFILES_=folder.at("d/2"))
-    folder.refuses(["sh", "unload", "d"], "Reading failed", env=held, user=NOBODY)
+    folder.refuses(["sh", "unload", "d"], wording(43), env=held, user=NOBODY)
     os.chmod(folder.modules, 0)
-    folder.refuses(["sh", "load", "d/1"], "Reading failed", env=env, user=NOBODY)
+    folder.refuses(["sh", "load", "d/1"], wording(43), env=env, user=NOBODY)
     os.chmod(folder.modules, 0o755)
     for name in ("f", "g"):
         os.chmod(os.path.join(folder.modules, name.encode()), 0o755)
@@ -233,17 +234,17 @@ def test_names_as_long_as_the_system_takes(folder):
     text = folder.modules + b":\n" + name.encode() + b"\n" + deep.encode() + b"\n"
     reports(folder, ["sh", "avail"], text, folder.environment())
     for count in (256, 4096, 100_000):
-        folder.refuses(["sh", "load", "a" * count], "Reading failed")
+        folder.refuses(["sh", "load", "a" * count], wording(43))
     long = "/".join(["a" * 255] * 5)
-    folder.refuses(["sh", "load", long], f"Bad module name '{long}'")
+    folder.refuses(["sh", "load", long], wording(44, long))
 
 
 def test_paths_longer_than_the_system_takes(folder):
     folder.module("foo/1", "")
     long = b"/x" * 2500
     for env in (path_of(long), path_of(long, folder.modules)):
-        folder.refuses(["sh", "load", "foo/1"], "Reading failed", env=env)
-        folder.refuses(["sh", "avail"], "Reading failed", env=env)
+        folder.refuses(["sh", "load", "foo/1"], wording(43), env=env)
+        folder.refuses(["sh", "avail"], wording(43), env=env)
     loads(folder, "foo/1", "foo/1", folder.at("foo/1"), path_of(folder.modules, long))
     long = folder.modules + b"/." * 1500
     loads(folder, "foo", "foo/1", long + b"/foo/1", path_of(long))
@@ -256,9 +257,9 @@ def test_ill_spelled_names_of_each_request(folder):
     names += ["a\v", "a\f", "~/.x", ".x"]
     for name in names:
         for word in ("load", "unload", "show", "whatis", "add", "rm", "display"):
-            folder.refuses(["sh", word, name], f"Bad module name '{name}'")
-        folder.refuses(["sh", "swap", "foo", name], f"Bad module name '{name}'")
-        folder.refuses(["sh", "switch", name, "foo"], f"Bad module name '{name}'")
+            folder.refuses(["sh", word, name], wording(44, name))
+        folder.refuses(["sh", "swap", "foo", name], wording(44, name))
+        folder.refuses(["sh", "switch", name, "foo"], wording(44, name))
         done = within(folder, ["sh", "avail", name], folder.environment())
         same((done.stdout, done.returncode), (b"", 0), f"avail {name!r}")
 
@@ -270,7 +271,7 @@ def test_odd_names_that_are_well_spelled(folder):
         shown = name.encode().replace(b"'", b"'\\''")
         loads(folder, name, shown, folder.modules.replace(b"'", b"'\\''") + b"/" + shown, folder.environment())
         missing = name + "0"
-        folder.refuses(["sh", "load", missing], f"Unable to locate a modulefile for '{missing}'")
+        folder.refuses(["sh", "load", missing], wording(42, missing))
 
 
 def test_a_module_named_like_an_option(folder):
@@ -278,17 +279,17 @@ def test_a_module_named_like_an_option(folder):
     folder.module("foo/--force", "")
     loads(folder, "-f", "-f", folder.at("-f"), folder.environment())
     loads(folder, "foo", "foo/--force", folder.at("foo/--force"), folder.environment())
-    folder.refuses(["sh", "load", "--force"], "Unable to locate a modulefile for '--force'")
-    folder.refuses(["sh", "load", "-"], "Unable to locate a modulefile for '-'")
-    folder.refuses(["sh", "load", "--", "-f"], "Unable to locate a modulefile for '--'")
-    folder.refuses(["sh", "-f", "load"], "Unknown subcommand '-f'")
-    folder.refuses(["--version"], "Unknown shell '--version'")
+    folder.refuses(["sh", "load", "--force"], wording(42, "--force"))
+    folder.refuses(["sh", "load", "-"], wording(42, "-"))
+    folder.refuses(["sh", "load", "--", "-f"], wording(42, "--"))
+    folder.refuses(["sh", "-f", "load"], wording(57, "-f"))
+    folder.refuses(["--version"], wording(63, "--version"))
     env = folder.environment(LOADEDMODULES="-f", _LMFILES_=folder.at("-f"))
     folder.accepts(["sh", "unload", "-f"], b"unset LOADEDMODULES;\nunset _LMFILES_;\n", env=env)
     reports(folder, ["sh", "list"], "Currently Loaded Modulefiles:\n-f\n", env)
     reports(folder, ["sh", "avail", "-"], folder.modules + b":\n-f\n", folder.environment())
     folder.module("c/1", "conflict -f\n")
-    folder.refuses(["sh", "load", "c/1"], "Bad arguments")
+    folder.refuses(["sh", "load", "c/1"], wording(56))
 
 
 def test_words_that_are_not_utf8(folder):
@@ -303,7 +304,7 @@ def test_words_that_are_not_utf8(folder):
         [b"sh", b"purge", b"\xff"],
         [b"elvish", b"load", b"\xff"],
     ):
-        folder.refuses(words, "Bad arguments")
+        folder.refuses(words, wording(56))
 
 
 def test_entries_of_folders_that_are_passed_over(folder):
@@ -319,8 +320,8 @@ def test_entries_of_folders_that_are_passed_over(folder):
 def test_entries_that_are_not_utf8(folder):
     folder.module("d/1", "")
     folder.module(b"d/\xff", b"")
-    folder.refuses(["sh", "load", "d"], "Reading failed")
-    folder.refuses(["sh", "avail"], "Reading failed")
+    folder.refuses(["sh", "load", "d"], wording(43))
+    folder.refuses(["sh", "avail"], wording(43))
     loads(folder, "d/1", "d/1", folder.at("d/1"), folder.environment())
 
 
@@ -329,8 +330,8 @@ def test_entries_that_are_not_utf8(folder):
 
 def test_no_modulepath(folder):
     for env in ({}, encoded({"MODULEPATH": ""}), encoded({"MODULEPATH": ":::"}), encoded({"MODULEPATH": b"\xff"})):
-        folder.refuses(["sh", "load", "foo"], "Unable to locate a modulefile for 'foo'", env=env)
-        folder.refuses(["sh", "show", "foo"], "Unable to locate a modulefile for 'foo'", env=env)
+        folder.refuses(["sh", "load", "foo"], wording(42, "foo"), env=env)
+        folder.refuses(["sh", "show", "foo"], wording(42, "foo"), env=env)
         reports(folder, ["sh", "avail"], "", env)
         reports(folder, ["sh", "list"], "No Modulefiles Currently Loaded.\n", env)
         reports(folder, ["sh", "purge"], "", env)
@@ -358,7 +359,7 @@ def test_relative_entries(folder):
     done = within(folder, ["sh", "unload", "foo"], held, cwd=folder.path)
     same((done.stdout, done.stderr), (b"unset A;\nunset LOADEDMODULES;\nunset _LMFILES_;\n", b""), "an unload there")
     done = within(folder, ["sh", "unload", "foo"], held, cwd=b"/")
-    same((done.stdout, done.stderr), (b"", b"ERROR: No file at 'm/foo/1'\n"), "an unload elsewhere")
+    same((done.stdout, done.stderr), (b"", f"ERROR: {wording(54, 'm/foo/1')}\n".encode()), "an unload elsewhere")
 
 
 def test_a_modulepath_of_many_folders(folder):
@@ -373,12 +374,12 @@ def test_a_modulepath_of_many_folders(folder):
 
 def test_files_that_are_too_large(folder):
     folder.module("big/1", b"#" * 2_000_000 + b"\n")
-    folder.refuses(["sh", "load", "big"], "Text is too long")
-    folder.refuses(["sh", "show", "big/1"], "Text is too long")
+    folder.refuses(["sh", "load", "big"], wording(9))
+    folder.refuses(["sh", "show", "big/1"], wording(9))
     held = folder.environment(LOADEDMODULES="big/1", _LMFILES_=folder.at("big/1"))
-    folder.refuses(["sh", "unload", "big"], "Text is too long", env=held)
+    folder.refuses(["sh", "unload", "big"], wording(9), env=held)
     folder.file("plain/1", b"#" * 2_000_000)
-    folder.refuses(["sh", "load", "plain/1"], "Unable to locate a modulefile for 'plain/1'")
+    folder.refuses(["sh", "load", "plain/1"], wording(42, "plain/1"))
     folder.module("d/1", "")
     folder.module("d/.version", b"#" * 2_000_000 + b"\n")
     folder.refuses(["sh", "load", "d"], b"Bad default file '" + folder.at("d/.version") + b"'")
@@ -393,7 +394,7 @@ def test_a_file_of_many_commands(folder):
     done = within(folder, ["sh", "load", "many"], folder.environment())
     same((done.stderr, done.returncode, done.stdout.count(b"\n")), (b"", 0, count + 2), "many commands")
     folder.module("more/1", "set a b\n" * 100_001)
-    folder.refuses(["sh", "load", "more"], "Too many commands")
+    folder.refuses(["sh", "load", "more"], wording(14))
     folder.module("full/1", "set a b\n" * 100_000)
     loads(folder, "full", "full/1", folder.at("full/1"), folder.environment())
 
@@ -410,7 +411,7 @@ def test_commands_of_many_words(folder):
     for text in (f"conflict {words}\n", "conflict b\n" * 95_000, "while 1 {conflict b; if {[incr i] > 20000} break}\n"):
         folder.module("c/1", text)
         folder.accepts(["sh", "load", "c"], names + paths + written, env=held)
-        folder.refuses(["sh", "load", "b", "c"], "Conflict with 'b/1'", env=held)
+        folder.refuses(["sh", "load", "b", "c"], wording(51, "b/1"), env=held)
     folder.module("c/1", f"prereq {words}\n")
     folder.refuses(["sh", "load", "c"], "Missing one of '" + " ".join(["b"] * many) + "'", env=held)
     folder.module("c/1", f"prereq a {words}\n")
@@ -434,17 +435,17 @@ def test_variables_of_many_parts(folder):
     for name, text, words, said in (
         ("__MODULES_LMCONFLICT", "a/1&" + "&".join(["b"] * 60_000), ["load", "c/1"], ""),
         ("__MODULES_LMCONFLICT", "a/1&" + "&".join(f"b{n}" for n in range(15_000)), ["unload", "x"], ""),
-        ("__MODULES_LMCONFLICT", "a/1&" + "&".join(["b"] * 60_000 + ["c"]), ["load", "c/1"], "Conflict with 'a/1'"),
-        ("__MODULES_LMPREREQ", "a/1&" + "&".join(["x"] * 60_000), ["unload", "x"], "Still needed by 'a/1'"),
-        ("__MODULES_LMPREREQ", "a/1&" + "|".join(["b"] * 59_000 + ["x"]), ["unload", "x"], "Still needed by 'a/1'"),
+        ("__MODULES_LMCONFLICT", "a/1&" + "&".join(["b"] * 60_000 + ["c"]), ["load", "c/1"], wording(51, "a/1")),
+        ("__MODULES_LMPREREQ", "a/1&" + "&".join(["x"] * 60_000), ["unload", "x"], wording(53, "a/1")),
+        ("__MODULES_LMPREREQ", "a/1&" + "|".join(["b"] * 59_000 + ["x"]), ["unload", "x"], wording(53, "a/1")),
         ("__MODULES_LMPREREQ", "a/1&" + "|".join(["b"] * 59_000 + ["x"]), ["purge"], ""),
         ("__MODULES_LMPREREQ", ":" * 120_000, ["load", "c/1"], ""),
         ("P", ":" * 120_000, ["load", "c/1"], ""),
         ("__MODULES_SHARE_P", "b:2:" * 30_000, ["unload", "x"], ""),
         ("__MODULES_PUSHENV_S", ":".join(f"o{n}&v" for n in range(13_000)), ["load", "c/1"], ""),
         ("__MODULES_PUSHENV_S", "o&" + "\\" * 120_000, ["load", "c/1"], ""),
-        ("MODULEPATH", ":" * 120_000, ["load", "c/1"], "Unable to locate a modulefile for 'c/1'"),
-        ("MODULEPATH", ":".join(["/x"] * 40_000), ["load", "c"], "Unable to locate a modulefile for 'c'"),
+        ("MODULEPATH", ":" * 120_000, ["load", "c/1"], wording(42, "c/1")),
+        ("MODULEPATH", ":".join(["/x"] * 40_000), ["load", "c"], wording(42, "c")),
     ):
         folder.module("c/1", "pushenv S v\nappend-path P b\n")
         done = ends_well(folder, ["sh", *words], {**base, name.encode(): text.encode()}, f"{words} with a long {name}")
@@ -468,8 +469,8 @@ def test_folders_deeper_than_names(folder):
     reports(folder, ["sh", "avail"], folder.modules + b":\na/b/c/d\n", folder.environment())
     loads(folder, "a/b/c", "a/b/c/d", folder.at("a/b/c/d"), folder.environment())
     for name in ("e/f/g/h", "e/f/g", "p/p/p/p"):
-        folder.refuses(["sh", "load", name], f"Unable to locate a modulefile for '{name}'")
-    folder.refuses(["sh", "load", "e/f/g/h/i"], "Bad module name 'e/f/g/h/i'")
+        folder.refuses(["sh", "load", name], wording(42, name))
+    folder.refuses(["sh", "load", "e/f/g/h/i"], wording(44, "e/f/g/h/i"))
 
 
 def test_many_names_in_one_command(folder):
@@ -541,25 +542,25 @@ def test_default_files_without_end(folder):
 def test_scripts_that_nest(folder):
     deep = "set s {}\nfor {set i 0} {$i < 300} {incr i} {set s [list if 1 $s]}\n"
     rows = (
-        ("[" * 100, "Missing close-bracket at byte 108"),
-        ("[" * 201 + "]" * 201, "Text is nested too deeply"),
-        ("setenv A [expr {" + "-" * 201 + "1}]\n", "Text is nested too deeply"),
-        ("setenv A [expr {" + "(" * 201 + "1" + ")" * 201 + "}]\n", "Text is nested too deeply"),
-        ("setenv A [expr {" + "1+" * 201 + "1}]\n", "Text is nested too deeply"),
-        ("proc f {} {catch {f}; f}\nf\n", "Too many nested evaluations"),
-        ("proc f {n} {foreach i {1 2} {if 1 {switch a {a {f $n}}}}}\nf 1\n", "Too many nested evaluations"),
-        (deep + "eval $s\n", "'eval' is left out"),
-        (deep + "if 1 $s\n", "Too many nested evaluations"),
-        ("set s xx\nwhile 1 {append s $s}\n", "A value is too long"),
-        ("setenv A [string repeat x 1048577]\n", "A value is too long"),
-        ("setenv A [string repeat xyz 9223372036854775807]\n", "A value is too long"),
-        ("setenv A [string repeat x 9223372036854775808]\n", "A number is too large"),
-        ("catch {while 1 {}}\n", "Too many commands"),
-        ("catch {for {} 1 {} {}}\n", "Too many commands"),
-        ("setenv A [expr {9223372036854775807 * 2}]\n", "A number is too large"),
-        ("setenv A [expr {1 << 64}]\n", "A number is too large"),
-        ("{" * 500_000, "Missing close-brace at byte 9"),
-        ("setenv A " + "$a(" * 100 + "\n", "Bad character at byte 317"),
+        ("[" * 100, wording(4, 108)),
+        ("[" * 201 + "]" * 201, wording(6)),
+        ("setenv A [expr {" + "-" * 201 + "1}]\n", wording(6)),
+        ("setenv A [expr {" + "(" * 201 + "1" + ")" * 201 + "}]\n", wording(6)),
+        ("setenv A [expr {" + "1+" * 201 + "1}]\n", wording(6)),
+        ("proc f {} {catch {f}; f}\nf\n", wording(15)),
+        ("proc f {n} {foreach i {1 2} {if 1 {switch a {a {f $n}}}}}\nf 1\n", wording(15)),
+        (deep + "eval $s\n", wording(19, "eval")),
+        (deep + "if 1 $s\n", wording(15)),
+        ("set s xx\nwhile 1 {append s $s}\n", wording(16)),
+        ("setenv A [string repeat x 1048577]\n", wording(16)),
+        ("setenv A [string repeat xyz 9223372036854775807]\n", wording(16)),
+        ("setenv A [string repeat x 9223372036854775808]\n", wording(17)),
+        ("catch {while 1 {}}\n", wording(14)),
+        ("catch {for {} 1 {} {}}\n", wording(14)),
+        ("setenv A [expr {9223372036854775807 * 2}]\n", wording(17)),
+        ("setenv A [expr {1 << 64}]\n", wording(17)),
+        ("{" * 500_000, wording(2, 9)),
+        ("setenv A " + "$a(" * 100 + "\n", wording(7, 317)),
     )
     for number, (text, said) in enumerate(rows):
         folder.module(f"nest/{number}", text)
@@ -579,14 +580,14 @@ def test_files_in_other_writings(folder):
     folder.file("bom/1", b"\xef\xbb\xbf" + COOKIE)
     folder.file("utf16/1", COOKIE.decode().encode("utf-16"))
     for name in ("bom/1", "utf16/1"):
-        folder.refuses(["sh", "load", name], f"Unable to locate a modulefile for '{name}'")
+        folder.refuses(["sh", "load", name], wording(42, name))
     folder.file("only/1", b"#%Module")
     folder.file("joined/1", b"#%Modulefile setenv A x\n")
     folder.file("folded/1", b"#%Module \\\nsetenv A x\nsetenv A b\n")
     for name in ("only/1", "joined/1", "folded/1"):
         loads(folder, name, name, folder.at(name), folder.environment(A="b"))
     folder.module("nul/1", b"setenv A b\0c\n")
-    folder.refuses(["sh", "load", "nul/1"], "Bad value of 'A'")
+    folder.refuses(["sh", "load", "nul/1"], wording(37, "A"))
     folder.module("nul/2", b"# \0\nset \0 b\nsetenv A ${\0}\n")
     loads(folder, "nul/2", "nul/2", folder.at("nul/2"), folder.environment(A="b"))
 
@@ -713,14 +714,14 @@ def records_of(line, words):
     if name in NEEDS:
         least, most = NEEDS[name]
         if not least <= len(rest) <= most:
-            raise Said("Bad arguments")
+            raise Said(wording(56))
         if name.endswith("path"):
             return [(name, ":", rest[0], ":".join(rest[1:]).split(":"))]
         return [(name, rest)] if least == 1 else [(name, *rest)]
     if name == "if" and len(rest) == 2:
         return records_of(line, rest[1].split())
     if name == "catch" and rest:
-        raise Said("Too many commands")
+        raise Said(wording(14))
     if name in ("if", "set", "append", "catch"):
         raise Said(f'wrong # args for "{name}" (line {line})')
     raise Said(f'invalid command name "{name}" (line {line})')
@@ -729,11 +730,11 @@ def records_of(line, words):
 def meaning(name, path, whole, start):
     """What a load of a file with this text says, or the text that it prints."""
     if not whole.startswith(COOKIE[:-1].decode()):
-        raise Said(f"Unable to locate a modulefile for '{name}'")
+        raise Said(wording(42, name))
     records = [record for line, words in commands_of(whole) for record in records_of(line, words)]
     for record in records:
         if record[0] == "prereq":
-            raise Said(f"Missing one of '{' '.join(record[1])}'")
+            raise Said(wording(52, " ".join(record[1])))
     after = runs.moved(start, "load", (name, path, records))
     return text_for("sh", {key: after.get(key) for key in {*start, *after} if start.get(key) != after.get(key)})
 

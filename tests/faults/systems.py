@@ -9,9 +9,10 @@ import os
 
 import pytest
 
+from tests.lib.examples import wording
 from tests.lib.harness import NOBODY, refuses_each, same, true
 
-FAILED, STARVED = b"Reading failed", b"Out of memory"
+FAILED, STARVED = wording(43).encode(), wording(31).encode()
 
 # Errors of a sound path, those that tell of absence where the path was seen before, and what each is said to be.
 ERRORS = {

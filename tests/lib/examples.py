@@ -112,11 +112,10 @@ def first_modules(name):
 
 
 def refusals():
-    """The numbers of refusals, each with the texts that it may have."""
+    """The numbers of refusals, each with its text."""
     with open(os.path.join(os.path.dirname(HERE), "docs", "REFUSALS.md"), encoding="utf-8") as file:
         rows = ROW.findall(file.read())
-    texts = [(numbers, re.compile(MARK.sub(".*", re.escape(text)))) for numbers, text in rows]
-    return [(int(number), text) for numbers, text in texts for number in numbers.split(",")]
+    return {int(number): text for numbers, text in rows for number in numbers.split(",")}
 
 
 REFUSALS = refusals()
@@ -124,4 +123,10 @@ REFUSALS = refusals()
 
 def is_refusal(number, text):
     """Whether REFUSALS.md has such a text for the number."""
-    return any(one == number and form.fullmatch(text) for one, form in REFUSALS)
+    return number in REFUSALS and bool(re.fullmatch(MARK.sub(".*", re.escape(REFUSALS[number])), text))
+
+
+def wording(number, *inserted):
+    """The text that REFUSALS.md has for the number, with these in place of its marks."""
+    given = iter(inserted)
+    return MARK.sub(lambda mark: str(next(given)), REFUSALS[number])

@@ -8,6 +8,7 @@ import tempfile
 
 import pytest
 
+from tests.lib.examples import wording
 from tests.lib.harness import NOBODY, SECONDS, dynamic, evaluated, refuser, refuses_each, same, true
 
 BY_NOBODY = {"user": NOBODY, "group": NOBODY, "extra_groups": []} if os.geteuid() == 0 else {}
@@ -64,18 +65,18 @@ LOADS = [
 
 # What is loaded, what is loaded then, and why that is refused. {} is the folder of the modulefiles.
 REFUSED = [
-    ("", "nope", "Unable to locate a modulefile for 'nope'"),
-    ("", "hdf5 nope", "Unable to locate a modulefile for 'nope'"),
-    ("", "lost", "Missing one of 'nothere neither'"),
-    ("", "hidden", "Missing one of 'inner'"),
-    ("", "ring/1", "Missing one of 'ring/2'"),
-    ("", "ring/2", "Missing one of 'ring/1'"),
-    ("", "itself", "Missing one of 'itself'"),
-    ("", "odd", "Missing one of 'gcc/default'"),
-    ("", "apart", "Conflict with 'gcc/13.2.0'"),
-    ("", "gcc/12.3.0 apart", "Conflict with 'gcc/12.3.0'"),
+    ("", "nope", wording(42, "nope")),
+    ("", "hdf5 nope", wording(42, "nope")),
+    ("", "lost", wording(52, "nothere neither")),
+    ("", "hidden", wording(52, "inner")),
+    ("", "ring/1", wording(52, "ring/2")),
+    ("", "ring/2", wording(52, "ring/1")),
+    ("", "itself", wording(52, "itself")),
+    ("", "odd", wording(52, "gcc/default")),
+    ("", "apart", wording(51, "gcc/13.2.0")),
+    ("", "gcc/12.3.0 apart", wording(51, "gcc/12.3.0")),
     ("", "broken", "no such licence (line 2)\n  in {}/spoilt/1, line 2"),
-    ("", "bad//name", "Bad module name 'bad//name'"),
+    ("", "bad//name", wording(44, "bad//name")),
 ]
 
 # What is loaded, what is unloaded then, the names of the whole unload, and what is said of them.
@@ -171,7 +172,7 @@ def test_the_variable_automates_each_command(place):
     for value in ("0", "", "yes", "11"):
         env = {**place.start, "MODULES_AUTO_HANDLING": value}
         found = place.run(place.module, ["load", "hdf5"], env)
-        same(found, (1, "", "ERROR: Missing one of 'openmpi/4.1.6'\n"), f"where it is {value!r}")
+        same(found, (1, "", f"ERROR: {wording(52, 'openmpi/4.1.6')}\n"), f"where it is {value!r}")
         same(place.run(place.module, ["load", "gcc"], env), place.run(place.modulecmd, ["load", "gcc"], env), "a load")
     for word in ("switch", "purge"):
         env = {**place.after(CHAIN), "MODULES_AUTO_HANDLING": "1"}
@@ -299,7 +300,7 @@ def test_without_end(place):
     # (An explanation tries it all once more.)
     env = {**place.start, "MODULECMD_EXPLAIN": "no"}
     found = place.run(place.module, ["load", "--auto", "endless/0"], env)
-    same(found, (1, "", "ERROR: Missing one of 'endless/1001'\n"), "an endless chain")
+    same(found, (1, "", f"ERROR: {wording(52, 'endless/1001')}\n"), "an endless chain")
 
 
 @pytest.mark.usefixtures("as_shipped")
@@ -314,14 +315,14 @@ def test_memory(place, tmp_path):
             done = subprocess.run(command, env={**env, **more}, capture_output=True, timeout=SECONDS, check=False)
             return done.returncode, done.stdout, done.stderr
 
-        refuses_each(shim, asked, lambda it: it[:2] == (1, b"") and it[2] == b"ERROR: Out of memory\n", words)
+        refuses_each(shim, asked, lambda it: it[:2] == (1, b"") and it[2] == f"ERROR: {wording(31)}\n".encode(), words)
 
 
 def test_a_full_device(place):
     with open("/dev/full", "wb") as full:
         command = [place.module, "sh", "load", "--auto", "openmpi"]
         done = subprocess.run(command, env=place.start, stdout=full, stderr=subprocess.PIPE, timeout=SECONDS, check=False)
-        true(done.stderr.endswith(b"ERROR: Writing failed\n"), f"a device that is full: {done.stderr!r}")
+        true(done.stderr.endswith(f"ERROR: {wording(64)}\n".encode()), f"a device that is full: {done.stderr!r}")
         same(done.returncode, 1, "the status")
         command = [place.module, "sh", "load", "--auto", "openmpi"]
         done = subprocess.run(command, env=place.start, stderr=full, stdout=subprocess.PIPE, timeout=SECONDS, check=False)

@@ -7,6 +7,7 @@ import subprocess
 
 import pytest
 
+from tests.lib.examples import wording
 from tests.lib.harness import SECONDS, dynamic, evaluated, refuser, refuses_each, same
 from tests.module.explanations import at_terminal
 
@@ -99,7 +100,7 @@ def site(program, built, tmp_path):
 def test_a_purge_is_refused_until_the_module_is_forgotten(site):
     env = site.loaded("foo/1", "bar")
     site.without("foo/1")
-    gone = f"No file at '{site.path('foo/1')}'"
+    gone = wording(54, site.path("foo/1"))
     for words in ("purge", "unload foo", "unload bar foo", "switch foo/2", "reload", "save s", "ml -foo bar"):
         site.refuses(words, env, gone, "Try: module forget foo/1\n")
     env = site.forgets("foo", env, "foo/1", site.lists("bar/1"))
@@ -119,7 +120,7 @@ def test_the_last_that_a_name_means(site):
 def test_two_names(site):
     env = site.loaded("foo/1", "bar", "foo/2")
     site.without("foo/1", "bar/1")
-    site.refuses("purge", env, f"No file at '{site.path('bar/1')}'", "Try: module forget foo/1 bar/1\n")
+    site.refuses("purge", env, wording(54, site.path("bar/1")), "Try: module forget foo/1 bar/1\n")
     site.forgets("foo/1 bar", env, "foo/1 bar/1", site.lists("foo/2"))
 
 
@@ -176,7 +177,7 @@ def test_a_file_that_is_there(site):
     site.forgets("--settings-stay foo bar", env, "foo/1 bar/1", site.lists())
     with open(site.path("foo/1"), "w", encoding="utf-8") as file:
         file.write("no modulefile\n")
-    site.refuses("purge", env, f"Not a modulefile: '{site.path('foo/1')}'")
+    site.refuses("purge", env, wording(55, site.path("foo/1")))
     site.refuses("forget foo", env, there.format(site.path("foo/1")))
     site.forgets("--settings-stay foo", env, "foo/1", site.lists("bar/1"))
 
@@ -200,7 +201,7 @@ def test_refusals(site):
         ("forget -- foo", "'--' is no option here"),
     ):
         site.refuses(words, env, text)
-    site.refuses("forget foo", {**env, "LOADEDMODULES": "foo/1"}, "Loaded modules are inconsistent")
+    site.refuses("forget foo", {**env, "LOADEDMODULES": "foo/1"}, wording(35))
     site.refuses("forget foo", site.start, "'foo' isn't loaded")
 
 
@@ -209,7 +210,7 @@ def test_a_file_that_can_not_be_read(site):
     env = site.loaded("foo/1", "bar")
     site.without("foo/1")
     os.symlink("1", site.path("foo/1"))
-    site.refuses("forget foo", env, "Reading failed")
+    site.refuses("forget foo", env, wording(43))
     site.forgets("--settings-stay foo", env, "foo/1", site.lists("bar/1"))
 
 
@@ -219,9 +220,9 @@ def test_a_value_without_a_text(site):
     site.without("lines/1")
     for shell in ("csh", "tcsh"):
         found = site.run(["forget", "lines"], env, shell=shell)
-        same(found, (1, "", "ERROR: Value of 'LINES' can't be said in this shell\n"), shell)
+        same(found, (1, "", f"ERROR: {wording(62, 'LINES')}\n"), shell)
         found = site.run(["purge"], env, shell=shell)
-        same(found, (1, "", f"ERROR: No file at '{site.path('lines/1')}'\n"), f"{shell} names what is accepted")
+        same(found, (1, "", f"ERROR: {wording(54, site.path('lines/1'))}\n"), f"{shell} names what is accepted")
     site.forgets("lines", env, "lines/1", {**site.lists(), "LINES": "a\nb", "__MODULES_PUSHENV_LINES": None})
 
 
@@ -243,7 +244,7 @@ def test_the_line_behind_a_refusal(site):
     """It stands at a terminal and in a log, but for who wants no explanations."""
     env = site.loaded("foo/1", "bar")
     site.without("foo/1")
-    said = f"ERROR: No file at '{site.path('foo/1')}'\n"
+    said = f"ERROR: {wording(54, site.path('foo/1'))}\n"
     for words in (["purge"], ["unload", "--auto", "foo"], ["ml", "-foo", "bar"]):
         same(at_terminal([site.module, "sh", *words], env, 1), said + "Try: module forget foo/1\n", f"{words}")
         same(site.run(words, {**env, "MODULECMD_EXPLAIN": "no"}), (1, "", said), f"{words}, without explanations")
@@ -270,4 +271,4 @@ def test_memory(site, tmp_path):
         done = subprocess.run(command, env={**given, **more}, capture_output=True, timeout=SECONDS, check=False)
         return done.returncode, done.stdout, done.stderr
 
-    refuses_each(shim, asked, lambda it: it[:2] == (1, b"") and it[2] == b"ERROR: Out of memory\n", "forget")
+    refuses_each(shim, asked, lambda it: it[:2] == (1, b"") and it[2] == f"ERROR: {wording(31)}\n".encode(), "forget")

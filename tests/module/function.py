@@ -10,6 +10,7 @@ import subprocess
 
 import pytest
 
+from tests.lib.examples import wording
 from tests.lib.harness import NOBODY, SECONDS, dynamic, evaluated, refuser, refuses_each, same, true
 
 LOADED = {"LOADEDMODULES": "gcc/12.3:mpi/4", "_LMFILES_": "/m/gcc/12.3:/m/mpi/4"}
@@ -59,7 +60,7 @@ REFUSED = [
     (["sh-to-mod", "bash", "x"], "Unknown subcommand 'sh-to-mod'\nThis isn't done here."),
     (["sa", "x"], "Several subcommands begin with 'sa'"),
     (["--force", "use"], "'--force' is no option here"),
-    (["load", "gcc"], "Unable to locate a modulefile for 'gcc'"),
+    (["load", "gcc"], wording(42, "gcc")),
     (["unload"], "Bad arguments"),
     (["switch", "a", "b", "c"], "Bad arguments"),
     (["purge", "a"], "Bad arguments"),
@@ -68,18 +69,18 @@ REFUSED = [
     (["-t", "nope"], "Unknown subcommand 'nope'\n" + '"module help" lists the subcommands.'),
     (["-t", "-t"], "'-t' is no option here"),
     (["-t", "purge"], "'-t' is no option here"),
-    (["ml", "nope"], "Unable to locate a modulefile for 'nope'"),
-    (["ml", "-nope", "also"], "Unable to locate a modulefile for 'also'"),
+    (["ml", "nope"], wording(42, "nope")),
+    (["ml", "-nope", "also"], wording(42, "also")),
     (["ml", "--nope"], "'--nope' is no option here"),
     (["ml", "-a", "--nope", "b"], "'--nope' is no option here"),
     (["subcommand"], "Bad arguments"),
     (["subcommand", "spider"], "Unknown subcommand 'spider'"),
     (["keyword"], "Bad arguments"),
     (["apropos", "a", "b"], "Bad arguments"),
-    (["whatis", "gcc"], "Unable to locate a modulefile for 'gcc'"),
-    (["show", "gcc"], "Unable to locate a modulefile for 'gcc'"),
+    (["whatis", "gcc"], wording(42, "gcc")),
+    (["show", "gcc"], wording(42, "gcc")),
     (["show"], "Bad arguments"),
-    (["help", "gcc"], "Unable to locate a modulefile for 'gcc'"),
+    (["help", "gcc"], wording(42, "gcc")),
 ]
 
 # A word, and the subcommand that it means.
@@ -356,7 +357,7 @@ def test_refusals(program, place, words, said):
 
 
 def test_a_shell_that_is_none(program):
-    same(outcome(run(program, ["nosh", "use", "/x"])), (1, "", "ERROR: Unknown shell 'nosh'\n"), "another shell")
+    same(outcome(run(program, ["nosh", "use", "/x"])), (1, "", f"ERROR: {wording(63, 'nosh')}\n"), "another shell")
     same(outcome(run(program, [])), (1, "", "ERROR: Bad arguments\n"), "no shell")
 
 
@@ -564,7 +565,7 @@ def test_is_avail_where_something_cannot_be_read(program, folder, modules):
     """What a load's search looks at and can't read is passed over; where nothing is found then, it is said."""
     program, by_nobody = as_nobody(program, folder)
     os.chmod(os.path.join(modules["MODULEPATH"], "gcc"), 0)
-    found, failed = (0, "", ""), (1, "", "ERROR: Reading failed\n")
+    found, failed = (0, "", ""), (1, "", f"ERROR: {wording(43)}\n")
     for names, wanted in (("tool", found), ("tool gcc", found), ("gcc", failed), ("no gcc", failed), ("gcc tool", found)):
         done = run(program, ["sh", "is-avail", *names.split()], modules, **by_nobody)
         same(outcome(done), wanted, f"is-avail {names}")
@@ -682,7 +683,7 @@ def test_a_report_goes_to_what_standard_input_is_open_on(program, modules, tmp_p
     for size, status in (("sh::", 1), ("fish::", 111)):
         with open("/dev/null", "rb") as nothing:
             done = run(program, [size, "--version"], env, stdin=nothing)
-        same(outcome(done), (status, "", "ERROR: Writing failed\n"), "a standard input that can't be written")
+        same(outcome(done), (status, "", f"ERROR: {wording(64)}\n"), "a standard input that can't be written")
 
 
 def test_a_long_report_is_the_text_of_a_pager(program, modules):
@@ -747,7 +748,7 @@ def test_the_words_of_functions(program):
 def test_a_refusal_steers_no_terminal(program):
     for words, reason in (
         (["a\x1b[31mb\u202e"], "Unknown subcommand 'a?[31mb?'"),
-        (["load", "a\x9bb"], "Unable to locate a modulefile for 'a?b'"),
+        (["load", "a\x9bb"], wording(42, "a?b")),
         (["load", "-\x07"], "'-?' is no option here"),
         (["use", "/a:\x1b"], "Bad value of 'MODULEPATH': '/a:?' has a colon"),
         (["avail", "-\x1b"], "'avail' has no option '-?'"),
@@ -760,7 +761,7 @@ def test_a_refusal_steers_no_terminal(program):
             same((said.splitlines()[0], text), (f"ERROR: {reason}", ""), f"{words} to a terminal")
             done = run(program, [size, *words], {"MODULEPATH": "/x", "HOME": "/h"}, stdin=subprocess.DEVNULL, encoding="utf-8")
             true("?" not in done.stderr.splitlines()[0], f"{words} into a log: {done.stderr!r}")
-    same(said_to_a_terminal(program, ["x"], {}, "a\x1b", 1)[0], "ERROR: Unknown shell 'a?'\n", "a shell")
+    same(said_to_a_terminal(program, ["x"], {}, "a\x1b", 1)[0], f"ERROR: {wording(63, 'a?')}\n", "a shell")
 
 
 def test_columns_are_as_wide_as_their_names(program, folder):
@@ -831,13 +832,13 @@ def test_memory_of_listings(program, folder, modules, tmp_path):
         def asked(more, words=words):
             return outcome(run(dynamic(program), ["sh", *words], {**plain, **more}))
 
-        refuses_each(shim, asked, (1, "", "ERROR: Out of memory\n").__eq__, words)
+        refuses_each(shim, asked, (1, "", f"ERROR: {wording(31)}\n").__eq__, words)
     for words in (["avail", "-C", "c"], ["list"]):
 
         def shown(more, words=words):
             return at_terminal(dynamic(program), words, {**plain, b"TERM": b"vt100", **more}, "sh:24:40")
 
-        refuses_each(shim, shown, (1, "ERROR: Out of memory\n", "").__eq__, words)
+        refuses_each(shim, shown, (1, f"ERROR: {wording(31)}\n", "").__eq__, words)
 
 
 def test_the_working_directory(program, place):
@@ -878,7 +879,7 @@ def test_a_full_device(program):
     with open("/dev/full", "wb") as full:
         words = [program, "sh", "use", "/"]
         done = subprocess.run(words, env={}, stdout=full, stderr=subprocess.PIPE, timeout=SECONDS, check=False)
-    same((done.returncode, done.stderr), (1, b"ERROR: Writing failed\n"), "a device that is full")
+    same((done.returncode, done.stderr), (1, f"ERROR: {wording(64)}\n".encode()), "a device that is full")
 
 
 @pytest.mark.usefixtures("as_shipped")
@@ -891,7 +892,7 @@ def test_memory(program, tmp_path):
         def asked(more, words=words):
             return outcome(run(dynamic(program), ["sh", *words], {**env, **more}))
 
-        refuses_each(shim, asked, (1, "", "ERROR: Out of memory\n").__eq__, words)
+        refuses_each(shim, asked, (1, "", f"ERROR: {wording(31)}\n").__eq__, words)
 
 
 @pytest.mark.usefixtures("as_shipped")
@@ -923,4 +924,4 @@ def test_memory_of_descriptions(program, folder, tmp_path):
         def asked(more, words=words):
             return outcome(run(dynamic(program), ["sh", *words], {**env, **more}))
 
-        refuses_each(shim, asked, (1, "", "ERROR: Out of memory\n").__eq__, words)
+        refuses_each(shim, asked, (1, "", f"ERROR: {wording(31)}\n").__eq__, words)

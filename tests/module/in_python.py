@@ -11,6 +11,7 @@ import textwrap
 
 import pytest
 
+from tests.lib.examples import wording
 from tests.lib.harness import LISTS, same, true
 
 # What stands in front of each script, and behind it: what it says, and its environment, go to files.
@@ -89,7 +90,7 @@ def test_a_refusal_changes_nothing(python, folder):
     script = 'keep()\nsaid.append(module("load", ["foo", "nope"]))\nkeep()'
     (before, after), said, done = python.run(script)
     same((said, after), ([False], before), "what is answered, and the environment")
-    true(done.stderr.startswith(b"ERROR: Unable to locate a modulefile for 'nope'\n"), f"standard error: {done.stderr}")
+    true(done.stderr.startswith(f"ERROR: {wording(42, 'nope')}\n".encode()), f"standard error: {done.stderr}")
 
 
 def test_takes_what_the_function_adds(python, folder):

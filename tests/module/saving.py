@@ -11,6 +11,7 @@ import tempfile
 
 import pytest
 
+from tests.lib.examples import wording
 from tests.lib.harness import NOBODY, SECONDS, same, true
 
 BY_NOBODY = {"user": NOBODY, "group": NOBODY, "extra_groups": []} if os.geteuid() == 0 else {}
@@ -310,4 +311,4 @@ def test_a_report_or_a_message_that_cannot_be_written_is_a_refusal(here):
     with open("/dev/full", "wb") as full:
         more = {"capture_output": False, "stdout": full, "stderr": subprocess.PIPE}
         _, err, status = here.run("restore", "c", env={"LOADEDMODULES": "", "_LMFILES_": ""}, **more)
-    same((err, status), (b"said\nERROR: Writing failed\n", 1), "a text on a full device")
+    same((err, status), (f"said\nERROR: {wording(64)}\n".encode(), 1), "a text on a full device")

@@ -21,6 +21,7 @@ import time
 
 import pytest
 
+from tests.lib.examples import wording
 from tests.lib.harness import HERE, SECONDS, Failed, installed, same, true
 
 TOP = os.path.dirname(HERE)
@@ -50,9 +51,9 @@ LISTED = """bare clang/17 gcc/13.2.0 greeting/1 hdf5/1.14 lang/c/1 lang/c/2 lang
 
 # What neither loads, and why not.
 LEFT = {
-    "hdf5": "Missing one of 'openmpi'",
-    "openmpi": "Missing one of 'gcc clang'",
-    "plugins": "Stopped by the modulefile",
+    "hdf5": wording(52, "openmpi"),
+    "openmpi": wording(52, "gcc clang"),
+    "plugins": wording(20),
 }
 
 

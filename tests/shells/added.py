@@ -7,12 +7,13 @@ import shutil
 
 import pytest
 
+from tests.lib.examples import wording
 from tests.lib.harness import OF_SPIDER, same
 from tests.shells.session import LINES, MARKS, ODD_NAME, Session, changed, same_environment
 from tests.shells.shells import content, in_csh
 from tests.shells.texts import word
 
-NOT_FOUND = "ERROR: Unable to locate a modulefile for '{}'\n"
+NOT_FOUND = f"ERROR: {wording(42, '{}')}\n"
 
 
 class Added(Session):
@@ -253,7 +254,7 @@ def test_saves_through_a_link_and_nothing_where_it_is_refused(here):
     os.symlink(store, link)
     lines = ["module load foo", "module save", "status", "module load bar", f"/bin/rm {here.paths['bar/1']}"]
     lines += [*step("module save"), *step("module restore"), *step("module reload")]
-    kept = here.keeps(["show", *lines], f"ERROR: No file at '{here.paths['bar/1']}'\nTry: module forget bar/1\n" * 3)
+    kept = here.keeps(["show", *lines], f"ERROR: {wording(54, here.paths['bar/1'])}\nTry: module forget bar/1\n" * 3)
     same(kept.statuses, ["0", "1", "1", "1"], "the statuses")
     for found in kept.shown[1:]:
         same_environment(found, changed(kept.shown[0], here.lists("foo/1", "bar/1")), "the environment")
@@ -265,7 +266,7 @@ def test_forgets_a_module_whose_file_is_gone(here):
     here.module("foo/1", "setenv FOO 1\npushenv CC foo\n")
     here.module("bar/1", "setenv BAR 1\n")
     lines = ["show", *step("module load foo bar"), f"/bin/rm {here.paths['foo/1']}", *step("module purge")]
-    said = f"ERROR: No file at '{here.paths['foo/1']}'\nTry: module forget foo/1\n"
+    said = f"ERROR: {wording(54, here.paths['foo/1'])}\nTry: module forget foo/1\n"
     said += "Forgotten: foo/1. What modulefiles set may stay; a new login is clean.\n"
     kept = here.keeps([*lines, *step("module forget foo"), *step("module purge")], said)
     same(kept.statuses, ["0", "1", "0", "0"], "the statuses")
@@ -290,12 +291,12 @@ def test_changes_nothing_where_a_restore_or_a_reload_is_refused(here):
     kept = here.keeps(
         [*lines, *step("module restore a b"), *step("module reload a")],
         NOT_FOUND.format("nope/1")
-        + "ERROR: Conflict with 'bar/1'\n"
+        + f"ERROR: {wording(51, 'bar/1')}\n"
         + f"ERROR: No collection: '{odd}': line 4: it is neither `module use' nor `module load' with words\n"
         + NOT_FOUND.format("foo/1")
         + "ERROR: There is no collection 'missing'\n"
         + "ERROR: Bad name of a collection: '../odd'\n"
-        + "ERROR: Missing one of 'nope'\n"
+        + f"ERROR: {wording(52, 'nope')}\n"
         + "ERROR: Bad arguments\nERROR: Bad arguments\n",
     )
     same(kept.statuses, ["0"] + ["1"] * 9, "the statuses")

@@ -6,6 +6,7 @@ import time
 
 import pytest
 
+from tests.lib.examples import wording
 from tests.lib.harness import LISTS, OF_SPIDER, same, true
 from tests.shells.session import LINES, ODD_NAME, REFUSAL, changed, pages, same_environment
 from tests.shells.shells import content, in_bash, in_csh, in_shells
@@ -219,7 +220,7 @@ def test_helps_about_a_module_by_its_file_and_else_by_what_it_is(real, folder):
     kept, done = real.run(lines)
     more = b'"module show NAME" says what a module does. Manual pages:\n' + pages(real.prefix)
     described = b"foo/1.0: a foo\n" + more
-    refusal = b"ERROR: Unable to locate a modulefile for 'nope/1'\n"
+    refusal = f"ERROR: {wording(42, 'nope/1')}\n".encode()
     said = b"how to use bar\n" + described + described + b"how to use bar\n" + refusal
     same(done.stderr, said, "standard error")
     same((done.stdout, kept.statuses), (b"", ["0", "1"]), "standard output and the statuses")
@@ -275,7 +276,7 @@ def test_ml_lists_loads_and_unloads(real):
         "ml purge": None,
         "ml avail-x": "avail-x/1",
     }
-    said = b"No Modulefiles Currently Loaded.\nERROR: Unable to locate a modulefile for 'nope'\n"
+    said = f"No Modulefiles Currently Loaded.\nERROR: {wording(42, 'nope')}\n".encode()
     said += b"'ba' isn't loaded, but 'baz/3' is.\nERROR: '--force' is no option here\n"
     kept = real.keeps([part for line in steps for part in (line, "status", "show")], err=said)
     refused = ("ml -foo nope", "ml -foo bar --force")
@@ -305,7 +306,7 @@ COMMANDS = (
 )  # fmt: skip
 
 # What the program says of some of them.
-NOT_FOUND = b"ERROR: Unable to locate a modulefile for 'foo'\n"
+NOT_FOUND = f"ERROR: {wording(42, 'foo')}\n".encode()
 SAID = {
     "show foo": NOT_FOUND,
     "display foo": NOT_FOUND,
@@ -596,7 +597,7 @@ def test_loads_the_site_s_collection_where_nothing_was_ever_loaded(real, shell, 
         del real.env[name]
     initial("module load foo/1.0\nmodule load nope\n")
     kept, done = real.run(["show", "module load foo/1.0", "show"])
-    same(done.stderr, b"ERROR: Unable to locate a modulefile for 'nope'\n", "what is said")
+    same(done.stderr, f"ERROR: {wording(42, 'nope')}\n".encode(), "what is said")
     same([it.get(b"FOO") for it in kept.shown], [None, b"on"], "what a start and a load behind it have")
 
 

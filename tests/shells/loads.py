@@ -2,6 +2,7 @@
 
 import os
 
+from tests.lib.examples import wording
 from tests.lib.harness import same, true
 from tests.shells.session import LINES, MARKS, REFUSAL, changed, same_environment
 from tests.shells.shells import in_csh, in_shells
@@ -182,7 +183,7 @@ def test_switches_reports_and_purges(real):
         return {"LOADEDMODULES": ":".join(names), "_LMFILES_": ":".join(paths[name] for name in names)}
 
     said = (
-        "ERROR: Still needed by 'mpi/1'\n"
+        f"ERROR: {wording(53, 'mpi/1')}\n"
         "Currently Loaded Modulefiles:\nmpi/1\nb/1\nz/1\ngcc/10\n"
         f"{real.folder.modules.decode()}:\ngcc/9\ngcc/10\n"
         f"{paths['mpi/1']}:\nmodule-whatis {{message passing}}\nprereq gcc\nsetenv MPI 1\n"
@@ -211,7 +212,7 @@ def test_chooses_versions_and_refuses_a_conflict(real):
     real.folder.module("n/1", "conflict k\n")
     default = real.folder.file("ver/.version", '#%Module\nset ModulesVersion "1.9"\n').decode()
     said = (
-        "ERROR: Conflict with 'k/1'\n"
+        f"ERROR: {wording(51, 'k/1')}\n"
         f"{real.folder.modules.decode()}:\nver/1.9(default)\nver/1.10\nver/1.10-rc\n"
         "No Modulefiles Currently Loaded.\n"
     )

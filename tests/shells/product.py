@@ -7,6 +7,7 @@ import subprocess
 
 import pytest
 
+from tests.lib.examples import wording
 from tests.lib.harness import loaded, same, true
 from tests.shells.shells import FAMILIES, SHELLS, content, in_sh, in_shells
 
@@ -297,7 +298,7 @@ def test_the_modulefile_page_has_each_command(folder):
         same((done.stderr, done.returncode), (b"", 0), f"the load of {line}")
     for line in ("break", "exit", "catch exit"):
         folder.module("foo/1", line + "\n")
-        folder.refuses(["sh", "load", "foo"], "Stopped by the modulefile")
+        folder.refuses(["sh", "load", "foo"], wording(20))
 
 
 def test_the_modulefile_page_has_what_is_left_out(folder):
@@ -365,7 +366,7 @@ def test_runs_the_demonstration(shell, folder, product):
     true(b"LOADEDMODULES=greet/1:hello/2.0" in shown[2], "the environment behind the switch")
     same(done.stdout.count(b"refused, with status 1\n"), 2, "the refusals that are shown")
     true(b"hello/1.0(default)\n" in done.stdout, "what can be loaded is shown")
-    lines = b"1 accepted\n2 accepted\n3 refused: Unable to locate a modulefile for 'nope'\nhello/1.0: Plain\n"
+    lines = f"1 accepted\n2 accepted\n3 refused: {wording(42, 'nope')}\nhello/1.0: Plain\n".encode()
     true(lines in done.stdout, "what a check says is shown")
 
 

@@ -8,6 +8,7 @@ import subprocess
 import termios
 import time
 
+from tests.lib.examples import wording
 from tests.lib.harness import SECONDS, Failed, encoded
 from tests.shells.shells import content
 from tests.shells.texts import text, word
@@ -21,7 +22,7 @@ LINES = "a\nb;\t\"$x [y] {z}\\\\n' `w` #\n "
 # A name of a directory with every byte that one can have in MODULEPATH, without the newline that csh has no text for.
 ODD_NAME = "".join(chr(number) for number in range(1, 128) if chr(number) not in "/:\n") + "é€𝄞"
 
-REFUSAL = b"ERROR: Unable to locate a modulefile for 'nope/1'\n"
+REFUSAL = f"ERROR: {wording(42, 'nope/1')}\n".encode()
 
 
 class Session:

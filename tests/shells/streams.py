@@ -7,6 +7,7 @@ import time
 
 import pytest
 
+from tests.lib.examples import wording
 from tests.lib.harness import SECONDS, same, true
 from tests.shells.session import changed, same_environment
 from tests.shells.shells import at_terminals, content, environment, in_sh, in_shells
@@ -15,7 +16,7 @@ from tests.shells.shells import at_terminals, content, environment, in_sh, in_sh
 with_streams = in_shells(lambda it: it.family != "csh")
 with_redirections = in_shells(lambda it: it.title != "BSD csh")
 
-NOT_FOUND = b"ERROR: Unable to locate a modulefile for 'nope'\n"
+NOT_FOUND = f"ERROR: {wording(42, 'nope')}\n".encode()
 
 # Functions of a user's, whose names the functions here, or what they start, could call.
 NAMES = ("test", "printf", "command", "cat", "less", "print", "stty", "subcommand", "after", "output")
@@ -65,7 +66,7 @@ def test_says_that_a_report_has_no_place_where_standard_output_is_closed(foo, sh
     refused = ("1", "2") if shell.family == "fish" else ("1",)
     same((kept.statuses[0] in refused, kept.statuses[1]), (True, "0"), f"the statuses {kept.statuses}")
     said = [line for line in done.stderr.split(b"\n") if line.startswith((b"ERROR", b"No Modulefiles"))]
-    wanted = [b"ERROR: Writing failed", b"No Modulefiles Currently Loaded."]
+    wanted = [f"ERROR: {wording(64)}".encode(), b"No Modulefiles Currently Loaded."]
     same(said, wanted[1:] if shell.family == "fish" else wanted, "what is said")
 
 
@@ -131,7 +132,7 @@ def test_writes_a_report_of_the_program_s_own_to_a_substitution(foo, shell):
 @with_redirections
 def test_says_that_a_device_is_full(foo):
     kept, done = foo.run(["module help > /dev/full", "status"])
-    same((done.stderr, kept.statuses), (b"ERROR: Writing failed\n", ["1"]), "what is said")
+    same((done.stderr, kept.statuses), (f"ERROR: {wording(64)}\n".encode(), ["1"]), "what is said")
 
 
 @in_sh
@@ -230,4 +231,4 @@ def test_shows_no_character_of_a_refusal_that_steers(real, shell, start):
     until = time.monotonic() + SECONDS / 2
     while not os.path.exists(at.at("end")) and time.monotonic() < until:
         at.read(0.05)
-    same(content(at.at("said")), f"ERROR: Unable to locate a modulefile for '{word}'\n".encode(), "what a file has")
+    same(content(at.at("said")), f"ERROR: {wording(42, word)}\n".encode(), "what a file has")

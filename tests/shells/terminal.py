@@ -6,6 +6,7 @@ import shutil
 
 import pytest
 
+from tests.lib.examples import wording
 from tests.lib.harness import same, true
 from tests.shells.session import pages
 from tests.shells.shells import at_terminals, content, in_tcsh
@@ -247,7 +248,7 @@ def test_says_which_names_are_like_one_that_isn_t_found(real, shell, start):
     true(b"Did you mean" not in at.seen, "nothing is said where no name is like it")
     at.types(f"module load mp {shell.says.to_file} '{at.at('said')}'; echo done > '{at.at('done')}'")
     at.keeps("done", b"done\n", "the end of the load")
-    same(content(at.at("said")), b"ERROR: Unable to locate a modulefile for 'mp'\n", "what a file has")
+    same(content(at.at("said")), f"ERROR: {wording(42, 'mp')}\n".encode(), "what a file has")
 
 
 @at_terminals

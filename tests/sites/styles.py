@@ -11,6 +11,7 @@ import re
 import shutil
 import subprocess
 
+from tests.lib.examples import wording
 from tests.lib.harness import HERE, SECONDS, evaluated, same
 
 TOP = os.path.dirname(HERE)
@@ -94,7 +95,7 @@ class Site:
 def test_a_compiler(folder):
     site = Site(folder)
     site.loads("gcc/13.2.0", **GCC)
-    site.refuses("load clang", "Conflict with 'gcc/13.2.0'")
+    site.refuses("load clang", wording(51, "gcc/13.2.0"))
     site.unloads("gcc")
     site.is_back()
     site.describes("gcc/13.2.0", "GNU compilers for C, C++ and Fortran", "Version: 13.2.0")
@@ -126,7 +127,7 @@ def test_a_compiler_over_that_of_the_user(folder):
         __MODULES_PUSHENV_CXX="clang/17&clang++",
         __MODULES_LMCONFLICT="clang/17&gcc&clang",
     )
-    site.refuses("load gcc", "Conflict with 'clang/17'")
+    site.refuses("load gcc", wording(51, "clang/17"))
     site.unloads("clang")
     site.is_back()
 
@@ -145,10 +146,10 @@ MPI = {
 
 def test_a_library_that_needs_a_compiler(folder):
     site = Site(folder)
-    site.refuses("load openmpi", "Missing one of 'gcc clang'")
+    site.refuses("load openmpi", wording(52, "gcc clang"))
     site.loads("gcc/13.2.0", **GCC)
     site.loads("openmpi/4.1.6", **MPI)
-    site.refuses("unload gcc", "Still needed by 'openmpi/4.1.6'")
+    site.refuses("unload gcc", wording(53, "openmpi/4.1.6"))
     site.describes("openmpi/4.1.6", "Name: openmpi", "Version: 4.1.6", "Needs: a compiler")
     site.unloads("openmpi")
     site.unloads("gcc")
@@ -172,7 +173,7 @@ def test_a_library_that_needs_a_compiler(folder):
 def test_a_library_whose_directories_a_procedure_adds(folder):
     site = Site(folder)
     site.loads("gcc/13.2.0", **GCC)
-    site.refuses("load hdf5", "Missing one of 'openmpi'")
+    site.refuses("load hdf5", wording(52, "openmpi"))
     site.loads("openmpi/4.1.6", **MPI)
     site.loads(
         "hdf5/1.14",
@@ -291,12 +292,12 @@ def test_directories_of_the_user(folder):
     site.loads("workdir/1", WORK_DEPTH="12", **{**paths, "WORK_TMP": "/var/tmp/work"})
     site = Site(folder, HOME="/home/u", WORK_LEVEL="deep")
     site.loads("workdir/1", said="WORK_LEVEL 'deep' is no digit: 1 is taken\n", WORK_DEPTH="4", **paths)
-    Site(folder).refuses("load workdir", "Stopped by the modulefile")
+    Site(folder).refuses("load workdir", wording(20))
 
 
 def test_plugins_for_the_compiler_that_is_loaded(folder):
     site = Site(folder)
-    site.refuses("load plugins", "Stopped by the modulefile")
+    site.refuses("load plugins", wording(20))
     site.loads("gcc/13.2.0", **GCC)
     site.loads("plugins/2.3", PLUGIN_PATH="/opt/plugins/2.3/gcc:/opt/plugins/shared", PLUGIN_API="v2")
     site.unloads("plugins")
@@ -322,7 +323,7 @@ def loads_all(site, *names):
 
 def test_files_of_spack_that_name_what_they_need(folder, built):
     site = Site(folder, of="generated/spack")
-    site.refuses("load hdf5", f"Missing one of '{RUNTIME}'")
+    site.refuses("load hdf5", wording(52, RUNTIME))
     loads_all(site, RUNTIME, ZLIB)
     effects = {
         "PATH": f"{STACK}/openmpi-4.1.6-lsu5pzp/bin:/usr/bin:/bin",
@@ -338,7 +339,7 @@ def test_files_of_spack_that_name_what_they_need(folder, built):
     effects.update({name: f"{STACK}/openmpi-4.1.6-lsu5pzp/bin/{end}" for name, end in programs.items()})
     site.loads(OPENMPI, **effects)
     loads_all(site, "hdf5")
-    site.refuses("unload openmpi", f"Still needed by '{HDF5}'")
+    site.refuses("unload openmpi", wording(53, HDF5))
     site.describes(HDF5, "Files of arrays and tables in folders of their own, written from many processes.")
     site.env = site.accepts("purge", "")
     site.is_back()
@@ -349,19 +350,19 @@ def test_files_of_spack_that_load_others(folder):
     """The default of Spack is refused; an older form is accepted where what it needs is there."""
     site = Site(folder, of="generated/spack")
     loads_all(site, *SPACK)
-    site.refuses("load fftw", "'module' is left out")
+    site.refuses("load fftw", wording(19, "module"))
     loads_all(site, "netcdf-c")
     same(site.env[b"NETCDF_C_ROOT"], f"{STACK}/netcdf-c-4.7.4-d3bgb4w".encode(), "a value of netcdf-c")
     site.env = site.accepts("purge", "")
     site.is_back()
-    site.refuses("load netcdf-c", "'module' is left out")
+    site.refuses("load netcdf-c", wording(19, "module"))
 
 
 def test_files_of_spack_that_hide_a_version(folder):
     site = Site(folder, of="generated/spack")
     path = folder.file("zlib-ng/.modulerc", f"#%Module4.7\nmodule-hide --soft --hidden-loaded {ZLIB}\n")
     loads_all(site, RUNTIME)
-    site.refuses("load zlib-ng", f"Bad default file '{os.fsdecode(path)}'")
+    site.refuses("load zlib-ng", wording(45, os.fsdecode(path)))
     loads_all(site, ZLIB)
 
 
@@ -373,7 +374,7 @@ BINUTILS = "binutils/2.40-GCCcore-12.3.0"
 def test_files_of_easybuild_that_load_what_is_not_there(folder):
     """They are accepted while what they need is loaded, at the load and at the unload."""
     site = Site(folder, of="generated/easybuild")
-    site.refuses("load zlib", "'module' is left out")
+    site.refuses("load zlib", wording(19, "module"))
     folder.module("zlib/9", "")
     folder.file("zlib/.version", f"#%Module\nset ModulesVersion {ZLIB_OF_CORE.removeprefix('zlib/')}\n")
     loads_all(site, "GCCcore", "zlib", "binutils")
@@ -386,7 +387,7 @@ def test_files_of_easybuild_that_load_what_is_not_there(folder):
     ):
         same(site.env[name.encode()].decode(), value, name)
     site.unloads("GCCcore")
-    site.refuses("purge", "'module' is left out")
+    site.refuses("purge", wording(19, "module"))
     loads_all(site, "GCCcore")
     site.unloads("binutils zlib GCCcore")
     site.is_back()
@@ -408,9 +409,9 @@ def test_files_of_easybuild_that_load_what_is_not_there(folder):
 def test_files_of_easybuild_that_always_load(folder):
     site = Site(folder, of="generated/easybuild")
     loads_all(site, "GCCcore")
-    site.refuses("load bzip2", "'depends-on' is left out")
+    site.refuses("load bzip2", wording(19, "depends-on"))
     loads_all(site, "XZ")
-    site.refuses("unload XZ", "'module' is left out")
+    site.refuses("unload XZ", wording(19, "module"))
 
 
 def hook_of_the_guide(program):
@@ -431,11 +432,11 @@ def test_files_of_easybuild_through_the_hook_of_the_guide(folder, built):
         with open(path, encoding="utf-8") as file:
             text = file.read()
         folder.file(name, hook(None, path, text))
-    site.refuses("load binutils", f"Missing one of '{CORE}'")
+    site.refuses("load binutils", wording(52, CORE))
     loads_all(site, "GCCcore", "zlib", "binutils", "bzip2")
     needs = f"{ZLIB_OF_CORE}&{CORE}:{BINUTILS}&{CORE}&{ZLIB_OF_CORE}:{bzip2}&{CORE}"
     same(site.env[b"__MODULES_LMPREREQ"].decode(), needs, "the needs")
-    site.refuses("unload zlib", f"Still needed by '{BINUTILS}'")
+    site.refuses("unload zlib", wording(53, BINUTILS))
     site.env = site.accepts("purge", "")
     site.is_back()
     names = (CORE, ZLIB_OF_CORE, BINUTILS, bzip2)
