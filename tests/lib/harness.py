@@ -74,6 +74,8 @@ def same(found, wanted, what):
 # What the function's program says behind "Unknown subcommand 'WORD'", and of a word of Lmod's.
 LISTS = '"module help" lists the subcommands.\n'
 OF_SPIDER = 'Here: "module keyword TEXT" for names and descriptions, "module avail -C TEXT" for names.\n'
+OPTIONS = '"module help" lists the options.\n'
+FORCED = 'Nothing is forced here: "module forget NAME" is for a module whose file is gone.\n'
 
 
 def true(fact, what):

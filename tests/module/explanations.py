@@ -9,7 +9,7 @@ import subprocess
 
 import pytest
 
-from tests.lib.harness import SECONDS, dynamic, refuser, refuses_each, same
+from tests.lib.harness import FORCED, SECONDS, dynamic, refuser, refuses_each, same
 
 COOKIE = "#%Module\n"
 
@@ -221,10 +221,13 @@ def test_an_exchange(program, site):
     ):
         same(explained(program, words.split(), env), f"  in {where}\n", words)
     same(explained(program, ["ml", "-gone", "nope"], env), "", "a name that isn't found")
-    same(explained(program, ["ml", "-gone", "later", "--force"], env), "", "an option")
+    same(explained(program, ["ml", "-gone", "later", "--force"], env), FORCED, "an option")
 
 
-# The command, the names of loaded modules, and what a user is told.
+# What stands in the place of an alias.
+LEFT_OUT = "A modulefile changes variables alone: no alias, function or completion."
+
+# The command, the names of loaded modules, and what a user is told, as a log is. {} is the folder of the modulefiles.
 ADVICE = [
     ("load gcc/13.2.0", ["gcc/9.3.0"], "Try: module switch gcc/9.3.0 gcc/13.2.0\n"),
     ("load clang", ["gcc/9.3.0"], "Try: module switch gcc/9.3.0 clang\n"),
@@ -243,8 +246,29 @@ ADVICE = [
     ("load @", [], ""),
     ("load opnempi", [], "Did you mean openmpi?\n"),
     ("load xyzzy", [], ""),
+    ("load {}/gcc/9.3.0", [], 'A module is named, not its file: "module load gcc/9.3.0", which is below {}.\n'),
+    ("show {}/gcc", [], 'A module is named, not its file: "module load gcc", which is below {}.\n'),
+    ("load {}x/gcc/9.3.0", [], 'A module is named, not its file: "module use DIRECTORY", then "module load NAME".\n'),
+    ("load {}//gcc", [], 'A module is named, not its file: "module use DIRECTORY", then "module load NAME".\n'),
+    ("load /", [], 'A module is named, not its file: "module use DIRECTORY", then "module load NAME".\n'),
+    ("load ./gcc", [], ""),
     ("unload", [], "usage: module unload NAME...\n"),
     ("switch a b c", [], "usage: module switch [OLD] NEW\n"),
+    ("keyword", [], "usage: module keyword TEXT\n"),
+    ("apropos a b", [], "usage: module keyword TEXT\n"),
+    ("reload a", [], "usage: module reload\n"),
+    ("forget", [], "usage: module forget [--settings-stay] NAME...\n"),
+    ("is-avail", [], "usage: module is-avail NAME...\n"),
+    ("use --", [], "usage: module use [-a] DIR...\n"),
+    ("unuse", [], "usage: module unuse DIR...\n"),
+    ("save a b", [], "usage: module save [COLLECTION]\n"),
+    ("restore a b", [], "usage: module restore [COLLECTION]\n"),
+    ("savelist a", [], "usage: module savelist\n"),
+    ("saveshow a b", [], "usage: module saveshow [COLLECTION]\n"),
+    ("saverm", [], "usage: module saverm COLLECTION\n"),
+    ("help gcc/13", [], "Did you mean gcc/13.2.0?\n"),
+    ("help gcc@13", [], "Did you mean gcc/13.2.0?\n"),
+    ("help xyzzy", [], ""),
 ]
 
 
@@ -265,8 +289,81 @@ def test_what_to_do(program, compilers, command, names, said):
         env |= {"__MODULES_LMCONFLICT": "gcc/9.3.0&gcc"}
     if "openmpi/4" in names:
         env |= {"__MODULES_LMPREREQ": "openmpi/4&intel|gcc"}
-    same(told(program, command.split(), env), said, "what a user is told")
-    same(explained(program, command.split(), env), "", "what a log has")
+    words, said = command.replace("{}", compilers.modules).split(), said.replace("{}", compilers.modules)
+    env["HOME"] = compilers.modules
+    same(told(program, words, env), said, "what a user is told")
+    same(explained(program, words, env), said, "what a log has")
+    same(told(program, words, {**env, "MODULECMD_EXPLAIN": "no"}), "", "what isn't wanted")
+
+
+def test_the_first_directory_with_the_path(program, compilers):
+    """Directories are compared as they are spelled in MODULEPATH, and the rest has to be a name."""
+    top, here = os.path.dirname(compilers.modules), compilers.modules
+    for path, below in ((f"{top}:{here}", ("m/gcc/9", top)), (f"{top}/.:{here}/:{here}", ("gcc/9", here))):
+        said = f'A module is named, not its file: "module load {below[0]}", which is below {below[1]}.\n'
+        same(explained(program, ["load", f"{here}/gcc/9"], {"MODULEPATH": path}), said, path)
+    elsewhere = 'A module is named, not its file: "module use DIRECTORY", then "module load NAME".\n'
+    for env in ({}, {"MODULEPATH": f"{here}/gcc/9"}, {"MODULEPATH": os.path.dirname(top)}):
+        same(explained(program, ["load", f"{here}/gcc/.9"], env), elsewhere, f"{env}")
+
+
+# Options behind subcommands, and how the line begins that follows their refusal.
+OPTIONS = [
+    ("load --force gcc", "Nothing is forced here: "),
+    ("unload -f gcc", "Nothing is forced here: "),
+    ("--force purge", "Nothing is forced here: "),
+    ("purge -f", "Nothing is forced here: "),
+    ("-s load gcc", "Here: MODULECMD_EXPLAIN=no "),
+    ("load --silent gcc", "Here: MODULECMD_EXPLAIN=no "),
+    ("avail --long", "This isn't done here: "),
+    ("list -l", "This isn't done here: "),
+    ("avail -j", "This isn't done here: "),
+    ("load -v gcc", 'Here: "module show NAME" '),
+    ("switch --auto gcc", 'Here: "module load --auto NAME" '),
+    ("forget --auto gcc", 'Here: "module load --auto NAME" '),
+    ("list -C gcc", 'Here it is an option of "module avail".'),
+    ("load -t gcc", 'Here it is an option of "module avail" and "module list".'),
+    ("load --help", 'Here: "module help", '),
+    ("unuse -t a", 'Here it is an option of "module avail" and "module list".'),
+    ("use --nope a", '"module help" lists the options.'),
+    ("avail --nope", '"module help" lists the options.'),
+    ("-Q", '"module help" lists the options.'),
+]
+
+
+@pytest.mark.parametrize("command, begins", OPTIONS)
+def test_an_option_of_other_tools(program, command, begins):
+    for tell in (explained, told):
+        said = tell(program, command.split(), {})
+        same((said.startswith(begins), said.count("\n"), said[-2:]), (True, 1, ".\n"), f"{said!r}")
+        same(tell(program, command.split(), {"MODULECMD_EXPLAIN": "no"}), "", "what isn't wanted")
+
+
+def test_a_subcommand_of_other_tools_where_nothing_more_is_wanted(program):
+    for word in ("spider", "nope"):
+        same(explained(program, [word], {"MODULECMD_EXPLAIN": "no"}), "", word)
+
+
+def test_help_of_a_file_that_fails(program, site):
+    """Its place is said as behind a refused load, also where only the help fails."""
+    left_out, path = site("foo/1", "set-alias a b\n"), site("bar/1", "proc ModulesHelp {} {\n  puts stderr x\n  bogus\n}\n")
+    site("good/1", "")
+    env = {"MODULEPATH": site.modules}
+    for words in (["help", "foo"], ["help", "good", "foo"], ["--help", "foo"]):
+        same(explained(program, words, env), f"  in {left_out}, line 2\n{LEFT_OUT}\n", f"{words} in a log")
+        same(told(program, words, env), f"  foo/1 ({left_out}, line 2): set-alias a b\n{LEFT_OUT}\n", f"{words}")
+        same(told(program, words, {**env, "MODULECMD_EXPLAIN": "no"}), "", "what isn't wanted")
+    same(explained(program, ["help", "bar"], env), f"  in {path}, line 4\n", "what a log has")
+    same(told(program, ["help", "bar"], env).splitlines()[-1], f"  bar/1 ({path}, line 4): bogus", "what a user is told")
+
+
+def test_a_default_file_with_a_fault(program, site):
+    site("foo/1", "")
+    site("foo/.modulerc", "module-alias bar foo/1\n")
+    said = 'It names a default: "module-version NAME/VERSION default" in .modulerc, "set ModulesVersion VERSION" in .version.\n'
+    for words in (["load", "foo"], ["load", "--auto", "foo"], ["show", "foo"], ["help", "foo"]):
+        for tell in (explained, told):
+            same(tell(program, words, {"MODULEPATH": site.modules}), said, f"{words}")
 
 
 # The command in a shell, the loaded module, and what a user is told: no change that a shell has no text for is advised,
@@ -297,13 +394,13 @@ AUTOMATED = [
     ("load needs", "", "  bad/1 ({}/bad/1, line 3): bogus\n", "  in {}/bad/1, line 3\n"),
     ("load good deep good", "", "  bad/1 ({}/bad/1, line 3): bogus\n", "  in {}/bad/1, line 3\n"),
     ("load late", "", "  late/1 ({}/late/1, line 4): bogus\n", "  in {}/late/1, line 4\n"),
-    ("load GCC", "", "Did you mean gcc?\n", ""),
-    ("load lost", "", "Not found either: nowhere neither\n", ""),
+    ("load GCC", "", "Did you mean gcc?\n", "Did you mean gcc?\n"),
+    ("load lost", "", "Not found either: nowhere neither\n", "Not found either: nowhere neither\n"),
     ("load ring", "", "", ""),
-    ("load newer", "gcc/9.3.0", "Try: module switch gcc/9.3.0 gcc/13.2.0\n", ""),
+    ("load newer", "gcc/9.3.0", "Try: module switch gcc/9.3.0 gcc/13.2.0\n", "Try: module switch gcc/9.3.0 gcc/13.2.0\n"),
     ("unload stays", "stays/1", "  stays/1 ({}/stays/1, line 3): bogus\n", "  in {}/stays/1, line 3\n"),
     ("unload good", "good/1 stays/1", "  stays/1 ({}/stays/1, line 3): bogus\n", "  in {}/stays/1, line 3\n"),
-    ("unload", "", "usage: module unload NAME...\n", ""),
+    ("unload", "", "usage: module unload NAME...\n", "usage: module unload NAME...\n"),
 ]
 
 
@@ -343,9 +440,9 @@ def test_an_automated_command(program, automated, command, names, told, logged):
 
 def test_what_stands_in_the_place_of_what_is_left_out(program, site):
     path = site("foo/1", "set-alias a b\n")
-    said = told(program, ["load", "foo"], {"MODULEPATH": site.modules})
-    sentence = "A modulefile changes variables alone: no alias, function or completion."
-    same(said, f"  foo/1 ({path}, line 2): set-alias a b\n{sentence}\n", "what a user is told")
+    env = {"MODULEPATH": site.modules}
+    same(told(program, ["load", "foo"], env), f"  foo/1 ({path}, line 2): set-alias a b\n{LEFT_OUT}\n", "what a user is told")
+    same(explained(program, ["load", "foo"], env), f"  in {path}, line 2\n{LEFT_OUT}\n", "what a log has")
 
 
 def test_control_characters(program, site):

@@ -11,9 +11,10 @@ import subprocess
 import pytest
 
 from tests.lib.examples import wording
-from tests.lib.harness import NOBODY, SECONDS, dynamic, evaluated, refuser, refuses_each, same, true
+from tests.lib.harness import FORCED, NOBODY, OPTIONS, SECONDS, dynamic, evaluated, refuser, refuses_each, same, true
 
 LOADED = {"LOADEDMODULES": "gcc/12.3:mpi/4", "_LMFILES_": "/m/gcc/12.3:/m/mpi/4"}
+OF_REPORTS = 'Here it is an option of "module avail" and "module list".'
 NOT_THERE = "There is no directory '{}' yet.\n"
 
 # The words behind the shell, MODULEPATH, and the MODULEPATH that the shell has afterwards, None where it is unset. {} is
@@ -40,11 +41,15 @@ EDITS = [
     (["us", "a"], None, "{}/a"),
 ]
 
+# What is said where nothing is searched, and of options.
+OF_REPORTS = 'Here it is an option of "module avail" and "module list".'
+NOT_THERE = "None of the directories of MODULEPATH is there: /x"
+
 # The words behind the shell, and what is refused.
 REFUSED = [
-    (["use", "--nope", "a"], "'--nope' is no option here"),
-    (["unuse"], "Bad arguments"),
-    (["unuse", "-a", "a"], "'-a' is no option here"),
+    (["use", "--nope", "a"], f"'--nope' is no option here\n{OPTIONS.strip()}"),
+    (["unuse"], "Bad arguments\nusage: module unuse DIR..."),
+    (["unuse", "-a", "a"], "'-a' is no option here\n" + 'Here it is an option of "module use", and no module is hidden.'),
     (["use", ""], "Bad value of 'MODULEPATH': a directory without a name"),
     (["use", "/a:b"], "Bad value of 'MODULEPATH': '/a:b' has a colon"),
     (["use", "/" + 100_000 * "x"], "Bad value of 'MODULEPATH': it is too long"),
@@ -59,28 +64,28 @@ REFUSED = [
     (["initadd", "gcc"], "Unknown subcommand 'initadd'\n" + 'Here: "module save", and "module restore" in a start-up file.'),
     (["sh-to-mod", "bash", "x"], "Unknown subcommand 'sh-to-mod'\nThis isn't done here."),
     (["sa", "x"], "Several subcommands begin with 'sa'"),
-    (["--force", "use"], "'--force' is no option here"),
-    (["load", "gcc"], wording(42, "gcc")),
-    (["unload"], "Bad arguments"),
-    (["switch", "a", "b", "c"], "Bad arguments"),
-    (["purge", "a"], "Bad arguments"),
-    (["reload", "a"], "Bad arguments"),
-    (["refresh", "a"], "Bad arguments"),
+    (["--force", "use"], f"'--force' is no option here\n{FORCED.strip()}"),
+    (["load", "gcc"], f"{wording(42, 'gcc')}\n{NOT_THERE}"),
+    (["unload"], "Bad arguments\nusage: module unload NAME..."),
+    (["switch", "a", "b", "c"], "Bad arguments\nusage: module switch [OLD] NEW"),
+    (["purge", "a"], "Bad arguments\nusage: module purge"),
+    (["reload", "a"], "Bad arguments\nusage: module reload"),
+    (["refresh", "a"], "Bad arguments\nusage: module reload"),
     (["-t", "nope"], "Unknown subcommand 'nope'\n" + '"module help" lists the subcommands.'),
-    (["-t", "-t"], "'-t' is no option here"),
-    (["-t", "purge"], "'-t' is no option here"),
-    (["ml", "nope"], wording(42, "nope")),
-    (["ml", "-nope", "also"], wording(42, "also")),
-    (["ml", "--nope"], "'--nope' is no option here"),
-    (["ml", "-a", "--nope", "b"], "'--nope' is no option here"),
+    (["-t", "-t"], f"'-t' is no option here\n{OF_REPORTS}"),
+    (["-t", "purge"], f"'-t' is no option here\n{OF_REPORTS}"),
+    (["ml", "nope"], f"{wording(42, 'nope')}\n{NOT_THERE}"),
+    (["ml", "-nope", "also"], f"{wording(42, 'also')}\n{NOT_THERE}"),
+    (["ml", "--nope"], f"'--nope' is no option here\n{OPTIONS.strip()}"),
+    (["ml", "-a", "--nope", "b"], f"'--nope' is no option here\n{OPTIONS.strip()}"),
     (["subcommand"], "Bad arguments"),
     (["subcommand", "spider"], "Unknown subcommand 'spider'"),
-    (["keyword"], "Bad arguments"),
-    (["apropos", "a", "b"], "Bad arguments"),
-    (["whatis", "gcc"], wording(42, "gcc")),
-    (["show", "gcc"], wording(42, "gcc")),
-    (["show"], "Bad arguments"),
-    (["help", "gcc"], wording(42, "gcc")),
+    (["keyword"], "Bad arguments\nusage: module keyword TEXT"),
+    (["apropos", "a", "b"], "Bad arguments\nusage: module keyword TEXT"),
+    (["whatis", "gcc"], f"{wording(42, 'gcc')}\n{NOT_THERE}"),
+    (["show", "gcc"], f"{wording(42, 'gcc')}\n{NOT_THERE}"),
+    (["show"], "Bad arguments\nusage: module show NAME..."),
+    (["help", "gcc"], f"{wording(42, 'gcc')}\n{NOT_THERE}"),
 ]
 
 # A word, and the subcommand that it means.
@@ -449,7 +454,8 @@ def test_avail_of_several_directories(program, place):
 
 @pytest.mark.parametrize("words, option", NO_OPTIONS)
 def test_options_that_are_none(program, modules, words, option):
-    said = f"ERROR: '{words[0]}' has no option '{option}'\n"
+    more = 'Here it is an option of "module avail".' if option == "-d" else OPTIONS.strip()
+    said = f"ERROR: '{words[0]}' has no option '{option}'\n{more}\n"
     same(outcome(run(program, ["sh", *words], modules)), (1, "", said), f"{words}")
 
 

@@ -77,6 +77,10 @@ def here(program):
         yield Saving(program, folder)
 
 
+# What is said where no collection is saved.
+NONE_SAVED = b"No collection is saved.\n"
+
+
 def limited(size):
     """Makes files of more bytes fail, as a full disk does."""
 
@@ -95,7 +99,7 @@ def test_a_collection_is_saved_listed_shown_and_removed(here):
     here.does("saverm", "c")
     here.refuses("There is no collection 'c'", "saveshow", "c")
     here.refuses("There is no collection 'c'", "saverm", "c")
-    here.does("savelist")
+    here.does("savelist", err=NONE_SAVED)
     same(os.listdir(here.top), [], "the files")
 
 
@@ -249,7 +253,7 @@ def test_what_is_no_file_is_refused(here):
             here.refuses(f"No file: '{here.path(name)}'", subcommand, name)
     for name in ("folder", "pipe"):
         here.refuses(f"No file: '{here.path(name)}'", "saverm", name)
-    here.does("savelist")
+    here.does("savelist", err=NONE_SAVED)
     same(sorted(os.listdir(here.top)), names, "the files")
     here.put(b"#" * 65537)
     here.refuses(f"No collection: '{here.path()}': it has more than 65536 bytes", "saveshow", "c")
@@ -271,7 +275,7 @@ def test_names_are_judged(here):
     for name in (b".hidden", b"-dash", b"odd\xff", b"tab\t"):
         with open(os.path.join(os.fsencode(here.top), name), "wb") as file:
             file.write(OLD)
-    here.does("savelist")
+    here.does("savelist", err=NONE_SAVED)
 
 
 def test_those_of_the_original_are_read_and_left(here):

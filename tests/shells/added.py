@@ -8,7 +8,7 @@ import shutil
 import pytest
 
 from tests.lib.examples import wording
-from tests.lib.harness import OF_SPIDER, same
+from tests.lib.harness import OF_SPIDER, OPTIONS, same
 from tests.shells.session import LINES, MARKS, ODD_NAME, Session, changed, same_environment
 from tests.shells.shells import content, in_csh
 from tests.shells.texts import word
@@ -89,9 +89,11 @@ def test_uses_and_unuses_directories(here):
         f"There is no directory '{top}/nope' yet.\n"
         f"ERROR: Bad value of 'MODULEPATH': '{top}/a:b' has a colon\n"
         "ERROR: '--nope' is no option here\n"
-        "ERROR: Bad arguments\n"
-        "ERROR: Bad arguments\n"
+        f"{OPTIONS}"
+        "ERROR: Bad arguments\nusage: module use [-a] DIR...\n"
+        "ERROR: Bad arguments\nusage: module unuse DIR...\n"
         "ERROR: '-a' is no option here\n"
+        'Here it is an option of "module use", and no module is hidden.\n'
     )
     kept = here.keeps(lines, said)
     same(kept.statuses, [str(status) for _, status, _ in ways], "the statuses")
@@ -121,7 +123,7 @@ def test_uses_and_unuses_under_odd_settings(here, shell):
     typed = shell.says.word.format("WORD")
     lines = ["show", f"module use {typed}", "show", shell.may_fail("module is-loaded"), f"module unus {typed}", "show"]
     lines += [shell.may_fail("module use -x"), shell.may_fail("module spider"), f"module us -a {typed}", "show"]
-    err = b"ERROR: '-x' is no option here\nERROR: Unknown subcommand 'spider'\n" + OF_SPIDER.encode()
+    err = f"ERROR: '-x' is no option here\n{OPTIONS}ERROR: Unknown subcommand 'spider'\n{OF_SPIDER}".encode()
     kept = Session.keeps(here, [shell.source(here.prefix), *lines], before=[*shell.odd, *theirs], err=err)
     before = kept.shown[0]
     for found, path in zip(kept.shown[1:], (f"{place}:{start}", start, f"{start}:{place}")):
@@ -297,7 +299,8 @@ def test_changes_nothing_where_a_restore_or_a_reload_is_refused(here):
         + "ERROR: There is no collection 'missing'\n"
         + "ERROR: Bad name of a collection: '../odd'\n"
         + f"ERROR: {wording(52, 'nope')}\n"
-        + "ERROR: Bad arguments\nERROR: Bad arguments\n",
+        + "ERROR: Bad arguments\nusage: module restore [COLLECTION]\n"
+        + "ERROR: Bad arguments\nusage: module reload\n",
     )
     same(kept.statuses, ["0"] + ["1"] * 9, "the statuses")
     loaded = changed(kept.shown[0], {"FOO": "1", "BAR": "1", **here.lists("foo/1", "bar/1")})
@@ -329,7 +332,7 @@ def test_asks_what_is_loaded_and_what_can_be(here):
         ("is-loaded foo/", 1), ("is-loaded '*'", 1), ("is-avail", 1), ("is-l fo foo", 0), ("is-l nope", 1),
     ]  # fmt: skip
     lines = [text for line, _ in asked for text in (f"module {line}", "status")]
-    kept = here.keeps(lines, "ERROR: Bad arguments\n")
+    kept = here.keeps(lines, "ERROR: Bad arguments\nusage: module is-avail NAME...\n")
     answers = list(zip([line for line, _ in asked], kept.statuses))
     same(answers, [(line, str(wanted)) for line, wanted in asked], "the statuses")
 
@@ -356,9 +359,9 @@ def test_reports_on_standard_error_away_from_a_terminal(here):
         f"{start}:\nbad/1\nbar/b\nfoo/2(default)\nsub/x/2\ntop\n"
         f"{start}:\nfoo/10\nsub/x/2\n"
         f"{start}:\nfoo/10\n"
-        "ERROR: 'avail' has no option '-x'\n"
+        f"ERROR: 'avail' has no option '-x'\n{OPTIONS}"
         f"{whatis}{left}foo/1: the foo/1 tool\nfoo/10: the foo/10 tool\n{left}bar/a: the bar/a tool\n{left}{left}"
-        "ERROR: Bad arguments\n"
+        "ERROR: Bad arguments\nusage: module keyword TEXT\n"
         f"{start}\n"
         "No Modulefiles Currently Loaded.\n"
         "Currently Loaded Modulefiles:\nfoo/2\n"

@@ -114,8 +114,8 @@ def test_names_of_collections_are_judged(here):
     for name in ("", "a/b", "/a", ".a", "..", "-a", "a\nb", "a\t", "a\033b"):
         for subcommand in ("save", "restore", "saveshow", "saverm"):
             here.refuses([subcommand, name], f"Bad name of a collection: '{name}'")
-    here.refuses(["saverm"], "Bad arguments")
-    here.refuses(["savelist", "a"], "Bad arguments")
+    here.refuses(["saverm"], "Bad arguments\nusage: module saverm COLLECTION")
+    here.refuses(["savelist", "a"], "Bad arguments\nusage: module savelist")
     same(os.listdir(here.home), [], "what is made")
     long = "n" * 300
     here.refuses(["save", long], f"Writing failed: '{here.home}/.config/modulecmd/{long}'")

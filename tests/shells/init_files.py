@@ -7,7 +7,7 @@ import time
 import pytest
 
 from tests.lib.examples import wording
-from tests.lib.harness import LISTS, OF_SPIDER, same, true
+from tests.lib.harness import FORCED, LISTS, OF_SPIDER, OPTIONS, same, true
 from tests.shells.session import LINES, ODD_NAME, REFUSAL, changed, pages, same_environment
 from tests.shells.shells import content, in_bash, in_csh, in_shells
 from tests.shells.texts import text
@@ -148,7 +148,7 @@ NO_SUBCOMMANDS = {
     "spider": f"Unknown subcommand 'spider'\n{OF_SPIDER}",
     "avial": "Unknown subcommand: did you mean 'avail'?",
     "sa": "Several subcommands begin with 'sa'",
-    "--force": "'--force' is no option here",
+    "--force": f"'--force' is no option here\n{FORCED}",
     "'a  *'": f"Unknown subcommand 'a  *'\n{LISTS}",
     "'$x`y`\"z;'": f"Unknown subcommand '$x`y`\"z;'\n{LISTS}",
     "'[a-z]{b}~|&'": "Unknown subcommand '[a-z]{b}~|&'\n" + LISTS,
@@ -277,7 +277,7 @@ def test_ml_lists_loads_and_unloads(real):
         "ml avail-x": "avail-x/1",
     }
     said = f"No Modulefiles Currently Loaded.\nERROR: {wording(42, 'nope')}\n".encode()
-    said += b"'ba' isn't loaded, but 'baz/3' is.\nERROR: '--force' is no option here\n"
+    said += b"'ba' isn't loaded, but 'baz/3' is.\nERROR: '--force' is no option here\n" + FORCED.encode()
     kept = real.keeps([part for line in steps for part in (line, "status", "show")], err=said)
     refused = ("ml -foo nope", "ml -foo bar --force")
     same(kept.statuses, ["1" if line in refused else "0" for line in steps], "the statuses")
@@ -312,7 +312,7 @@ SAID = {
     "display foo": NOT_FOUND,
     "whatis foo": NOT_FOUND,
     "list": b"No Modulefiles Currently Loaded.\n",
-    "avail -x": b"ERROR: 'avail' has no option '-x'\n",
+    "avail -x": b"ERROR: 'avail' has no option '-x'\n" + OPTIONS.encode(),
     "nope": b"ERROR: Unknown subcommand 'nope'\n" + LISTS.encode(),
 }
 

@@ -183,7 +183,7 @@ def test_switches_reports_and_purges(real):
         return {"LOADEDMODULES": ":".join(names), "_LMFILES_": ":".join(paths[name] for name in names)}
 
     said = (
-        f"ERROR: {wording(53, 'mpi/1')}\n"
+        f"ERROR: {wording(53, 'mpi/1')}\nTry: module unload --auto gcc (as unload mpi/1 gcc)\n"
         "Currently Loaded Modulefiles:\nmpi/1\nb/1\nz/1\ngcc/10\n"
         f"{real.folder.modules.decode()}:\ngcc/9\ngcc/10\n"
         f"{paths['mpi/1']}:\nmodule-whatis {{message passing}}\nprereq gcc\nsetenv MPI 1\n"

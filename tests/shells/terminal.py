@@ -7,7 +7,7 @@ import shutil
 import pytest
 
 from tests.lib.examples import wording
-from tests.lib.harness import same, true
+from tests.lib.harness import OPTIONS, same, true
 from tests.shells.session import pages
 from tests.shells.shells import at_terminals, content, in_tcsh
 
@@ -84,7 +84,8 @@ def test_pipes_what_avail_finds_and_its_refusal(real, shell, start):
     at = start(real)
     at.types(f"module avail f > '{at.at('found')}'")
     at.keeps("found", real.folder.modules + b":\nfoo/1.0\n", "what is found")
-    at.shows(f"module avail --nope > '{at.at('refused')}'", b"ERROR: 'avail' has no option '--nope'\r\n")
+    refusal = f"ERROR: 'avail' has no option '--nope'\n{OPTIONS}".replace("\n", "\r\n").encode()
+    at.shows(f"module avail --nope > '{at.at('refused')}'", refusal)
     same(content(at.at("refused")), b"", "what of a refusal is piped")
 
 
@@ -248,7 +249,8 @@ def test_says_which_names_are_like_one_that_isn_t_found(real, shell, start):
     true(b"Did you mean" not in at.seen, "nothing is said where no name is like it")
     at.types(f"module load mp {shell.says.to_file} '{at.at('said')}'; echo done > '{at.at('done')}'")
     at.keeps("done", b"done\n", "the end of the load")
-    same(content(at.at("said")), f"ERROR: {wording(42, 'mp')}\n".encode(), "what a file has")
+    said = f"ERROR: {wording(42, 'mp')}\nDid you mean mpi?\n".encode()
+    same(content(at.at("said")), said, "what a file has")
 
 
 @at_terminals

@@ -6,11 +6,10 @@ use Rattle.envvars.specs.Environment.{Environment}
 use Rattle.filetree.specs.Agreement.{Files, Listings, Narrows}
 use Rattle.module_collections.specs.files.Entries.{Entries}
 use Rattle.module_words.specs.declared.function.fault.FunctionFault.{FunctionFault}
-use Rattle.module_words.specs.function.Advice.{advice_on}
 use Rattle.module_words.specs.function.Asked.{Asked, Command, both, one}
 use Rattle.module_words.specs.function.Faults.{FunctionReason, reason_of}
-use Rattle.module_commands.specs.Answers.{Answered, IsRefused, WritesAsked, WritesCommand, WritesExchange, advice_line, answer_view, refused, refused_words}
-use Rattle.module_commands.specs.Explanations.{AreRefusedWords, Explains, ExplainsMove, Told, explained_view, lines_alone}
+use Rattle.module_commands.specs.Answers.{Answered, IsRefused, WritesAsked, WritesCommand, WritesExchange, answer_view, refused, refused_words}
+use Rattle.module_commands.specs.Explanations.{AreRefusedWords, Explains, ExplainsMove, Told, explained_view, told_behind}
 use Rattle.module_commands.specs.declared.answering.Answer.{Answer}
 use Rattle.module_commands.specs.declared.asking.Asking.{Asking}
 use Rattle.module_commands.specs.declared.explaining.Explained.{Explained}
@@ -53,8 +52,8 @@ module _ (agrees readable : Files → Listings → Type 0) (has_failed : Text �
 
   asked_refused : (outcome : Result Asked FunctionReason) (fault : FunctionFault) (a : Answered) → IfSome (reason_of fault) (λ r. outcome ≡ Err r) → a ≡ refused_words asking fault
       → WritesAsked agrees readable has_failed before now files_before files_now usage version asking outcome a
-  asked_refused (Ok (one command)) fault a h is = inr (refusals.Function fault, lines_alone (advice_line (advice_on (reason_of fault))), is)
-  asked_refused (Ok (both unloads loads)) fault a h is = inr (refusals.Function fault, lines_alone (advice_line (advice_on (reason_of fault))), is)
+  asked_refused (Ok (one command)) fault a h is = inr (refusals.Function fault, told_behind asking (refusals.Function fault), is)
+  asked_refused (Ok (both unloads loads)) fault a h is = inr (refusals.Function fault, told_behind asking (refusals.Function fault), is)
   asked_refused (Err reason) fault a h is = (fault, is_reason (reason_of fault) reason h, is)
 
   pub words_refused : (outcome : Result Asked FunctionReason) (fault : FunctionFault) (r : Result Answer AllocError) → IfSome (reason_of fault) (λ r. outcome ≡ Err r)

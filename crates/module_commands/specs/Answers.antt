@@ -6,13 +6,12 @@ use Rattle.message.specs.Messages.{Text}
 use Rattle.filetree.specs.Agreement.{Files, Listings}
 use Rattle.module_collections.specs.files.Entries.{Entries}
 use Rattle.module_words.specs.declared.function.fault.FunctionFault.{FunctionFault}
-use Rattle.module_words.specs.function.Advice.{advice_on}
 use Rattle.module_words.specs.function.Asked.{Asked, Command, asked_for, both, one}
 use Rattle.module_words.specs.function.Faults.{FunctionReason, reason_of}
 use Rattle.module_words.specs.protocol.Askers.{refusal_status}
 use Rattle.module_commands.specs.Commands.{AnswersCommand}
 use Rattle.module_commands.specs.Exchanges.{Exchanges}
-use Rattle.module_commands.specs.Explanations.{Told, lines_alone}
+use Rattle.module_commands.specs.Explanations.{Told, told_behind}
 use Rattle.module_commands.specs.Refusals.{error_line}
 use Rattle.module_commands.specs.Replies.{hints_of, own_line, status_of, writings_of}
 use Rattle.module_commands.specs.Writings.{Written, writing_view}
@@ -63,15 +62,10 @@ refused asking refusal more = record {
   status = refusal_status asking.shell asking.asker;
 }
 
--- what to type here, as a line
-abbrev pub advice_line : Option Text → Text
-advice_line None = []
-advice_line (Some advice) = advice ++ codes "\n"
-
 -- The answer to words that mean nothing.
 abbrev pub refused_words : Asking → FunctionFault → Answered
 refused_words asking fault =
-    refused asking (refusals.Function fault) (lines_alone (advice_line (advice_on (reason_of fault))))
+    refused asking (refusals.Function fault) (told_behind asking (refusals.Function fault))
 
 -- an answer that is refused, with whatever explains it
 abbrev pub IsRefused : Asking → Answered → Type 0

@@ -127,9 +127,14 @@ AreCollections agrees e found =
 abbrev pub lines_of : BTreeSet (String Global) → Text
 lines_of names = flat_map line_of (map string_bytes names.keys)
 
+-- why a report of collections is empty, if it is
+abbrev pub why_none : Text → Text
+why_none [] = codes "No collection is saved.\n"
+why_none (b ∷ lines) = []
+
 -- What `savelist` reports.
 abbrev pub ListsSaved : (Entries → Type 0) → Asking → Place → List Text → Reply → Type 0
 ListsSaved agrees asking place words reply =
     (words ≡ [])
     × ((names : BTreeSet (String Global)) × AreCollections agrees asking.env names
-    × IsLinesReply [] place (lines_of names) reply)
+    × IsLinesReply (why_none (lines_of names)) place (lines_of names) reply)

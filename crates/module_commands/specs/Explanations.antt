@@ -1,6 +1,6 @@
 -- What is said behind a refusal (module(1), "Behind a refusal").
 use Rattle.std.specs.Prelude.{◌≡◌, ◌⊎◌, Bool, true, false, List, ◌++◌, ◌∷◌, [], bytes_eq, codes, string_bytes}
-use Rattle.std.specs.Prelude.{Option, Some, None, Result, Ok, Err}
+use Rattle.std.specs.Prelude.{if◌then◌else◌, Option, Some, None, Result, Ok, Err}
 use Rattle.std.specs.Option.{option_map}
 use Rattle.message.specs.Messages.{Text}
 use Rattle.terminal.specs.text.Shown.{shown}
@@ -9,22 +9,32 @@ use Rattle.filetree.specs.Agreement.{Files, Listings, InEachPair}
 use Rattle.shelltext.specs.declared.shell.Shell.{Shell}
 use Rattle.module_auto.specs.Refused.{EndsLoad, EndsUnload}
 use Rattle.module_explain.specs.AdviceLines.{advice_line}
-use Rattle.module_explain.specs.Explained.{IsExplained}
+use Rattle.module_explain.specs.Explained.{IsExplained, IsOfCause, IsOfUsage}
 use Rattle.module_explain.specs.FileLines.{log_text, user_text}
 use Rattle.module_explain.specs.declared.advice.Advice.{Advice}
 use Rattle.module_explain.specs.declared.explanation.Explanation.{Explanation}
 use Rattle.module_explain.specs.declared.location.FileExplanation.{FileExplanation}
 use Rattle.module_words.specs.declared.subcommands.table.Subcommand.{Subcommand}
 use Rattle.module_words.specs.function.Asked.{Command}
-use Rattle.module_words.specs.function.Faults.{FunctionReason}
+use Rattle.module_words.specs.function.Advice.{advice_on}
+use Rattle.module_words.specs.function.Faults.{FunctionReason, reason_of}
 use Rattle.module_words.specs.function.Moved.{Moved, moved_names}
+use Rattle.module_words.specs.declared.function.output_fault.OutputFault.TheVariants as outputs
+use Rattle.module_words.specs.subcommands.OtherOptions.{option_elsewhere}
 use Rattle.module_words.specs.subcommands.Subcommands.{name_of}
+use Rattle.module_reports.specs.declared.listings.fault.ListingFault.{ListingFault}
+use Rattle.module_reports.specs.declared.listings.fault.ListingFault.TheVariants as listings
+use Rattle.modules.specs.Answers.{cause_of}
+use Rattle.modules.specs.declared.refusal.Refusal as requests
+use Rattle.requests.specs.Requests.{list}
 use Rattle.module_commands.specs.Limits.{context, standard}
 use Rattle.module_commands.specs.Moves.{is_load}
 use Rattle.module_commands.specs.declared.asking.Asking.{Asking}
 use Rattle.module_commands.specs.declared.explaining.Cause.{Cause}
 use Rattle.module_commands.specs.declared.explaining.Cause.TheVariants.{NoPermission, Readable, Unknown}
 use Rattle.module_commands.specs.declared.explaining.Explained.{Explained}
+use Rattle.module_commands.specs.declared.refusal.Refusal.{Refusal}
+use Rattle.module_commands.specs.declared.refusal.Refusal.TheVariants as refusals
 
 -- lines, and a path that can't be read, of which a user is to be told why
 pub record Told : Type 0 where
@@ -62,13 +72,14 @@ advice_lines (Some advice) = advice_line advice
 abbrev pub lines_for_user : Explanation → Text
 lines_for_user x = file_lines x.file ++ advice_lines x.advice
 
--- what a log has
+-- what a log has of a file that failed
 abbrev pub log_lines : Option FileExplanation → Text
 log_lines None = []
 log_lines (Some file) = log_text file
 
+-- and what to do
 abbrev pub lines_for_log : Explanation → Text
-lines_for_log x = log_lines x.file
+lines_for_log x = log_lines x.file ++ advice_lines x.advice
 
 -- What is told of an explanation, by whether standard error is a terminal.
 abbrev pub told_of : Bool → Explanation → Told
@@ -102,6 +113,49 @@ ExplainsIf false agrees asking e words t =
 -- What explains that the command of these words was refused, if the user wants it.
 abbrev pub Explains : (Files → Listings → Type 0) → Asking → Environment → List Text → Told → Type 0
 Explains agrees asking e words t = ExplainsIf (is_unwanted (lookup e)) agrees asking e words t
+
+-- What explains a refusal that no request has brought, if the user wants it.
+abbrev pub ExplainsCauseIf : Bool → (Files → Listings → Type 0) → Asking → requests.Refusal → Told → Type 0
+ExplainsCauseIf true agrees asking refusal t = t ≡ nothing
+ExplainsCauseIf false agrees asking refusal t =
+    (t ≡ nothing)
+    ⊎ ((x : Explanation) × IsOfCause agrees standard asking.shell asking.env list (cause_of refusal) x
+    × (t ≡ told_of asking.site.streams.error x))
+
+abbrev pub ExplainsCause : (Files → Listings → Type 0) → Asking → requests.Refusal → Told → Type 0
+ExplainsCause agrees asking refusal t = ExplainsCauseIf (is_unwanted (lookup asking.env)) agrees asking refusal t
+
+-- What explains that words don't fit a subcommand, if the user wants it: how that is used.
+abbrev pub ExplainsUsageIf : Bool → Asking → Subcommand → Told → Type 0
+ExplainsUsageIf true asking subcommand t = t ≡ nothing
+ExplainsUsageIf false asking subcommand t =
+    (x : Explanation) × IsOfUsage (name_of subcommand ∷ []) x × (t ≡ told_of asking.site.streams.error x)
+
+abbrev pub ExplainsUsage : Asking → Subcommand → Told → Type 0
+ExplainsUsage asking subcommand t = ExplainsUsageIf (is_unwanted (lookup asking.env)) asking subcommand t
+
+-- what to type in place of an option that a report doesn't have
+abbrev pub of_listing : ListingFault → Option Text
+of_listing (listings.NoAvailOption word) = Some (option_elsewhere word.now)
+of_listing (listings.NoListOption word) = Some (option_elsewhere word.now)
+of_listing other = None
+
+-- What to type in place of words that mean nothing, if a command is refused for these.
+abbrev pub advice_behind : Refusal → Option Text
+advice_behind (refusals.Function fault) = advice_on (reason_of fault)
+advice_behind (refusals.Output (outputs.Refused fault)) = advice_on (reason_of fault)
+advice_behind (refusals.Listing fault) = of_listing fault
+advice_behind other = None
+
+-- that as a line
+abbrev pub line_of : Option Text → Text
+line_of None = []
+line_of (Some advice) = advice ++ codes "\n"
+
+-- What explains such a refusal, if the user wants it.
+abbrev pub told_behind : Asking → Refusal → Told
+told_behind asking refusal =
+    if is_unwanted (lookup asking.env) then nothing else lines_alone (line_of (advice_behind refusal))
 
 -- with these names an automated load, or else an unload, ends that is refused
 abbrev pub EndsIf : Bool → (Files → Listings → Type 0) → Shell → Environment → List Text → List Text → Type 0

@@ -8,7 +8,9 @@ ghost use Rattle.module_commands.specs.Explanations.{explained_view};
 use crate::asking::Asking;
 use crate::command::answer_of;
 use crate::exchanging::exchange_modules;
-use crate::explaining::{Explained, explained_exchange, explained_move};
+use crate::explaining::{
+    Explained, advised, explained_cause, explained_exchange, explained_move, explained_usage,
+};
 use crate::forgetting::with_way_out;
 use crate::refusal::{Refusal, error_line};
 use crate::reply::{Reply, hints_of, own_line, status_of, writings_of};
@@ -17,7 +19,8 @@ use crate::writing::Writing;
 use filetree::Tree;
 use filetree::hiding::HidingTree;
 use module_collections::files::Storage;
-use module_words::function::{Asked, AskedCommand, FunctionFault, advice_on, asked_for};
+use module_reports::listings::ListingFault;
+use module_words::function::{Asked, AskedCommand, FunctionFault, OutputFault, asked_for};
 use module_words::protocol::{Asker, ScriptWord, refusal_status, script_word};
 use module_words::subcommands::{USAGE, VERSION};
 use std::alloc::{AllocError, Global};
@@ -93,12 +96,9 @@ fn refused_words(
 ) -> Result<Answer, AllocError>
     ensures { IfOk result (λ a. spec.answer_view a ≡ spec.refused_words asking.now fault.entry) }
 {
-    let mut more = Explained::nothing(alloc);
-    if let Some(line) = advice_on(&fault) {
-        more.lines.push_str(line)?;
-        more.lines.push('\n')?;
-    }
-    refused(alloc, asking, &Refusal::Function(fault), more)
+    let refusal = Refusal::Function(fault);
+    let more = advised(alloc, asking, &refusal)?;
+    refused(alloc, asking, &refusal, more)
 }
 
 /// What explains a refusal, where that could be found.
@@ -132,16 +132,20 @@ fn explained_refusal<T: Tree + Drop>(
     tree: &mut T,
     spare: T,
 ) -> Explained {
-    match refusal {
+    let found = match refusal {
         Refusal::Requested(_) => {
-            let env = &asking.env;
-            if_found(
-                alloc,
-                explained_move(alloc, asking, env, command, tree, spare),
-            )
+            explained_move(alloc, asking, &asking.env, command, tree, spare)
         }
-        _ => Explained::nothing(alloc),
-    }
+        Refusal::Described(cause) => explained_cause(alloc, asking, cause, tree),
+        Refusal::BadArguments
+        | Refusal::Function(FunctionFault::BadArguments)
+        | Refusal::Output(OutputFault::Refused(FunctionFault::BadArguments))
+        | Refusal::Listing(ListingFault::BadArguments) => {
+            explained_usage(alloc, asking, command.subcommand)
+        }
+        _ => advised(alloc, asking, refusal),
+    };
+    if_found(alloc, found)
 }
 
 /// What explains why an unload and a load are refused.
@@ -154,13 +158,11 @@ fn explained_refusals<T: Tree + Drop>(
     tree: &mut T,
     spare: T,
 ) -> Explained {
-    match refusal {
-        Refusal::Requested(_) => if_found(
-            alloc,
-            explained_exchange(alloc, asking, unloads, loads, tree, spare),
-        ),
-        _ => Explained::nothing(alloc),
-    }
+    let found = match refusal {
+        Refusal::Requested(_) => { explained_exchange(alloc, asking, unloads, loads, tree, spare) }
+        _ => advised(alloc, asking, refusal),
+    };
+    if_found(alloc, found)
 }
 
 /// The answer to a command. If it is refused, what explains that follows the reason.

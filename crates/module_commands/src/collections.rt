@@ -15,7 +15,7 @@ use crate::lines::{in_order, lines_of};
 use crate::moving::changed;
 use crate::refusal::Refusal;
 use crate::reply::Reply;
-use crate::reporting::plain_reply;
+use crate::reporting::{lines_reply, plain_reply};
 use crate::site::site_path;
 use filetree::Tree;
 use module_auto::RequestFault;
@@ -76,7 +76,17 @@ fn refuse_words(words: &[String]) -> Result<(), Refusal<'static>>
     }
 }
 
-/// Reports the names of the collections.
+/// Why a report of collections is empty, where it is.
+fn why_none(alloc: Global, lines: &str) -> Result<String, AllocError>
+    ensures { IfOk result (λ line. string_bytes line ≡ spec.why_none lines.now) }
+{
+    if lines.is_empty() {
+        return String::from_str(alloc, "No collection is saved.\n");
+    }
+    Ok(String::new(alloc))
+}
+
+/// Reports the names of the collections, or says that there are none.
 pub(crate) fn list_saved<S: Storage>(
     alloc: Global,
     asking: &Asking,
@@ -90,7 +100,8 @@ pub(crate) fn list_saved<S: Storage>(
     refuse_words(words)?;
     let names = in_order(alloc, list_collections(alloc, storage, &asking.env)?)?;
     let lines = lines_of(alloc, names.as_slice())?;
-    Ok(plain_reply(alloc, place, lines.into_bytes())?)
+    let aside = why_none(alloc, lines.as_str())?;
+    Ok(lines_reply(alloc, aside, place, lines.into_bytes())?)
 }
 
 /// The path of a file, and what it has, as a report.

@@ -1,5 +1,6 @@
 //! What explains that a command was refused.
 ghost use Rattle.std.specs.Prelude.{◌≡◌, map, string_bytes, IfOk};
+ghost use Rattle.std.specs.Option.{option_map};
 ghost use Rattle.envvars.specs.Environment.{lookup};
 ghost use Rattle.envvars.specs.Texts.{texts_in};
 ghost use Rattle.filetree.specs.Agreement.{ReadsOn};
@@ -13,9 +14,13 @@ use crate::requesting::request_words;
 use envvars::{Env, Vars};
 use filetree::Tree;
 use module_auto::{refused_load, refused_unload};
-use module_explain::{Explanation, advice_line, explain, failed_path, log_line, user_lines};
-use module_words::function::{AskedCommand, FunctionFault, moved_names};
-use module_words::subcommands::Subcommand;
+use module_explain::{
+    Explanation, advice_line, explain, explain_refusal, explain_usage, failed_path, log_line,
+    user_lines,
+};
+use module_reports::listings::ListingFault;
+use module_words::function::{AskedCommand, FunctionFault, OutputFault, advice_on, moved_names};
+use module_words::subcommands::{Subcommand, option_elsewhere};
 use modules::{Refusal as RequestRefusal, STANDARD_LIMITS, request};
 use shelltext::Shell;
 use std::alloc::{AllocError, Global};
@@ -92,14 +97,18 @@ fn lines_for_user(alloc: Global, explanation: &Explanation) -> Result<String, Al
     Ok(lines)
 }
 
-/// What a log has: in which line of which file a modulefile failed.
+/// What a log has: in which line of which file a modulefile failed, and what to do.
 fn lines_for_log(alloc: Global, explanation: &Explanation) -> Result<String, AllocError>
     ensures { IfOk result (λ lines. string_bytes lines ≡ spec.lines_for_log explanation.now) }
 {
-    match &explanation.file {
-        Some(file) => log_line(alloc, file),
-        None => Ok(String::new(alloc)),
+    let mut lines = String::new(alloc);
+    if let Some(file) = &explanation.file {
+        lines.push_str(log_line(alloc, file)?.as_str())?;
     }
+    if let Some(advice) = &explanation.advice {
+        lines.push_str(advice_line(alloc, advice)?.as_str())?;
+    }
+    Ok(lines)
 }
 
 /// What is told of an explanation, to a user or a log.
@@ -185,6 +194,73 @@ pub(crate) fn explain_words<T: Tree + Drop>(
         Ok(explanation) => told(alloc, asking, &explanation),
         Err(_) => explained_path(alloc, asking, env, words, spare),
     }
+}
+
+/// What explains a refusal that no request has brought, as that of `help`, where the user wants that.
+pub(crate) fn explained_cause<T: Tree>(
+    alloc: Global,
+    asking: &Asking,
+    refusal: &RequestRefusal,
+    tree: &mut T,
+) -> Result<Explained, AllocError>
+    ensures { IfOk result (λ x. spec.ExplainsCause (T.agrees tree.new) asking.now refusal.now
+        (spec.explained_view x)) }
+{
+    let (shell, env) = (asking.shell, &asking.env);
+    if is_unwanted(env) {
+        return Ok(Explained::nothing(alloc));
+    }
+    match explain_refusal(alloc, shell, refusal, env, tree, STANDARD_LIMITS) {
+        Ok(explanation) => told(alloc, asking, &explanation),
+        Err(_) => Ok(Explained::nothing(alloc)),
+    }
+}
+
+/// What explains that words don't fit a subcommand, where the user wants that.
+pub(crate) fn explained_usage(
+    alloc: Global,
+    asking: &Asking,
+    subcommand: Subcommand,
+) -> Result<Explained, AllocError>
+    ensures { IfOk result (λ x. spec.ExplainsUsage asking.now subcommand (spec.explained_view x)) }
+{
+    if is_unwanted(&asking.env) {
+        return Ok(Explained::nothing(alloc));
+    }
+    let words = request_words(alloc, subcommand, &[])?;
+    let explanation = explain_usage(alloc, words.as_slice())?;
+    told(alloc, asking, &explanation)
+}
+
+/// What to type in place of words that mean nothing, where the command is refused for these.
+fn advice_behind(refusal: &Refusal<'_>) -> Option<&'static str>
+    ensures { option_map (λ t. t.now) result ≡ spec.advice_behind refusal.now }
+{
+    match refusal {
+        Refusal::Function(fault) | Refusal::Output(OutputFault::Refused(fault)) => advice_on(fault),
+        Refusal::Listing(ListingFault::NoAvailOption(word) | ListingFault::NoListOption(word)) =>
+            Some(option_elsewhere(word)),
+        _ => None,
+    }
+}
+
+/// What to type in place of words that mean nothing, as a line, where the user wants that.
+pub(crate) fn advised(
+    alloc: Global,
+    asking: &Asking,
+    refusal: &Refusal<'_>,
+) -> Result<Explained, AllocError>
+    ensures { IfOk result (λ x. spec.explained_view x ≡ spec.told_behind asking.now refusal.now) }
+{
+    let mut more = Explained::nothing(alloc);
+    if is_unwanted(&asking.env) {
+        return Ok(more);
+    }
+    if let Some(line) = advice_behind(refusal) {
+        more.lines.push_str(line)?;
+        more.lines.push('\n')?;
+    }
+    Ok(more)
 }
 
 /// The names with which an automated load or unload of these ended that was refused in an environment.

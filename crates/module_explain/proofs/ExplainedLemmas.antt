@@ -26,7 +26,7 @@ use Rattle.module_explain.specs.declared.location.FileExplanation.{FileExplanati
 use Rattle.module_explain.proofs.AdviceLemmas.{Answers}
 use Rattle.module_explain.specs.Advised.{ComesTo, IsAdvised}
 use Rattle.module_explain.specs.Locations.{IsLocated, IsNotLocated}
-use Rattle.module_explain.specs.Explained.{IsExplained, IsFile, IsOfOutcome, IsSound, IsUnexplained, IsWhy}
+use Rattle.module_explain.specs.Explained.{IsExplained, IsFile, IsOfCause, IsOfOutcome, IsSound, IsUnexplained, IsWhy}
 use Rattle.module_explain.specs.Views.{IfBecause, IsFileOf, is_known}
 use Rattle.module_explain.specs.declared.advice.Advice.{Advice}
 use Rattle.module_explain.specs.declared.advice.Advice.TheVariants as advices
@@ -118,6 +118,19 @@ module _ (agrees : Files → Listings → Type 0) (limits : Limits) (shell : She
   outcome memory failed x is comes said advised = absurd (cc)
   outcome device failed x is comes said advised = absurd (cc)
   outcome (because r) failed x is comes said advised = inr (r, comes, said, advised)
+
+  -- by the cause of a refusal that no request has brought
+  by_cause : (c : Cause RequestReason) (x : Explanation) → Said agrees x.file c → IfBecause c (λ r. IsAdvised agrees limits shell e action r x.advice)
+      → IsOfCause agrees limits shell e action c x
+  by_cause memory x said advised = tt
+  by_cause device x said advised = tt
+  by_cause (because r) x said advised = (said, advised)
+
+  pub caused : (given : Refusal) (r : Result Explanation Refusal) → IfOk r (λ x. IsFileOf agrees given x.file)
+      → IfOk r (λ x. IfBecause (cause_of given) (λ reason. IsAdvised agrees limits shell e action reason x.advice))
+      → IfOk r (IsOfCause agrees limits shell e action (cause_of given))
+  caused given (Ok x) file advised = by_cause (cause_of given) x (said_by agrees given x.file file) advised
+  caused given (Err refusal) file advised = tt
 
   why_of : (reason : RequestReason) (o : Option FileExplanation) → ComesTo agrees limits shell e action (Err reason) → IsFile agrees reason o → IfSome o (IsWhy agrees limits shell e action)
   why_of reason None comes h = tt

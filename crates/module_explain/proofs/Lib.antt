@@ -7,3 +7,4 @@ pub mod AutomaticLemmas
 pub mod UnknownLemmas
 pub mod ExplainedLemmas
 pub mod FailedLemmas
+pub mod PathLemmas

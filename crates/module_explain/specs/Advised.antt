@@ -17,7 +17,7 @@ use Rattle.requests.specs.Reasons.{RequestReason, conflict_with, prereq_missing,
 use Rattle.requests.specs.RequestViews.{action_view}
 use Rattle.requests.specs.Requests.{RequestedAction, load, unload, switch}
 use Rattle.requests.specs.Steps.{Done, RequestStep, modulepath, request_context_in}
-use Rattle.search.specs.Reasons.{FindReason, bad_name, not_found}
+use Rattle.search.specs.Reasons.{FindReason, bad_default, bad_name, not_found}
 use Rattle.shelltext.specs.Printing.{LacksText}
 use Rattle.shelltext.specs.declared.print.PrintFault.TheVariants as prints
 use Rattle.shelltext.specs.declared.shell.Shell.{Shell}
@@ -29,6 +29,7 @@ use Rattle.module_auto.specs.Unloads.{AutomaticUnload, StillNeed, in_front}
 use Rattle.module_auto.specs.declared.fault.RequestFault.{RequestFault}
 use Rattle.module_auto.specs.declared.fault.RequestFault.TheVariants as automatic
 use Rattle.module_explain.specs.Alike.{AreLike, others, respelled}
+use Rattle.module_explain.specs.Paths.{is_path, path_line}
 use Rattle.module_explain.specs.Replacements.{instead_of}
 use Rattle.module_explain.specs.declared.advice.Advice.{Advice}
 use Rattle.module_explain.specs.declared.advice.Advice.TheVariants as advices
@@ -45,6 +46,11 @@ none_is_there path = codes "None of the directories of MODULEPATH is there: " ++
 
 abbrev pub none_is_found : List Text → Text
 none_is_found alternatives = codes "Not found either: " ++ spaced alternatives
+
+-- of a file that names defaults, and has a fault
+abbrev pub of_default_file : Text
+of_default_file =
+    codes "It names a default: \"module-version NAME/VERSION default\" in .modulerc, \"set ModulesVersion VERSION\" in .version."
 
 abbrev pub behind_comma : Text → Text
 behind_comma name = codes ", " ++ name
@@ -233,11 +239,18 @@ module _ (agrees : Files → Listings → Type 0) (limits : Limits) (shell : She
       × InEachPair agrees (λ files listings. AreLike listings (directories path) name names)
       × IsKnown (question names) o))
 
+  -- For a path: its name below a directory that is searched, or that none of these has it. For another ill-spelled name
+  -- what it may stand for.
+  abbrev pub ForPathOr : Bool → (path name : Text) → Option Advice → Type 0
+  ForPathOr true path name o = IsKnown (Some (path_line (directories path) name)) o
+  ForPathOr false path name o = ForMisspelled path (respelled name) o
+
   -- ---- each reason
 
   abbrev pub ForMissed : FindReason → Option Advice → Type 0
   ForMissed (not_found name) o = ForUnknown (modulepath e) name o
-  ForMissed (bad_name name) o = ForMisspelled (modulepath e) (respelled name) o
+  ForMissed (bad_name name) o = ForPathOr (is_path name) (modulepath e) name o
+  ForMissed (bad_default path) o = IsKnown (Some of_default_file) o
   ForMissed reason o = o ≡ None
 
   -- What is advised of a request that is refused for this reason.

@@ -62,6 +62,19 @@ IsFile agrees (file_refused reason) None = IsNotLocated agrees reason
 IsFile agrees (file_refused reason) (Some x) = IsLocated agrees reason x
 IsFile agrees reason o = o ≡ None
 
+-- What is said of a refusal: the file and the advice that the reason asks for.
+abbrev pub IsOfReason : (Files → Listings → Type 0) → Limits → Shell → Environment → RequestedAction → RequestReason
+    → Explanation → Type 0
+IsOfReason agrees limits shell e action reason x =
+    IsFile agrees reason x.file × IsAdvised agrees limits shell e action reason x.advice
+
+-- the same of the cause of a refusal, if that is a reason
+abbrev pub IsOfCause : (Files → Listings → Type 0) → Limits → Shell → Environment → RequestedAction
+    → Cause RequestReason → Explanation → Type 0
+IsOfCause agrees limits shell e action memory x = Unit {0}
+IsOfCause agrees limits shell e action device x = Unit {0}
+IsOfCause agrees limits shell e action (because reason) x = IsOfReason agrees limits shell e action reason x
+
 -- Of a request whose step is done nothing is said; of one that is refused, what the reason asks for.
 abbrev pub IsOfOutcome : (Files → Listings → Type 0) → Limits → Shell → Environment → RequestedAction → Explanation
     → Type 0

@@ -1,6 +1,7 @@
 -- Why a request was refused, and what to do.
 pub mod Replacements
 pub mod Alike
+pub mod Paths
 pub mod Advised
 pub mod Commands
 pub mod Locations

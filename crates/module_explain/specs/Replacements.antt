@@ -49,6 +49,22 @@ first_of (Some one) other = Some one
 abbrev pub instead_of : Text → Option Text
 instead_of name = first_of (instead_of_change name) (instead_of_reading name)
 
+-- how a subcommand of the function alone is used, if it is one whose words can be refused
+abbrev pub of_function : Text → Option Text
+of_function word =
+    if has word (codes "keyword" ∷ []) then Some (codes "usage: module keyword TEXT")
+    else if has word (codes "reload" ∷ []) then Some (codes "usage: module reload")
+    else if has word (codes "forget" ∷ []) then Some (codes "usage: module forget [--settings-stay] NAME...")
+    else if has word (codes "is-avail" ∷ []) then Some (codes "usage: module is-avail NAME...")
+    else if has word (codes "use" ∷ []) then Some (codes "usage: module use [-a] DIR...")
+    else if has word (codes "unuse" ∷ []) then Some (codes "usage: module unuse DIR...")
+    else if has word (codes "save" ∷ []) then Some (codes "usage: module save [COLLECTION]")
+    else if has word (codes "restore" ∷ []) then Some (codes "usage: module restore [COLLECTION]")
+    else if has word (codes "savelist" ∷ []) then Some (codes "usage: module savelist")
+    else if has word (codes "saveshow" ∷ []) then Some (codes "usage: module saveshow [COLLECTION]")
+    else if has word (codes "saverm" ∷ []) then Some (codes "usage: module saverm COLLECTION")
+    else None
+
 -- how a subcommand is used, if it is one whose words can be refused
 abbrev pub usage_of : Text → Option Text
 usage_of word =
@@ -59,4 +75,4 @@ usage_of word =
     else if has word (codes "list" ∷ []) then Some (codes "usage: module list [-t] [TEXT...]")
     else if has word (codes "show" ∷ codes "display" ∷ []) then Some (codes "usage: module show NAME...")
     else if has word (codes "whatis" ∷ []) then Some (codes "usage: module whatis [NAME...]")
-    else None
+    else of_function word

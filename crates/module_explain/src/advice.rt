@@ -18,7 +18,7 @@ use crate::automatic::{for_need, for_needed};
 use crate::known::known;
 use crate::refused::RefusedRequest;
 use crate::replacements::instead_of;
-use crate::unknown::{for_misspelled, for_unknown};
+use crate::unknown::{for_bad_name, for_unknown};
 use envstate::loaded_list::{is_loaded, loaded};
 use envvars::Change;
 use filetree::Tree;
@@ -214,8 +214,12 @@ fn for_fault(alloc: Global, fault: &RunStop) -> Result<Option<Advice>, AllocErro
     }
 }
 
+/// What a file that names defaults may say.
+const DEFAULT_FILE: &str =
+    "It names a default: \"module-version NAME/VERSION default\" in .modulerc, \"set ModulesVersion VERSION\" in .version.";
+
 /// For a search that fails: where no module is found, that nothing is searched, or names that are like it; for an
-/// ill-spelled name, names that are like what it may stand for.
+/// ill-spelled name, what it may stand for; for a file that names defaults, what that may say.
 fn for_missed<T: Tree>(
     refused: RefusedRequest<'_>,
     tree: &mut T,
@@ -231,11 +235,9 @@ fn for_missed<T: Tree>(
 {
     match fault {
         FindFault::NotFound(name) => for_unknown(refused, tree, name.as_str()),
-        FindFault::BadName(name) => for_misspelled(refused, tree, name.as_str()),
-        FindFault::OutOfMemory
-        | FindFault::Device
-        | FindFault::BadDefaultFile(_)
-        | FindFault::NotUtf8(_) => Ok(None),
+        FindFault::BadName(name) => for_bad_name(refused, tree, name.as_str()),
+        FindFault::BadDefaultFile(_) => Ok(known(refused.alloc, Some(DEFAULT_FILE))?),
+        FindFault::OutOfMemory | FindFault::Device | FindFault::NotUtf8(_) => Ok(None),
     }
 }
 

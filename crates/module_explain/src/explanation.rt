@@ -6,9 +6,9 @@ ghost use Rattle.filetree.specs.Agreement.{ReadsOn};
 ghost use Rattle.modules.specs.transient_failures.Causes.{is_transient};
 ghost use Rattle.modules.specs.Answers.{cause_of};
 ghost use Rattle.requests.specs.RequestViews.{action_view};
-ghost use Rattle.requests.specs.Requests.{RequestedAction, request_of};
+ghost use Rattle.requests.specs.Requests.{RequestedAction, list, request_of};
 ghost use Rattle.module_explain.specs.Advised.{IsAdvised};
-ghost use Rattle.module_explain.specs.Explained.{IsExplained, IsOfOutcome, IsOfUsage, IsSound, IsUnexplained, IsWhy};
+ghost use Rattle.module_explain.specs.Explained.{IsExplained, IsOfCause, IsOfOutcome, IsOfUsage, IsSound, IsUnexplained, IsWhy};
 ghost use Rattle.module_explain.specs.Views.{IfBecause, IsFileOf, is_known};
 ghost use Rattle.module_explain.specs.FailedPaths.{IsDeviceOnlyIf};
 
@@ -20,7 +20,7 @@ use crate::replacements::usage_of;
 use envvars::Env;
 use filetree::Tree;
 use modules::transient_failures::unless_transient;
-use modules::{Refusal, request, run_changes};
+use modules::{Action, Refusal, Request, request, run_changes};
 use shelltext::Shell;
 use std::alloc::{AllocError, Global};
 use tclrules::Limits;
@@ -34,8 +34,10 @@ pub struct Explanation {
     pub advice: Option<Advice>,
 }
 
-/// What is said where these words make no request: how the subcommand is used.
-fn of_usage(alloc: Global, words: &[String]) -> Result<Explanation, AllocError>
+/// What is said where these words don't fit the subcommand, which is the first of them: how that is used.
+///
+/// It fails for want of memory alone.
+pub fn explain_usage(alloc: Global, words: &[String]) -> Result<Explanation, AllocError>
     ensures known { IfOk result (λ x. IfSome x.advice (λ advice. is_known advice ≡ true)) }
     ensures said { IfOk result (IsOfUsage (map string_bytes words.now)) }
 {
@@ -96,6 +98,35 @@ fn of_refusal<T: Tree>(
     let file = file_of(refused, tree, refusal)?;
     let advice = advice_for(refused, tree, refusal)?;
     Ok(Explanation { file, advice })
+}
+
+/// Explains a refusal that no request has brought, as that of a report: where a modulefile failed, and what to do. It is
+/// as of a request that neither loads nor unloads.
+///
+/// It fails where memory ran out, or the device failed.
+pub fn explain_refusal<T: Tree>(
+    alloc: Global,
+    shell: Shell,
+    refusal: &Refusal,
+    env: &Env,
+    tree: &mut T,
+    limits: Limits,
+) -> Result<Explanation, Refusal>
+    ensures reads { ReadsOn T.agrees T.failures tree.old tree.new }
+    ensures advised { IfOk result (λ x. IfSome x.advice (IsSound (T.agrees tree.new) limits shell env.now)) }
+    ensures said { IfOk result (IsOfCause (T.agrees tree.new) limits shell env.now list (cause_of refusal.now)) }
+{
+    let wanted = Request {
+        shell,
+        action: Action::List,
+    };
+    let refused = RefusedRequest {
+        alloc,
+        request: &wanted,
+        env,
+        limits,
+    };
+    of_refusal(refused, tree, refusal)
 }
 
 /// What is said of a request that is run: nothing where it is accepted.
@@ -169,7 +200,7 @@ pub fn explain<T: Tree>(
 {
     let wanted = match request(alloc, shell, words) {
         Ok(wanted) => wanted,
-        Err(Refusal::BadArguments) => return Ok(of_usage(alloc, words)?),
+        Err(Refusal::BadArguments) => return Ok(explain_usage(alloc, words)?),
         Err(refusal) => return Err(refusal),
     };
     let refused = RefusedRequest {

@@ -11,6 +11,7 @@ mod failures;
 mod file_lines;
 mod known;
 mod location;
+mod paths;
 mod refused;
 mod replacements;
 mod shortened;
@@ -18,7 +19,7 @@ mod unknown;
 
 pub use advice::Advice;
 pub use advice_lines::advice_line;
-pub use explanation::{Explanation, explain};
+pub use explanation::{Explanation, explain, explain_refusal, explain_usage};
 pub use failures::failed_path;
 pub use file_lines::{log_line, user_lines};
 pub use location::FileExplanation;

@@ -58,6 +58,26 @@ pub(crate) fn instead_of(name: &str) -> Option<&'static str>
     }
 }
 
+/// How a subcommand that only the function has is used, if it is one whose words can be refused.
+fn usage_of_function(subcommand: &str) -> Option<&'static str>
+    ensures { option_map (λ t. t.now) result ≡ spec.of_function subcommand.now }
+{
+    match subcommand {
+        "keyword" => Some("usage: module keyword TEXT"),
+        "reload" => Some("usage: module reload"),
+        "forget" => Some("usage: module forget [--settings-stay] NAME..."),
+        "is-avail" => Some("usage: module is-avail NAME..."),
+        "use" => Some("usage: module use [-a] DIR..."),
+        "unuse" => Some("usage: module unuse DIR..."),
+        "save" => Some("usage: module save [COLLECTION]"),
+        "restore" => Some("usage: module restore [COLLECTION]"),
+        "savelist" => Some("usage: module savelist"),
+        "saveshow" => Some("usage: module saveshow [COLLECTION]"),
+        "saverm" => Some("usage: module saverm COLLECTION"),
+        _ => None,
+    }
+}
+
 /// How a subcommand is used, if it is one whose words can be refused.
 pub(crate) fn usage_of(subcommand: &str) -> Option<&'static str>
     ensures { option_map (λ t. t.now) result ≡ spec.usage_of subcommand.now }
@@ -70,6 +90,6 @@ pub(crate) fn usage_of(subcommand: &str) -> Option<&'static str>
         "list" => Some("usage: module list [-t] [TEXT...]"),
         "show" | "display" => Some("usage: module show NAME..."),
         "whatis" => Some("usage: module whatis [NAME...]"),
-        _ => None,
+        _ => usage_of_function(subcommand),
     }
 }

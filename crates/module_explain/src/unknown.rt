@@ -7,12 +7,14 @@ ghost use Rattle.filetree.specs.Agreement.{FailsOnlyByDevice, Narrows, ReadsOn};
 ghost use Rattle.requests.specs.Steps.{modulepath};
 ghost use Rattle.module_explain.specs.Advised as spec;
 ghost use Rattle.module_explain.specs.Alike.{respelled};
+ghost use Rattle.module_explain.specs.Paths.{is_path};
 ghost use Rattle.module_explain.specs.Views.{is_known};
 ghost use Rattle.module_explain.specs.FailedPaths.{IsDeviceOnlyIf};
 
 use crate::advice::Advice;
 use crate::alike::{names_like, others, respelled};
 use crate::known::{asked, known};
+use crate::paths::line_of_path;
 use crate::refused::RefusedRequest;
 use filetree::{Tree, TreeFault};
 use modulename::is_module_name;
@@ -71,7 +73,7 @@ pub(crate) fn for_unknown<T: Tree>(
 /// For an ill-spelled name: names that are like what it may stand for, if this is well spelled.
 ///
 /// It fails where memory ran out, or the device failed.
-pub(crate) fn for_misspelled<T: Tree>(
+fn for_misspelled<T: Tree>(
     refused: RefusedRequest<'_>,
     tree: &mut T,
     name: &str,
@@ -92,4 +94,30 @@ pub(crate) fn for_misspelled<T: Tree>(
     let directories = directories(alloc, modulepath(refused.env))?;
     let names = names_like(alloc, tree, directories.as_slice(), name.as_str())?;
     Ok(asked(alloc, names.as_slice())?)
+}
+
+/// For an ill-spelled name: for a path its name below a directory that is searched, and else names that are like what it
+/// may stand for.
+///
+/// It fails where memory ran out, or the device failed.
+pub(crate) fn for_bad_name<T: Tree>(
+    refused: RefusedRequest<'_>,
+    tree: &mut T,
+    name: &str,
+) -> Result<Option<Advice>, Refusal>
+    ensures reads { ReadsOn T.agrees T.failures tree.old tree.new }
+    ensures gave_up { IfErr result (λ refusal.
+        IsDeviceOnlyIf (cause_of refusal) (T.failures tree.old < T.failures tree.new)) }
+    ensures known { IfOk result (λ o. IfSome o (λ advice. is_known advice ≡ true)) }
+    ensures fits { IfOk result (spec.ForPathOr (T.agrees tree.new) refused.entry.limits
+        refused.entry.request.now.shell refused.entry.env.now (is_path name.now) (modulepath refused.entry.env.now)
+        name.now) }
+{
+    if !name.starts_with('/') {
+        return for_misspelled(refused, tree, name);
+    }
+    let alloc = refused.alloc;
+    let directories = directories(alloc, modulepath(refused.env))?;
+    let line = line_of_path(alloc, directories.as_slice(), name)?;
+    Ok(known(alloc, Some(line.as_str()))?)
 }

@@ -5,3 +5,4 @@ pub mod Nearness
 pub mod Meanings
 pub mod Faults
 pub mod Elsewhere
+pub mod OtherOptions

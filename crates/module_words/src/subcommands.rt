@@ -16,6 +16,6 @@ pub use laws::words_mean;
 pub use meaning::subcommand_of;
 pub use nearness::differ_by_one;
 pub use options::{CommandOption, OptionName, option_of, options_of};
-pub use other_tools::elsewhere;
+pub use other_tools::{OtherOption, elsewhere, option_elsewhere};
 pub use table::{Subcommand, SubcommandName, subcommand_names};
 pub use usage::{USAGE, VERSION};
