@@ -74,8 +74,16 @@ def same(found, wanted, what):
 # What the function's program says behind "Unknown subcommand 'WORD'", and of a word of Lmod's.
 LISTS = '"module help" lists the subcommands.\n'
 OF_SPIDER = 'Here: "module keyword TEXT" for names and descriptions, "module avail -C TEXT" for names.\n'
+
+# What it says of an option that nothing is known of, and of some that other tools or other subcommands have.
 OPTIONS = '"module help" lists the options.\n'
 FORCED = 'Nothing is forced here: "module forget NAME" is for a module whose file is gone.\n'
+OF_OPTIONS = {
+    "--force": FORCED,
+    "-f": FORCED,
+    "--no-auto": "Here: MODULES_AUTO_HANDLING=0 in the environment.\n",
+    "--auto": 'Here: "module load --auto NAME" and "module unload --auto NAME".\n',
+}
 
 
 def true(fact, what):

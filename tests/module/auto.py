@@ -9,7 +9,9 @@ import tempfile
 import pytest
 
 from tests.lib.examples import wording
-from tests.lib.harness import NOBODY, SECONDS, dynamic, evaluated, refuser, refuses_each, same, true
+from tests.lib.harness import (
+    NOBODY, OF_OPTIONS, OPTIONS, SECONDS, dynamic, evaluated, refuser, refuses_each, same, true,
+)
 
 BY_NOBODY = {"user": NOBODY, "group": NOBODY, "extra_groups": []} if os.geteuid() == 0 else {}
 
@@ -67,12 +69,12 @@ LOADS = [
 REFUSED = [
     ("", "nope", wording(42, "nope")),
     ("", "hdf5 nope", wording(42, "nope")),
-    ("", "lost", wording(52, "nothere neither")),
-    ("", "hidden", wording(52, "inner")),
+    ("", "lost", wording(52, "nothere neither") + "\nNot found either: nothere neither"),
+    ("", "hidden", wording(52, "inner") + "\nNot found either: inner"),
     ("", "ring/1", wording(52, "ring/2")),
     ("", "ring/2", wording(52, "ring/1")),
     ("", "itself", wording(52, "itself")),
-    ("", "odd", wording(52, "gcc/default")),
+    ("", "odd", wording(52, "gcc/default") + "\nNot found either: gcc/default"),
     ("", "apart", wording(51, "gcc/13.2.0")),
     ("", "gcc/12.3.0 apart", wording(51, "gcc/12.3.0")),
     ("", "broken", "no such licence (line 2)\n  in {}/spoilt/1, line 2"),
@@ -172,7 +174,8 @@ def test_the_variable_automates_each_command(place):
     for value in ("0", "", "yes", "11"):
         env = {**place.start, "MODULES_AUTO_HANDLING": value}
         found = place.run(place.module, ["load", "hdf5"], env)
-        same(found, (1, "", f"ERROR: {wording(52, 'openmpi/4.1.6')}\n"), f"where it is {value!r}")
+        said = "Try: module load --auto hdf5 (as load gcc/13.2.0 openmpi/4.1.6 hdf5)\n"
+        same(found, (1, "", f"ERROR: {wording(52, 'openmpi/4.1.6')}\n{said}"), f"where it is {value!r}")
         same(place.run(place.module, ["load", "gcc"], env), place.run(place.modulecmd, ["load", "gcc"], env), "a load")
     for word in ("switch", "purge"):
         env = {**place.after(CHAIN), "MODULES_AUTO_HANDLING": "1"}
@@ -210,7 +213,7 @@ def test_an_exchange_is_an_unload_and_then_a_load(place, row):
     env = place.after(names)
     status, text, messages = place.run(place.module, ["ml", *words.split()], env)
     if unloads is None:
-        same((status, text, messages), (1, "", "ERROR: '--' is no option here\n"), "an option")
+        same((status, text, messages), (1, "", f"ERROR: '--' is no option here\n{OPTIONS}"), "an option")
         return
     found = evaluated(text.encode(), {name.encode(): value.encode() for name, value in env.items()})
     after, more = exchanged(place, env, unloads, loads)
@@ -239,7 +242,7 @@ def test_other_names_of_the_subcommands(place):
 def test_a_load_without_names_does_nothing(place):
     same(place.run(place.module, ["load", "--auto"], place.start), (0, "", ""), "load --auto")
     found = place.run(place.module, ["unload", "--auto"], place.start)
-    same(found, (1, "", "ERROR: Bad arguments\n"), "unload --auto")
+    same(found, (1, "", "ERROR: Bad arguments\nusage: module unload NAME...\n"), "unload --auto")
 
 
 @pytest.mark.parametrize("variable", [{}, {"MODULES_AUTO_HANDLING": "1"}])
@@ -259,7 +262,8 @@ def test_options_are_refused_by_name(place, variable):
         (["purge", "--force"], "--force"),
     ):
         found = place.run(place.module, words, {**place.start, **variable})
-        same(found, (1, "", f"ERROR: '{option}' is no option here\n"), f"{words}")
+        more = OF_OPTIONS.get(option, OPTIONS)
+        same(found, (1, "", f"ERROR: '{option}' is no option here\n{more}"), f"{words}")
 
 
 def test_a_load_that_needs_nothing_reads_each_file_once(place):

@@ -2,7 +2,7 @@
 
 import pytest
 
-from tests.lib.harness import FORCED, OPTIONS, same
+from tests.lib.harness import OF_OPTIONS, OPTIONS, same
 from tests.shells.session import changed, same_environment
 
 
@@ -89,19 +89,10 @@ REFUSED = {
     "ml foo --force": "--force",
 }
 
-# What is said of each.
-INSTEAD = {
-    "--force": FORCED,
-    "-f": FORCED,
-    "--no-auto": "Here: MODULES_AUTO_HANDLING=0 in the environment.\n",
-    "--auto": 'Here: "module load --auto NAME" and "module unload --auto NAME".\n',
-    "-a  *": OPTIONS,
-}
-
 
 def test_options_are_refused_by_name(real):
     lines = [part for line in REFUSED for part in (line, "status")]
-    said = "".join(f"ERROR: '{option}' is no option here\n{INSTEAD[option]}" for option in REFUSED.values())
+    said = "".join(f"ERROR: '{option}' is no option here\n{OF_OPTIONS.get(option, OPTIONS)}" for option in REFUSED.values())
     kept = real.keeps(["show", *lines, "show"], err=said.encode())
     same(kept.statuses, ["1"] * len(REFUSED), "the statuses")
     same_environment(kept.shown[1], kept.shown[0], "the environment after")

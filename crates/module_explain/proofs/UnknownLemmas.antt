@@ -1,5 +1,5 @@
 -- The directories that are searched, and what is said of a name that isn't found.
-use Rattle.std.proofs.Common.{◌≡◌, ℕ, ◌+◌, ◌<◌, ◌≤◌, ◌==◌, Bool, true, false, List, [], ◌∷◌, length, take, get_or, Bor, String, Option, Some, None, inl, inr, refl, subst, ◌∙◌, arith}
+use Rattle.std.proofs.Common.{◌≡◌, ℕ, ◌+◌, ◌<◌, ◌≤◌, ◌==◌, Bool, true, false, List, [], ◌∷◌, length, take, get_or, Bor, String, Option, Some, None, inl, inr, refl, sym, subst, ◌∙◌, arith}
 use Rattle.std.proofs.lemmas.Bool.Decides.{nat_tests}
 use Rattle.std.proofs.lemmas.List.{get_or-map, length-map, take_all}
 use Rattle.std.proofs.lemmas.List.Elements.{All-map, All-more}
@@ -12,8 +12,9 @@ use Rattle.filetree.specs.Agreement.{Files, Listings, InEachPair, Narrows, listi
 use Rattle.filetree.specs.Modulefiles.{directories}
 use Rattle.shelltext.specs.declared.shell.Shell.{Shell}
 use Rattle.tclrules.specs.declared.limits.Limits.{Limits}
-use Rattle.module_explain.specs.Advised.{ForUnknown, IsKnown, IsOneThere, NoneIsThere, none_is_there, nothing_searched, question}
-use Rattle.module_explain.specs.Alike.{AreLike, others}
+use Rattle.module_explain.specs.Advised.{ForMisspelled, ForPathOr, ForUnknown, IsKnown, IsOneThere, NoneIsThere, none_is_there, nothing_searched, question}
+use Rattle.module_explain.specs.Alike.{AreLike, others, respelled}
+use Rattle.module_explain.specs.Paths.{path_line}
 use Rattle.module_explain.specs.declared.advice.Advice.{Advice}
 
 -- what a listing answers
@@ -77,3 +78,12 @@ module _ (before now : Files → Listings → Type 0) (limits : Limits) (shell :
           → InEachPair now (λ files listings. AreLike listings (directories path) typed names) → IsKnown (question (others typed names)) o → ForUnknown now limits shell e path typed o
       go [] o to full one like h = absurd (cc)
       go (b ∷ bs) o to full one like h = inr (later (directories (b ∷ bs)) (to one), (names, like, h))
+
+-- ---- an ill-spelled name
+
+module _ (agrees : Files → Listings → Type 0) (limits : Limits) (shell : Shell) (e : Environment) (path name : Text) (is : Bool) (o : Option Advice) where
+  pub path_is_said : is ≡ true → IsKnown (Some (path_line (directories path) name)) o → ForPathOr agrees limits shell e is path name o
+  path_is_said so h = subst (λ (b : Bool). ForPathOr agrees limits shell e b path name o) (sym so) h
+
+  pub respelled_is_said : is ≡ false → ForMisspelled agrees limits shell e path (respelled name) o → ForPathOr agrees limits shell e is path name o
+  respelled_is_said not h = subst (λ (b : Bool). ForPathOr agrees limits shell e b path name o) (sym not) h

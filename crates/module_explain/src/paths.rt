@@ -41,6 +41,22 @@ fn directory_above<'a>(directories: &[&'a str], path: &str) -> Option<&'a str>
     }
 }
 
+/// What is said where no directory that is searched is above a path.
+const ELSEWHERE: &str =
+    "A module is named, not its file: \"module use DIRECTORY\", then \"module load NAME\".";
+
+/// What is said of the path of a name below a directory.
+fn named_line(alloc: Global, name: &str, directory: &str) -> Result<String, AllocError>
+    ensures { IfOk result (λ line. string_bytes line ≡ spec.named_line name.now directory.now) }
+{
+    let mut line = String::from_str(alloc, "A module is named, not its file: \"module load ")?;
+    line.push_str(name)?;
+    line.push_str("\", which is below ")?;
+    line.push_str(directory)?;
+    line.push('.')?;
+    Ok(line)
+}
+
 /// What is said of a path: the name that it has below one of the directories, or that its directory isn't searched.
 pub(crate) fn line_of_path(
     alloc: Global,
@@ -49,15 +65,11 @@ pub(crate) fn line_of_path(
 ) -> Result<String, AllocError>
     ensures { IfOk result (λ line. string_bytes line ≡ spec.path_line (slice_texts directories.now) path.now) }
 {
-    let mut line = String::from_str(alloc, "A module is named, not its file: ")?;
     let Some(directory) = directory_above(directories, path) else {
-        line.push_str("\"module use DIRECTORY\", then \"module load NAME\".")?;
-        return Ok(line);
+        return String::from_str(alloc, ELSEWHERE);
     };
-    line.push_str("\"module load ")?;
-    line.push_str(name_below(path, directory).unwrap_or(path))?;
-    line.push_str("\", which is below ")?;
-    line.push_str(directory)?;
-    line.push('.')?;
-    Ok(line)
+    match name_below(path, directory) {
+        Some(name) => named_line(alloc, name, directory),
+        None => String::from_str(alloc, ELSEWHERE),
+    }
 }
