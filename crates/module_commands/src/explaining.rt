@@ -227,8 +227,7 @@ pub(crate) fn explained_usage(
     if is_unwanted(&asking.env) {
         return Ok(Explained::nothing(alloc));
     }
-    let words = request_words(alloc, subcommand, &[])?;
-    let explanation = explain_usage(alloc, words.as_slice())?;
+    let explanation = explain_usage(alloc, subcommand.name())?;
     told(alloc, asking, &explanation)
 }
 

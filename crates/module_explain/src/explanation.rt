@@ -1,5 +1,5 @@
 //! What is said of a refused request: where a modulefile failed, and what to do.
-ghost use Rattle.std.specs.Prelude.{◌≡◌, true, Ok, IfErr, IfOk, IfSome, map, string_bytes};
+ghost use Rattle.std.specs.Prelude.{◌≡◌, ◌∷◌, [], true, Ok, IfErr, IfOk, IfSome, map, string_bytes};
 ghost use Rattle.std.specs.Prelude.{◌<◌, ◌⊎◌, Err};
 ghost use Rattle.filetree.specs.Causes.{memory};
 ghost use Rattle.filetree.specs.Agreement.{ReadsOn};
@@ -34,10 +34,20 @@ pub struct Explanation {
     pub advice: Option<Advice>,
 }
 
-/// What is said where these words don't fit the subcommand, which is the first of them: how that is used.
+/// What is said where words don't fit this subcommand: how it is used.
 ///
 /// It fails for want of memory alone.
-pub fn explain_usage(alloc: Global, words: &[String]) -> Result<Explanation, AllocError>
+pub fn explain_usage(alloc: Global, subcommand: &str) -> Result<Explanation, AllocError>
+    ensures { IfOk result (IsOfUsage (subcommand.now ∷ [])) }
+{
+    Ok(Explanation {
+        file: None,
+        advice: known(alloc, usage_of(subcommand))?,
+    })
+}
+
+/// What is said where these words make no request: how the subcommand is used.
+fn of_usage(alloc: Global, words: &[String]) -> Result<Explanation, AllocError>
     ensures known { IfOk result (λ x. IfSome x.advice (λ advice. is_known advice ≡ true)) }
     ensures said { IfOk result (IsOfUsage (map string_bytes words.now)) }
 {
@@ -200,7 +210,7 @@ pub fn explain<T: Tree>(
 {
     let wanted = match request(alloc, shell, words) {
         Ok(wanted) => wanted,
-        Err(Refusal::BadArguments) => return Ok(explain_usage(alloc, words)?),
+        Err(Refusal::BadArguments) => return Ok(of_usage(alloc, words)?),
         Err(refusal) => return Err(refusal),
     };
     let refused = RefusedRequest {
