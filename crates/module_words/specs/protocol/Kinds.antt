@@ -1,5 +1,5 @@
 -- Which commands report something, and what their reports are like (module(1)).
-use Rattle.std.specs.Prelude.{Bool, true, false, not, ◌||◌, List, [], ◌∷◌, if◌then◌else◌, Option, Some, None}
+use Rattle.std.specs.Prelude.{Bool, true, false, not, ◌||◌, List, [], ◌∷◌, if◌then◌else◌, Option, Some}
 use Rattle.message.specs.Messages.{Text}
 use Rattle.module_words.specs.subcommands.Meanings.{is_option}
 use Rattle.module_words.specs.subcommands.Options.{is_end, option_named}
