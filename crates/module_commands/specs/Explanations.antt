@@ -136,8 +136,7 @@ ExplainsUsage asking subcommand t = ExplainsUsageIf (is_unwanted (lookup asking.
 
 -- what to type in place of an option that a report doesn't have
 abbrev pub of_listing : ListingFault → Option Text
-of_listing (listings.NoAvailOption word) = Some (option_elsewhere word.now)
-of_listing (listings.NoListOption word) = Some (option_elsewhere word.now)
+of_listing (listings.NoOption subcommand word) = Some (option_elsewhere word.now)
 of_listing other = None
 
 -- What to type in place of words that mean nothing, if a command is refused for these.

@@ -10,12 +10,13 @@ use Rattle.module_reports.specs.listings.Available.{ReportsAvailable}
 use Rattle.module_reports.specs.listings.Faults.{ListingReason, cause_of, reason_of}
 use Rattle.module_reports.specs.listings.Finding.{FindsReadable}
 use Rattle.module_reports.specs.listings.Hints.{directory_lines, why_none}
-use Rattle.module_reports.specs.listings.Options.{avail_words, no_options}
+use Rattle.module_reports.specs.listings.Options.{report_words}
 use Rattle.module_reports.specs.listings.Places.{terminal_at}
 use Rattle.module_reports.specs.listings.Reports.{list_report}
 use Rattle.module_words.specs.declared.protocol.place.Place.{Place}
 use Rattle.module_words.specs.declared.protocol.place.Place.TheVariants as places
 use Rattle.module_words.specs.declared.protocol.place.ReportKind.{ReportKind}
+use Rattle.module_words.specs.declared.subcommands.table.Subcommand.TheVariants.{Avail}
 use Rattle.module_commands.specs.Limits.{standard}
 use Rattle.module_commands.specs.Reports.{IsLinesReply, IsNamesReply}
 use Rattle.module_commands.specs.declared.asking.Asking.{Asking}
@@ -62,7 +63,7 @@ ReportsWhatIsThere agrees has_failed before now asking kind place words reply =
 abbrev pub RefusesAvailable : Type 0 → List Text → Refusal → Type 0
 RefusesAvailable failed words refusals.OutOfMemory = Unit {0}
 RefusesAvailable failed words (refusals.Listing fault) =
-    Applies (cause_of fault) failed (λ reason. avail_words no_options words ≡ Err reason)
+    Applies (cause_of fault) failed (λ reason. report_words Avail words ≡ Err reason)
 RefusesAvailable failed words other = ⊥
 
 -- What `is-avail` answers: yes, if a module is found for one of the names.

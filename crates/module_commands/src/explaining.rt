@@ -237,8 +237,7 @@ fn advice_behind(refusal: &Refusal<'_>) -> Option<&'static str>
 {
     match refusal {
         Refusal::Function(fault) | Refusal::Output(OutputFault::Refused(fault)) => advice_on(fault),
-        Refusal::Listing(ListingFault::NoAvailOption(word) | ListingFault::NoListOption(word)) =>
-            Some(option_elsewhere(word)),
+        Refusal::Listing(ListingFault::NoOption(_, word)) => Some(option_elsewhere(word)),
         _ => None,
     }
 }

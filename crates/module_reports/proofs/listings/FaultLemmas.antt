@@ -13,8 +13,7 @@ no_failure faults.OutOfMemory h = absurd (false≢true h)
 no_failure faults.Inconsistent h = refl
 no_failure faults.Device h = absurd (false≢true h)
 no_failure faults.BadArguments h = refl
-no_failure (faults.NoAvailOption word) h = refl
-no_failure (faults.NoListOption word) h = refl
+no_failure (faults.NoOption subcommand word) h = refl
 
 -- its cause is that reason
 pub applies_reason : {Y : Type 0} (fault : ListingFault) (outcome : Result Y ListingReason) (failed : Type 0) → has_reason fault ≡ true → IfSome (reason_of fault) (λ reason. outcome ≡ Err reason)
@@ -23,5 +22,4 @@ applies_reason faults.OutOfMemory outcome failed h given = absurd (false≢true 
 applies_reason faults.Inconsistent outcome failed h given = given
 applies_reason faults.Device outcome failed h given = absurd (false≢true h)
 applies_reason faults.BadArguments outcome failed h given = given
-applies_reason (faults.NoAvailOption word) outcome failed h given = given
-applies_reason (faults.NoListOption word) outcome failed h given = given
+applies_reason (faults.NoOption subcommand word) outcome failed h given = given

@@ -8,7 +8,8 @@ use Rattle.search.specs.DefaultFiles.{DefaultFileResult}
 use Rattle.search.specs.Listed.{Listing, Listed}
 use Rattle.requests.specs.Steps.{modulepath}
 use Rattle.module_reports.specs.listings.Chosen.{chosen}
-use Rattle.module_reports.specs.listings.Options.{Words, avail_words, no_options}
+use Rattle.module_words.specs.declared.subcommands.table.Subcommand.TheVariants.{Avail}
+use Rattle.module_reports.specs.listings.Options.{Words, report_words}
 use Rattle.module_reports.specs.listings.Reports.{available_text, loaded_or_none}
 use Rattle.module_reports.specs.listings.Texts.{searched_texts}
 use Rattle.module_reports.specs.declared.listings.layout.Terminal.{Terminal}
@@ -34,7 +35,7 @@ pub record ReportsAvailable (results : Text → Text → Option DefaultFileResul
     (agrees : Files → Listings → Type 0) (has_failed : Text → Bool) (before now : ℕ) (terminal : Option Terminal)
     (e : Environment) (given : List Text) (text : Text) : Type 0 where
   pub words : Words
-  pub meaning : avail_words no_options given ≡ Ok words
+  pub meaning : report_words Avail given ≡ Ok words
   pub unreadable : List Text
   pub failed : AllFailed has_failed unreadable
   pub cause : (unreadable ≡ []) ⊎ (before < now)

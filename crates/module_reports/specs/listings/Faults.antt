@@ -8,6 +8,8 @@ use Rattle.envvars.specs.declared.fault.EnvFault.TheVariants as envs
 use Rattle.filetree.specs.Causes.{Cause, memory, device, because}
 use Rattle.filetree.specs.declared.tree.TreeFault.{TreeFault}
 use Rattle.filetree.specs.declared.tree.TreeFault.TheVariants as trees
+use Rattle.module_words.specs.declared.subcommands.table.Subcommand.{Subcommand}
+use Rattle.module_words.specs.declared.subcommands.table.Subcommand.TheVariants as subcommands
 use Rattle.module_reports.specs.declared.listings.fault.ListingFault.{ListingFault}
 use Rattle.module_reports.specs.declared.listings.fault.ListingFault.TheVariants as faults
 
@@ -15,8 +17,7 @@ use Rattle.module_reports.specs.declared.listings.fault.ListingFault.TheVariants
 pub data ListingReason : Type 0 where
   inconsistent : ListingReason
   bad_arguments : ListingReason
-  no_avail_option : (word : Text) → ListingReason
-  no_list_option : (word : Text) → ListingReason
+  no_option : (subcommand : Subcommand) → (word : Text) → ListingReason
 
 -- the cause of a fault
 abbrev pub cause_of : ListingFault → Cause ListingReason
@@ -24,8 +25,7 @@ cause_of faults.OutOfMemory = memory
 cause_of faults.Inconsistent = because inconsistent
 cause_of faults.Device = device
 cause_of faults.BadArguments = because bad_arguments
-cause_of (faults.NoAvailOption word) = because (no_avail_option word.now)
-cause_of (faults.NoListOption word) = because (no_list_option word.now)
+cause_of (faults.NoOption subcommand word) = because (no_option subcommand word.now)
 
 -- the reason of a fault; want of memory and a failed device are none
 abbrev pub reason_of : ListingFault → Option ListingReason
@@ -33,8 +33,7 @@ reason_of faults.OutOfMemory = None
 reason_of faults.Inconsistent = Some inconsistent
 reason_of faults.Device = None
 reason_of faults.BadArguments = Some bad_arguments
-reason_of (faults.NoAvailOption word) = Some (no_avail_option word.now)
-reason_of (faults.NoListOption word) = Some (no_list_option word.now)
+reason_of (faults.NoOption subcommand word) = Some (no_option subcommand word.now)
 
 -- the fault is the device's
 abbrev pub is_failure : ListingFault → Bool
@@ -42,8 +41,7 @@ is_failure faults.OutOfMemory = false
 is_failure faults.Inconsistent = false
 is_failure faults.Device = true
 is_failure faults.BadArguments = false
-is_failure (faults.NoAvailOption word) = false
-is_failure (faults.NoListOption word) = false
+is_failure (faults.NoOption subcommand word) = false
 
 -- the fault has a reason
 abbrev pub has_reason : ListingFault → Bool
@@ -51,8 +49,12 @@ has_reason faults.OutOfMemory = false
 has_reason faults.Inconsistent = true
 has_reason faults.Device = false
 has_reason faults.BadArguments = true
-has_reason (faults.NoAvailOption word) = true
-has_reason (faults.NoListOption word) = true
+has_reason (faults.NoOption subcommand word) = true
+
+-- what stands in front of an option that the report, of `avail` or of `list`, doesn't have
+abbrev pub before_option : Subcommand → Text
+before_option subcommands.List = codes "'list' has no option '"
+before_option other = codes "'avail' has no option '"
 
 -- what stands behind `ERROR: `
 abbrev pub message_of : ListingFault → Text
@@ -60,8 +62,7 @@ message_of faults.OutOfMemory = (about kinds.MemoryForRequest []).text
 message_of faults.Inconsistent = (about kinds.Inconsistent []).text
 message_of faults.Device = (about kinds.Device []).text
 message_of faults.BadArguments = (about kinds.BadArguments []).text
-message_of (faults.NoAvailOption word) = quoting (codes "'avail' has no option '") word.now
-message_of (faults.NoListOption word) = quoting (codes "'list' has no option '") word.now
+message_of (faults.NoOption subcommand word) = quoting (before_option subcommand) word.now
 
 -- a reading of the environment that failed: it is inconsistent, or memory ran out
 abbrev pub of_env : EnvFault → ListingFault

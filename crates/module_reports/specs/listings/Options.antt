@@ -6,9 +6,7 @@ use Rattle.module_words.specs.subcommands.Options.{by_option, is_end, option_nam
 use Rattle.module_words.specs.declared.subcommands.options.CommandOption.{CommandOption}
 use Rattle.module_words.specs.declared.subcommands.options.CommandOption.TheVariants as options
 use Rattle.module_words.specs.declared.subcommands.table.Subcommand.{Subcommand}
-use Rattle.module_words.specs.declared.subcommands.table.Subcommand.TheVariants as subcommands
-use Rattle.module_words.specs.declared.subcommands.table.Subcommand.TheVariants.{Avail}
-use Rattle.module_reports.specs.listings.Faults.{ListingReason, no_avail_option, no_list_option}
+use Rattle.module_reports.specs.listings.Faults.{ListingReason, no_option}
 use Rattle.module_reports.specs.declared.listings.options.Options.{Options}
 use Rattle.module_reports.specs.declared.listings.options.Versions.TheVariants.{Every, Default, Latest}
 
@@ -40,12 +38,9 @@ words_of subcommand o (word ∷ words) =
 
 -- the same, where such an option is the reason why there is no report
 abbrev pub refused_by : (Text → ListingReason) → Result Words Text → Result Words ListingReason
-refused_by no_option (Ok words) = Ok words
-refused_by no_option (Err word) = Err (no_option word)
+refused_by reason (Ok words) = Ok words
+refused_by reason (Err word) = Err (reason word)
 
--- the options and the texts of `avail`, and of `list`
-abbrev pub avail_words : Options → List Text → Result Words ListingReason
-avail_words o words = refused_by no_avail_option (words_of Avail o words)
-
-abbrev pub list_words : Options → List Text → Result Words ListingReason
-list_words o words = refused_by no_list_option (words_of subcommands.List o words)
+-- the options and the texts of a report, of `avail` or `list`
+abbrev pub report_words : Subcommand → List Text → Result Words ListingReason
+report_words subcommand words = refused_by (no_option subcommand) (words_of subcommand no_options words)

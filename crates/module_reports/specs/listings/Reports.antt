@@ -12,8 +12,9 @@ use Rattle.modulefile.specs.Reports.{line_of}
 use Rattle.filetree.specs.Modulefiles.{path_of}
 use Rattle.search.specs.Listed.{Listing, ListingEntry}
 use Rattle.requests.specs.Reports.{avail_text, loaded_text}
+use Rattle.module_words.specs.declared.subcommands.table.Subcommand.TheVariants as subcommands
 use Rattle.module_reports.specs.listings.Faults.{ListingReason, inconsistent}
-use Rattle.module_reports.specs.listings.Options.{Words, list_words, no_options}
+use Rattle.module_reports.specs.listings.Options.{Words, report_words}
 use Rattle.module_reports.specs.listings.Texts.{is_meant}
 use Rattle.module_reports.specs.declared.listings.layout.Terminal.{Terminal}
 
@@ -152,4 +153,4 @@ list_in terminal e (Err reason) = Err reason
 
 -- The report of `list` with these words.
 abbrev pub list_report : Option Terminal → Environment → List Text → Result Text ListingReason
-list_report terminal e words = list_in terminal e (list_words no_options words)
+list_report terminal e words = list_in terminal e (report_words subcommands.List words)

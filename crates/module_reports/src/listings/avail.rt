@@ -2,13 +2,14 @@
 ghost use Rattle.std.specs.Prelude.{◌≡◌, ◌<◌, ◌≤◌, ◌++◌, flat_map, map, Err, IfErr, IfOk, OnOk, string_bytes};
 ghost use Rattle.envstate.specs.loaded_list.LoadedEntries.{entry_view};
 ghost use Rattle.filetree.specs.Causes.{Applies};
+ghost use Rattle.module_words.specs.declared.subcommands.table.Subcommand.TheVariants.{Avail};
 ghost use Rattle.search.specs.Listings.{listing_view};
 ghost use Rattle.search.specs.ListingEntries.{listing_entry_view};
 ghost use Rattle.filetree.specs.Modulefiles as paths;
 ghost use Rattle.lookup.specs.DefaultFileResults.{HasResult};
 ghost use Rattle.module_reports.specs.listings.Available.{ReportsAvailable};
 ghost use Rattle.module_reports.specs.listings.Faults.{cause_of};
-ghost use Rattle.module_reports.specs.listings.Options as words_spec;
+ghost use Rattle.module_reports.specs.listings.Options.{report_words};
 ghost use Rattle.module_reports.specs.listings.Reports as spec;
 ghost use Rattle.module_reports.specs.listings.Texts.{searched_texts};
 ghost use Rattle.module_reports.specs.listings.Views.{name_view, part_view};
@@ -16,7 +17,7 @@ ghost use Rattle.module_reports.specs.listings.Views.{name_view, part_view};
 use crate::listings::chosen::chosen;
 use crate::listings::fault::ListingFault;
 use crate::listings::layout::{ReportPart, ReportedName, Terminal, push_shown_line, shown_report};
-use crate::listings::options::{Options, avail_words};
+use crate::listings::options::{Options, report_words};
 use crate::listings::readable::readable_modules;
 use crate::listings::texts::are_beginnings;
 use envstate::loaded_list::{Loaded, loaded_if_consistent};
@@ -24,6 +25,7 @@ use envvars::Env;
 use filetree::Tree;
 use filetree::hiding::HidingTree;
 use lookup::EvaluatedDefaultFiles;
+use module_words::subcommands::Subcommand;
 use requests::{avail_report as plain_report, modulepath};
 use search::{DirectoryListing, ListingEntry, path_of};
 use std::alloc::{AllocError, Global};
@@ -198,7 +200,7 @@ fn searched_texts(options: Options, texts: &[String]) -> &[String]
 /// modules are reported as by `modulecmd`; on one, loaded modules are marked too, names stand in columns, or one a line
 /// where an option asks so, and no character of names and paths steers it.
 ///
-/// The errors: `NoAvailOption`, the words have another option; `Device`, only where the device failed in this call, and a
+/// The errors: `NoOption`, the words have another option; `Device`, only where the device failed in this call, and a
 /// thousand times in all; `OutOfMemory`.
 pub fn avail_report<'a, T: Tree + Drop>(
     alloc: Global,
@@ -214,9 +216,9 @@ pub fn avail_report<'a, T: Tree + Drop>(
         terminal env.now (map string_bytes words.entry.now) (string_bytes text)) }
     ensures fault { IfErr result (λ e. Applies (cause_of e)
         ((T.failures tree.old.tree < T.failures tree.new.tree) × (1000 ≤ T.failures tree.new.tree))
-        (λ reason. words_spec.avail_words words_spec.no_options (map string_bytes words.entry.now) ≡ Err reason)) }
+        (λ reason. report_words Avail (map string_bytes words.entry.now) ≡ Err reason)) }
 {
-    let (options, texts) = avail_words(Options::none(), words)?;
+    let (options, texts) = report_words(Subcommand::Avail, words)?;
     let default_files = EvaluatedDefaultFiles { limits };
     let searched = searched_texts(options, texts);
     let readable = readable_modules(alloc, tree, &default_files, searched, modulepath(env))?;

@@ -1,12 +1,14 @@
 //! Why there is no report, and no answer, with the texts.
-ghost use Rattle.std.specs.Prelude.{◌≡◌, Some, codes};
+ghost use Rattle.std.specs.Prelude.{◌≡◌, Some};
 ghost use Rattle.message.specs.Messages.{quoting, text_of};
+ghost use Rattle.module_reports.specs.listings.Faults as spec;
 ghost use Rattle.module_reports.specs.listings.Faults.{message_of, of_env, of_tree};
 ghost use Rattle.module_reports.specs.declared.listings.fault.ListingFault.TheVariants.{OutOfMemory};
 
 use envvars::EnvFault;
 use filetree::TreeFault;
 use message::{Message, RefusalKind};
+use module_words::subcommands::Subcommand;
 use std::alloc::{AllocError, AllocFailed};
 use std::error::Error;
 use std::fmt;
@@ -23,10 +25,18 @@ pub enum ListingFault<'a> {
     Device,
     /// 56: no module is named.
     BadArguments,
-    /// `avail` has no such option.
-    NoAvailOption(&'a str),
-    /// `list` has no such option.
-    NoListOption(&'a str),
+    /// The report of this subcommand, `avail` or `list`, has no such option.
+    NoOption(Subcommand, &'a str),
+}
+
+/// The text for an option that the report of the subcommand doesn't have.
+fn no_option<'a>(subcommand: Subcommand, word: &'a str) -> Message<'a>
+    ensures { text_of result ≡ quoting (spec.before_option subcommand) word.entry.now }
+{
+    match subcommand {
+        Subcommand::List => Message::quoting("'list' has no option '", word),
+        _ => Message::quoting("'avail' has no option '", word),
+    }
 }
 
 impl<'a> ListingFault<'a> {
@@ -39,13 +49,9 @@ impl<'a> ListingFault<'a> {
             ListingFault::Inconsistent => RefusalKind::Inconsistent.plain().message,
             ListingFault::Device => RefusalKind::Device.plain().message,
             ListingFault::BadArguments => RefusalKind::BadArguments.plain().message,
-            ListingFault::NoAvailOption(word) => {
+            ListingFault::NoOption(subcommand, word) => {
                 let word: &'b str = word;
-                Message::quoting("'avail' has no option '", word)
-            }
-            ListingFault::NoListOption(word) => {
-                let word: &'b str = word;
-                Message::quoting("'list' has no option '", word)
+                no_option(*subcommand, word)
             }
         }
     }

@@ -10,10 +10,11 @@ ghost use Rattle.module_reports.specs.listings.Views.{part_view};
 
 use crate::listings::fault::ListingFault;
 use crate::listings::layout::{ReportPart, ReportedName, Terminal, shown_report};
-use crate::listings::options::{Options, list_words};
+use crate::listings::options::{Options, report_words};
 use crate::listings::texts::is_meant;
 use envstate::loaded_list::{Loaded, loaded};
 use envvars::Env;
+use module_words::subcommands::Subcommand;
 use requests::list_report;
 use std::alloc::{AllocError, Global};
 
@@ -100,7 +101,7 @@ fn names_text(
 /// The report of `list` with these words: `-t`, and then texts with one of which names begin. Without a terminal it is
 /// that of `modulecmd`; on one, names stand in columns, or with `-t` one a line, and no character of them steers it.
 ///
-/// The errors: `NoListOption`, the words have another option; `Inconsistent`, the loaded lists don't fit together;
+/// The errors: `NoOption`, the words have another option; `Inconsistent`, the loaded lists don't fit together;
 /// `OutOfMemory`.
 pub fn loaded_report<'a>(
     alloc: Global,
@@ -112,7 +113,7 @@ pub fn loaded_report<'a>(
         (spec.list_report terminal env.now (map string_bytes words.entry.now)) }
     ensures fault { IfErr result (λ e. is_failure e ≡ false) }
 {
-    let (options, texts) = list_words(Options::none(), words)?;
+    let (options, texts) = report_words(Subcommand::List, words)?;
     let entries = loaded(alloc, env)?;
     let names = names_meant(alloc, options, texts, &entries)?;
     Ok(names_text(alloc, terminal, options.lines, &entries, &names)?)

@@ -34,7 +34,7 @@ pub(crate) struct Options {
 
 impl Options {
     /// What is asked for without options.
-    pub(crate) fn none() -> Options
+    fn none() -> Options
         ensures { result ≡ spec.no_options }
     {
         Options {
@@ -89,30 +89,16 @@ fn words_of<'a>(
     Ok((options, words))
 }
 
-/// The options and the texts of `avail`, of whose options `-d` and `-L` the last counts.
-pub(crate) fn avail_words<'a>(
-    options: Options,
+/// The options and the texts of a report, of `avail` or `list`. Of `-d` and `-L` the last counts.
+pub(crate) fn report_words<'a>(
+    subcommand: Subcommand,
     words: &'a [String],
 ) -> Result<(Options, &'a [String]), ListingFault<'a>>
-    ensures words { Gives reason_of words_view result (spec.avail_words options (map string_bytes words.entry.now)) }
+    ensures words { Gives reason_of words_view result (spec.report_words subcommand (map string_bytes words.entry.now)) }
     ensures reason { IfErr result (λ fault. has_reason fault ≡ true) }
 {
-    match words_of(Subcommand::Avail, options, words) {
+    match words_of(subcommand, Options::none(), words) {
         Ok(found) => Ok(found),
-        Err(word) => Err(ListingFault::NoAvailOption(word)),
-    }
-}
-
-/// The options and the texts of `list`.
-pub(crate) fn list_words<'a>(
-    options: Options,
-    words: &'a [String],
-) -> Result<(Options, &'a [String]), ListingFault<'a>>
-    ensures words { Gives reason_of words_view result (spec.list_words options (map string_bytes words.entry.now)) }
-    ensures reason { IfErr result (λ fault. has_reason fault ≡ true) }
-{
-    match words_of(Subcommand::List, options, words) {
-        Ok(found) => Ok(found),
-        Err(word) => Err(ListingFault::NoListOption(word)),
+        Err(word) => Err(ListingFault::NoOption(subcommand, word)),
     }
 }
