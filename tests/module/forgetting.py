@@ -8,7 +8,7 @@ import subprocess
 import pytest
 
 from tests.lib.examples import wording
-from tests.lib.harness import SECONDS, dynamic, evaluated, refuser, refuses_each, same
+from tests.lib.harness import FORCED, OPTIONS, SECONDS, dynamic, evaluated, refuser, refuses_each, same
 from tests.module.explanations import at_terminal
 
 # The modules, and what their files say.
@@ -185,9 +185,10 @@ def test_a_file_that_is_there(site):
 def test_refusals(site):
     env = site.loaded("foo/1", "bar")
     site.without("foo/1")
+    usage, options = "usage: module forget [--settings-stay] NAME...", OPTIONS.strip()
     for words, text in (
-        ("forget", "Bad arguments"),
-        ("forget --settings-stay", "Bad arguments"),
+        ("forget", f"Bad arguments\n{usage}"),
+        ("forget --settings-stay", f"Bad arguments\n{usage}"),
         ("forget nope", "'nope' isn't loaded"),
         ("forget foo nope", "'nope' isn't loaded"),
         ("forget foo foo", "'foo' isn't loaded"),
@@ -195,10 +196,10 @@ def test_refusals(site):
         ("forget foo/", "'foo/' isn't loaded"),
         ("forget fo", "'fo' isn't loaded"),
         ("forget --settings-stay foo nope", "'nope' isn't loaded"),
-        ("forget foo --settings-stay", "'--settings-stay' is no option here"),
-        ("forget --settings-stay --settings-stay foo", "'--settings-stay' is no option here"),
-        ("forget --force foo", "'--force' is no option here"),
-        ("forget -- foo", "'--' is no option here"),
+        ("forget foo --settings-stay", f"'--settings-stay' is no option here\n{options}"),
+        ("forget --settings-stay --settings-stay foo", f"'--settings-stay' is no option here\n{options}"),
+        ("forget --force foo", f"'--force' is no option here\n{FORCED.strip()}"),
+        ("forget -- foo", f"'--' is no option here\n{options}"),
     ):
         site.refuses(words, env, text)
     site.refuses("forget foo", {**env, "LOADEDMODULES": "foo/1"}, wording(35))

@@ -53,7 +53,7 @@ fn named_line(alloc: Global, name: &str, directory: &str) -> Result<String, Allo
     line.push_str(name)?;
     line.push_str("\", which is below ")?;
     line.push_str(directory)?;
-    line.push('.')?;
+    line.push_str(".")?;
     Ok(line)
 }
 
