@@ -475,7 +475,7 @@ def test_is_avail_says_no_where_a_load_is_refused_before_its_file_is_evaluated(p
     folder.file("bytes/1", b"#%Module\n\xff\n")
     for names, status in ((["bad"], 1), (["bad/1"], 0), (["bytes/1"], 1), (["bytes/1", "tool"], 0)):
         same(outcome(run(program, ["sh", "is-avail", *names], modules)), (status, "", ""), f"is-avail {names}")
-    same(outcome(run(program, ["sh", "is-avail"], modules)), (1, "", "ERROR: Bad arguments\n"), "no name")
+    same(outcome(run(program, ["sh", "is-avail"], modules)), (1, "", "ERROR: Bad arguments\nusage: module is-avail NAME...\n"), "no name")
 
 
 def as_nobody(program, folder):
