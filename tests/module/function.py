@@ -43,7 +43,7 @@ EDITS = [
 
 # What is said where nothing is searched, and of options.
 OF_REPORTS = 'Here it is an option of "module avail" and "module list".'
-NOT_THERE = "None of the directories of MODULEPATH is there: /x"
+NONE_THERE = "None of the directories of MODULEPATH is there: /x"
 
 # The words behind the shell, and what is refused.
 REFUSED = [
@@ -65,7 +65,7 @@ REFUSED = [
     (["sh-to-mod", "bash", "x"], "Unknown subcommand 'sh-to-mod'\nThis isn't done here."),
     (["sa", "x"], "Several subcommands begin with 'sa'"),
     (["--force", "use"], f"'--force' is no option here\n{FORCED.strip()}"),
-    (["load", "gcc"], f"{wording(42, 'gcc')}\n{NOT_THERE}"),
+    (["load", "gcc"], f"{wording(42, 'gcc')}\n{NONE_THERE}"),
     (["unload"], "Bad arguments\nusage: module unload NAME..."),
     (["switch", "a", "b", "c"], "Bad arguments\nusage: module switch [OLD] NEW"),
     (["purge", "a"], "Bad arguments\nusage: module purge"),
@@ -74,18 +74,18 @@ REFUSED = [
     (["-t", "nope"], "Unknown subcommand 'nope'\n" + '"module help" lists the subcommands.'),
     (["-t", "-t"], f"'-t' is no option here\n{OF_REPORTS}"),
     (["-t", "purge"], f"'-t' is no option here\n{OF_REPORTS}"),
-    (["ml", "nope"], f"{wording(42, 'nope')}\n{NOT_THERE}"),
-    (["ml", "-nope", "also"], f"{wording(42, 'also')}\n{NOT_THERE}"),
+    (["ml", "nope"], f"{wording(42, 'nope')}\n{NONE_THERE}"),
+    (["ml", "-nope", "also"], f"{wording(42, 'also')}\n{NONE_THERE}"),
     (["ml", "--nope"], f"'--nope' is no option here\n{OPTIONS.strip()}"),
     (["ml", "-a", "--nope", "b"], f"'--nope' is no option here\n{OPTIONS.strip()}"),
     (["subcommand"], "Bad arguments"),
     (["subcommand", "spider"], "Unknown subcommand 'spider'"),
     (["keyword"], "Bad arguments\nusage: module keyword TEXT"),
     (["apropos", "a", "b"], "Bad arguments\nusage: module keyword TEXT"),
-    (["whatis", "gcc"], f"{wording(42, 'gcc')}\n{NOT_THERE}"),
-    (["show", "gcc"], f"{wording(42, 'gcc')}\n{NOT_THERE}"),
+    (["whatis", "gcc"], f"{wording(42, 'gcc')}\n{NONE_THERE}"),
+    (["show", "gcc"], f"{wording(42, 'gcc')}\n{NONE_THERE}"),
     (["show"], "Bad arguments\nusage: module show NAME..."),
-    (["help", "gcc"], f"{wording(42, 'gcc')}\n{NOT_THERE}"),
+    (["help", "gcc"], f"{wording(42, 'gcc')}\n{NONE_THERE}"),
 ]
 
 # A word, and the subcommand that it means.
@@ -669,6 +669,7 @@ def test_a_function_that_hands_nothing_on_is_left_its_reports(program, modules, 
 
 def test_a_report_goes_to_what_standard_input_is_open_on(program, modules, tmp_path):
     env = {**modules, "HOME": str(tmp_path)}
+    same(run(program, ["sh", "save", "c"], env).returncode, 0, "a collection to list")
     for words, is_own in REPORTS.items():
         with open(tmp_path / "out", "w+b") as out:
             done = run(program, ["sh::", *words.split()], env, stdin=out)

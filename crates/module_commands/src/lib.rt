@@ -1,6 +1,5 @@
 //! What the function `module` does: which call answers its words, what is written where, and the status (module(1)).
-//! Takes memory; reads the files and directories (`Tree`) that it is given; reads, saves and removes collections (`Storage`).
-//! `site_of` asks the system for the working directory and for MODULEPATH.
+//! Takes memory; reads files and directories (`Tree`); reads, saves and removes collections (`Storage`); asks the system.
 #![tactic(auto)]
 
 mod after;

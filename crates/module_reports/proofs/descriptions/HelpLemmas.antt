@@ -1,5 +1,6 @@
 -- What `help` answers of a module, by the evaluations of its file.
 use Rattle.std.proofs.Common.{◌≡◌, ◌==◌, ◌++◌, true, false, List, [], ◌∷◌, length, map, string_bytes, Option, Some, None, IfSome, arith}
+use Rattle.std.specs.Option.{option_map}
 use Rattle.std.proofs.lemmas.Bool.Decides.{nat_tests}
 use Rattle.std.proofs.Common.{Result, Ok, Err, String, refl, sym, ap, ◌∙◌, subst}
 use Rattle.std.specs.declared.alloc.Global.{Global}
@@ -26,7 +27,7 @@ use Rattle.modules.specs.Answers.{GivesOrRefuses, by_reason, cause_of}
 use Rattle.modules.specs.declared.refusal.Refusal.{Refusal}
 use Rattle.modules.proofs.StepLemmas.{if_no, if_yes, run_refused, stands_as}
 use Rattle.module_reports.specs.descriptions.Calls.{with_call}
-use Rattle.module_reports.specs.descriptions.Helps.{Describes, HelpAnswer, Helps, HelpsCalled, HelpsFound, described, joined, lacks_help, own, said_or}
+use Rattle.module_reports.specs.descriptions.Helps.{Describes, HelpAnswer, Helps, HelpsCalled, HelpsFound, described, joined, lacks_help, own, said_or, without_place}
 use Rattle.module_reports.specs.descriptions.Views.{RunsText, context_for, help_view, lacks_by, loaded_names, named}
 use Rattle.module_reports.specs.declared.descriptions.helping.HelpRequest.{HelpRequest}
 use Rattle.module_reports.specs.declared.descriptions.helping.HelpText.{HelpText}
@@ -110,9 +111,9 @@ module _ (limits : Limits) (c : FileContext) (m : search.FoundModule) where
 
     -- the procedure is refused
     pub unhelped : (reason : Option FileReason) → lacks_by reason ≡ false → IfSome reason (λ r. RunsFile limits c (with_call m.text) (Err r))
-        → Applies (by_reason file_refused reason) ⊥ (λ r. HelpsCalled limits c m description (Err r))
+        → Applies (by_reason file_refused (option_map without_place reason)) ⊥ (λ r. HelpsCalled limits c m description (Err r))
     unhelped None lacks h = tt
-    unhelped (Some r) lacks h = (Err r, h, if_no (lacks_help r.stop) _ _ (Err (file_refused r)) lacks refl)
+    unhelped (Some r) lacks h = (Err r, h, if_no (lacks_help r.stop) _ _ (Err (file_refused (without_place r))) lacks refl)
 
   -- ---- both
 

@@ -1,6 +1,6 @@
 -- What `help NAME` answers (own): what the procedure `ModulesHelp` of the module's file says when it is called behind
 -- the file; where there is none, or it says nothing, what the module is.
-use Rattle.std.specs.Prelude.{Bool, false, List, [], ◌∷◌, ◌++◌, bytes_eq, codes, flat_map, Result, Ok, Err}
+use Rattle.std.specs.Prelude.{Bool, false, List, [], ◌∷◌, ◌++◌, bytes_eq, codes, flat_map, None, Result, Ok, Err}
 use Rattle.envvars.specs.Texts.{Text}
 use Rattle.envvars.specs.Environment.{Environment}
 use Rattle.filetree.specs.Relations.{Is, If, ◌>>◌}
@@ -41,11 +41,15 @@ abbrev pub said_or : Text → Text → HelpAnswer
 said_or [] description = described description
 said_or (b ∷ said) description = own (b ∷ said)
 
+-- without the place, which is one of the text with the call and not of the file
+abbrev pub without_place : FileReason → FileReason
+without_place reason = record reason { place = None }
+
 -- the answer by the outcome of the file with the call behind it
 abbrev pub HelpsBy : Text → Result Ran FileReason → Result HelpAnswer RequestReason → Type 0
 HelpsBy description (Ok ran) = Is (Ok (said_or (joined ran.messages) description))
 HelpsBy description (Err reason) =
-    If (lacks_help reason.stop) (Is (Ok (described description))) (Is (Err (file_refused reason)))
+    If (lacks_help reason.stop) (Is (Ok (described description))) (Is (Err (file_refused (without_place reason))))
 
 -- the answer of the module with this description
 abbrev pub HelpsCalled : Limits → FileContext → search.FoundModule → Text → Result HelpAnswer RequestReason → Type 0

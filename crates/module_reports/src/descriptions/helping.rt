@@ -1,5 +1,6 @@
 //! `help NAME`: what the procedure `ModulesHelp` of a modulefile says.
 ghost use Rattle.std.specs.Prelude.{◌≡◌, ◌<◌, ◌++◌, map, IfOk, IfErr, string_bytes};
+ghost use Rattle.std.specs.Option.{option_map};
 ghost use Rattle.envvars.specs.Texts.{texts_in};
 ghost use Rattle.filetree.specs.Agreement.{FailsAt, InEachPair, ReadsOn};
 ghost use Rattle.filetree.specs.Relations.{Is};
@@ -14,7 +15,7 @@ ghost use Rattle.requests.specs.Refusals.{RefusedAs};
 ghost use Rattle.requests.specs.Steps as steps;
 ghost use Rattle.requests.specs.Steps.{request_context_in};
 ghost use Rattle.modules.specs.Answers.{GivesOrRefuses, StepAnswersOverTree, is_failure};
-ghost use Rattle.module_reports.specs.descriptions.Helps.{Describes, Helps, HelpsCalled, HelpsFound, joined, said_or};
+ghost use Rattle.module_reports.specs.descriptions.Helps.{Describes, Helps, HelpsCalled, HelpsFound, joined, said_or, without_place};
 ghost use Rattle.module_reports.specs.descriptions.Views.{RunsText, context_for, help_view, lacks_by, loaded_names};
 
 use crate::descriptions::calling::with_call;
@@ -25,7 +26,7 @@ use envvars::{Env, Working};
 use filetree::Tree;
 use lookup::EvaluatedDefaultFiles;
 use modulefile::Mode;
-use modulefile_run::{FileContext, FileRun, RunFault, RunStop, run_file};
+use modulefile_run::{FileContext, FileRun, RefusedFile, RunFault, RunStop, run_file};
 use modules::Refusal;
 use requests::{modulepath, whatis_report};
 use search::{LocatedModule, locate};
@@ -126,6 +127,32 @@ fn said_or(said: String, description: String) -> HelpText
     }
 }
 
+/// The fault without its place, which is one of the text with the call and not of the file.
+fn without_place(refused: RunFault) -> RunFault
+    ensures { file_reason_of result ≡ option_map without_place (file_reason_of refused) }
+{
+    let RunFault { stop, file } = refused;
+    let Some(file) = file else {
+        return RunFault { stop, file: None };
+    };
+    let RefusedFile {
+        name,
+        path,
+        place: _,
+        messages,
+    } = file;
+    let file = RefusedFile {
+        name,
+        path,
+        place: None,
+        messages,
+    };
+    RunFault {
+        stop,
+        file: Some(file),
+    }
+}
+
 /// What the procedure of a module's file says when it is called behind the file, or else the description.
 fn called(
     alloc: Global,
@@ -148,7 +175,7 @@ fn called(
             if lacks_help(&refused) {
                 Ok(HelpText::Described(description))
             } else {
-                Err(Refusal::Run(refused))
+                Err(Refusal::Run(without_place(refused)))
             }
         }
     }

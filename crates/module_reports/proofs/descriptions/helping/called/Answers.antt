@@ -38,4 +38,4 @@ returns-else-lacks_help c =
     let called = c.as_str-2.ensures.value ∙ c.in_ok-text.ensures ∙ ap with_call c.as_str.ensures.value in
     let result : Result FileRun RunFault = Err c.in-Err.refused in
     let ran = of_text limits context (with_call m.text) c.as_str-2.result.now result called c.in-Err.ensures in
-    unhelped limits context m (string_bytes c.args.description) (file_reason_of c.in-Err.refused) (sym c.lacks_help.ensures ∙ c.if-lacks_help.false) ran
+    rw (c.without_place.ensures) (unhelped limits context m (string_bytes c.args.description) (file_reason_of c.in-Err.refused) (sym c.lacks_help.ensures ∙ c.if-lacks_help.false) ran)
