@@ -33,10 +33,11 @@ BUILT = build/bin/modulecmd build/bin/module
 
 try:
 	sh tools/deps.sh try
+	@echo 'Both programs take some five minutes of processor time to compile.'
 	python3 -B tools/try_out.py
 	sh tools/product.sh try '' '$(CURDIR)/build/try' build/unproved/modulecmd build/unproved/module
 	sh demo/demo.sh build/try
-	@echo 'This was done by the programs in build/unproved, of which nothing is proved. To use them: . build/try/init/sh'
+	@echo 'This was done by the programs in build/unproved, of which nothing is proved. To use them: . build/try/init/sh; module use build/try/share/examples'
 
 smoke:
 	sh tools/deps.sh smoke

@@ -382,7 +382,7 @@ def check_refusals():
             text = page[number]
             is_told = not text.startswith("`")
             shown = before + SUBJECT.search(text)[0] + after if SUBJECT.search(text) else before + after
-            true(is_told or before + after == "" or text == f"`{shown}`", f"{where} has {text} for {number}")
+            true(is_told or before + after == "" or text == f"`{shown}`", f"{where} has `{shown}` for {number}, and docs/REFUSALS.md has {text}")
 
 
 def check_suites(suites_of, suites):
