@@ -123,6 +123,43 @@ fn refused_with_way_out<T: Tree>(
     refused(alloc, asking, &refusal, more)
 }
 
+/// Whether the words of a command don't fit the subcommand.
+fn are_bad_arguments(fault: &FunctionFault<'_>) -> bool {
+    match fault {
+        FunctionFault::BadArguments => true,
+        _ => false,
+    }
+}
+
+/// Whether a command is refused since its words don't fit the subcommand.
+fn is_by_arguments(refusal: &Refusal<'_>) -> bool {
+    match refusal {
+        Refusal::BadArguments | Refusal::Listing(ListingFault::BadArguments) => true,
+        Refusal::Function(fault) | Refusal::Output(OutputFault::Refused(fault)) => {
+            are_bad_arguments(fault)
+        }
+        _ => false,
+    }
+}
+
+/// What explains a refusal of a command whose words fit the subcommand.
+fn explained_reason<T: Tree + Drop>(
+    alloc: Global,
+    asking: &Asking,
+    command: &AskedCommand,
+    refusal: &Refusal<'_>,
+    tree: &mut T,
+    spare: T,
+) -> Result<Explained, AllocError> {
+    match refusal {
+        Refusal::Requested(_) => {
+            explained_move(alloc, asking, &asking.env, command, tree, spare)
+        }
+        Refusal::Described(cause) => explained_cause(alloc, asking, cause, tree),
+        _ => advised(alloc, asking, refusal),
+    }
+}
+
 /// What explains why a command is refused.
 fn explained_refusal<T: Tree + Drop>(
     alloc: Global,
@@ -132,18 +169,10 @@ fn explained_refusal<T: Tree + Drop>(
     tree: &mut T,
     spare: T,
 ) -> Explained {
-    let found = match refusal {
-        Refusal::Requested(_) => {
-            explained_move(alloc, asking, &asking.env, command, tree, spare)
-        }
-        Refusal::Described(cause) => explained_cause(alloc, asking, cause, tree),
-        Refusal::BadArguments
-        | Refusal::Function(FunctionFault::BadArguments)
-        | Refusal::Output(OutputFault::Refused(FunctionFault::BadArguments))
-        | Refusal::Listing(ListingFault::BadArguments) => {
-            explained_usage(alloc, asking, command.subcommand)
-        }
-        _ => advised(alloc, asking, refusal),
+    let found = if is_by_arguments(refusal) {
+        explained_usage(alloc, asking, command.subcommand)
+    } else {
+        explained_reason(alloc, asking, command, refusal, tree, spare)
     };
     if_found(alloc, found)
 }
