@@ -6,13 +6,21 @@ use std::alloc::{AllocError, Global};
 use tcltext::chars::{is_gap, is_special};
 use tcltext::script::{ByteRange, Command, Part, Script, WordContent};
 
-/// A text that is written for what Tcl computes.
+/// A text that is written for what stands at a place of a file.
 #[derive(Debug, Drop)]
-pub struct Computed {
-    /// Where that stands.
+pub struct Edit {
+    /// The place.
     pub place: ByteRange,
     /// The text.
     pub text: String,
+}
+
+impl Edit {
+    /// That of a text for what stands between two places.
+    pub fn between(start: usize, end: usize, text: String) -> Edit {
+        let place = ByteRange { start, end };
+        Edit { place, text }
+    }
 }
 
 /// Where a part of a word stands.
@@ -32,7 +40,7 @@ struct Folding<'k, 't> {
     alloc: Global,
     known: &'k Knowledge<'k>,
     text: &'t str,
-    found: Vec<Computed>,
+    found: Vec<Edit>,
 }
 
 /// Whether each byte stands for itself in a script, and there is one.
@@ -57,25 +65,18 @@ fn spelled(alloc: Global, text: &str, is_word: bool) -> Result<Option<String>, A
     Ok(None)
 }
 
-/// Whether a command of this name and word isn't read here, but may be computed.
-fn is_unread(name: &str, word: Option<&str>) -> bool {
-    match name {
-        "file" | "uname" => true,
-        "info" => word.is_some_and(|word| word == "hostname"),
-        _ => false,
-    }
-}
-
-/// Whether the one command of a script isn't read here.
-fn is_unread_script(text: &str, script: &Script<ByteRange>) -> bool {
+/// Whether the one command of a script isn't read here, but may be computed.
+fn is_unread(text: &str, script: &Script<ByteRange>) -> bool {
     let [command] = script.commands.as_slice() else {
         return false;
     };
-    match command.words.as_slice() {
-        [name, word, ..] => match constant(text, name) {
-            Some(name) => is_unread(name.value, constant(text, word).map(|word| word.value)),
-            None => false,
-        },
+    let [name, word, ..] = command.words.as_slice() else {
+        return false;
+    };
+    let word = constant(text, word).map(|word| word.value);
+    match constant(text, name).map(|name| name.value) {
+        Some("file" | "uname") => true,
+        Some("info") => word == Some("hostname"),
         _ => false,
     }
 }
@@ -90,25 +91,17 @@ fn is_open_name(text: &str, part: &Part<ByteRange>, was_open: bool) -> bool {
 }
 
 impl<'k, 't> Folding<'k, 't> {
-    /// Adds a text for a part, where it can be spelled there.
-    fn put(&mut self, at: PartPlace, value: &str) -> Result<(), AllocError> {
-        if at.is_behind_name {
-            return Ok(());
-        }
-        if let Some(text) = spelled(self.alloc, value, at.is_word)? {
-            self.found.push(Computed {
-                place: at.place,
-                text,
-            })?;
-        }
-        Ok(())
-    }
-
-    /// Puts the value of a part, where it is known.
+    /// Adds the value of a part, where it is known, and can be spelled there.
     fn fold(&mut self, at: PartPlace, part: &Part<ByteRange>) -> Result<(), AllocError> {
         match self.known.value_of_part(self.alloc, self.text, part)? {
-            Some(value) => self.put(at, value.as_str()),
-            None => Ok(()),
+            Some(value) if !at.is_behind_name => {
+                if let Some(text) = spelled(self.alloc, value.as_str(), at.is_word)? {
+                    let place = at.place;
+                    self.found.push(Edit { place, text })?;
+                }
+                Ok(())
+            }
+            _ => Ok(()),
         }
     }
 
@@ -131,7 +124,7 @@ impl<'k, 't> Folding<'k, 't> {
                 }
                 Ok(())
             }
-            Part::Bracket(script) if is_unread_script(self.text, script) => self.fold(at, part),
+            Part::Bracket(script) if is_unread(self.text, script) => self.fold(at, part),
             Part::Bracket(script) => {
                 for command in &script.commands {
                     self.command(command)?;
@@ -191,7 +184,7 @@ pub fn computed_in(
     known: &Knowledge,
     text: &str,
     command: &Command<ByteRange>,
-) -> Result<Vec<Computed>, AllocError> {
+) -> Result<Vec<Edit>, AllocError> {
     let mut folding = Folding {
         alloc,
         known,

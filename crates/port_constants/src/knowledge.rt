@@ -36,15 +36,12 @@ pub struct Knowledge<'k> {
 }
 
 /// The name of a variable without the colons of the global namespace.
-pub(crate) fn plain_name(name: &str) -> &str {
-    match name.strip_prefix("::") {
-        Some(rest) => rest,
-        None => name,
-    }
+pub fn plain_name(name: &str) -> &str {
+    name.strip_prefix("::").unwrap_or(name)
 }
 
 /// The value of a variable among some.
-fn value_among<'v>(variables: &'v [KnownVariable], name: &str) -> Option<&'v str> {
+pub fn value_among<'v>(variables: &'v [KnownVariable], name: &str) -> Option<&'v str> {
     variables
         .iter()
         .find(|variable| variable.name.as_str() == name)
@@ -90,7 +87,7 @@ impl<'k> Knowledge<'k> {
         match (value_among(self.variables.as_slice(), name), name) {
             (Some(value), _) => Some(value),
             (None, "tcl_version") => Some("8.6"),
-            (None, "ModulesCurrentModulefile") => self.path(),
+            (None, "ModulesCurrentModulefile") => self.file.map(|file| file.path),
             _ => None,
         }
     }
@@ -104,11 +101,6 @@ impl<'k> Knowledge<'k> {
     pub(crate) fn host(&self, word: &str) -> Option<&str> {
         let word = if word == "node" { "nodename" } else { word };
         value_among(self.host, word)
-    }
-
-    /// The path of the file.
-    fn path(&self) -> Option<&str> {
-        self.file.map(|file| file.path)
     }
 
     /// The name of the module of the file.

@@ -9,5 +9,5 @@ mod paths;
 mod values;
 
 pub use answers::copied;
-pub use folding::{Computed, computed_in};
-pub use knowledge::{Knowledge, KnownFile, KnownVariable};
+pub use folding::{Edit, computed_in};
+pub use knowledge::{Knowledge, KnownFile, KnownVariable, plain_name, value_among};

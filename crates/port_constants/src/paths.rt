@@ -4,50 +4,35 @@ use std::alloc::{AllocError, Global};
 
 /// The parts of a path between its slashes.
 fn parts_of(alloc: Global, path: &str) -> Result<Vec<&str>, AllocError> {
-    let mut parts = Vec::new(alloc);
-    for part in path.split('/') {
-        if !part.is_empty() {
-            parts.push(part)?;
-        }
-    }
-    Ok(parts)
+    path.split('/')
+        .filter(|part| !part.is_empty())
+        .collect(alloc)
 }
 
 /// The path with these parts.
 fn path_of(alloc: Global, is_absolute: bool, parts: &[&str]) -> Result<String, AllocError> {
-    let mut path = String::new(alloc);
-    let mut is_behind = false;
+    let names = parts.join(alloc, "/")?;
     if is_absolute {
-        path.push('/')?;
+        return Ok(format!(in alloc; "/{names}")?);
     }
-    for part in parts {
-        if is_behind {
-            path.push('/')?;
-        }
-        path.push_str(part)?;
-        is_behind = true;
-    }
-    Ok(path)
+    Ok(names)
 }
 
-/// Whether Tcl joins the name to what is before it: it is relative, and nothing in it is looked up.
-fn is_relative(name: &str) -> bool {
-    !name.starts_with('/') && !name.contains('~')
-}
-
-/// The names joined, as by `file join`; none where one of the others is absolute, or where a home would be looked up.
+/// The names joined, as by `file join`: those before the last that is absolute don't count. None where there is no name, or
+/// where a home would be looked up.
 pub(crate) fn joined(alloc: Global, names: &[String]) -> Result<Option<String>, AllocError> {
-    let [first, others @ ..] = names else {
-        return Ok(None);
-    };
-    if first.contains('~') || !others.iter().all(|name| is_relative(name.as_str())) {
+    if names.is_empty() || names.iter().any(|name| name.contains('~')) {
         return Ok(None);
     }
     let mut parts = Vec::new(alloc);
+    let mut is_absolute = false;
     for name in names {
+        if name.starts_with('/') {
+            parts.clear();
+            is_absolute = true;
+        }
         parts.append(&mut parts_of(alloc, name.as_str())?)?;
     }
-    let is_absolute = first.starts_with('/');
     Ok(Some(path_of(alloc, is_absolute, parts.as_slice())?))
 }
 
@@ -56,10 +41,8 @@ pub(crate) fn tail_of(alloc: Global, path: &str) -> Result<Option<String>, Alloc
     if path.contains('~') {
         return Ok(None);
     }
-    match parts_of(alloc, path)?.as_slice().last() {
-        Some(part) => Ok(Some(String::from_str(alloc, part)?)),
-        None => Ok(Some(String::new(alloc))),
-    }
+    let last = parts_of(alloc, path)?.pop().unwrap_or("");
+    Ok(Some(String::from_str(alloc, last)?))
 }
 
 /// The path without its last part, as by `file dirname`; none where a home would be looked up.

@@ -16,13 +16,6 @@ const PATH_END: &str = ":/usr/bin:/bin";
 #[derive(Clone, Copy, Debug)]
 pub struct Unserving(pub &'static str);
 
-/// A line that sets a variable.
-#[derive(Drop)]
-struct Setting {
-    name: String,
-    value: String,
-}
-
 /// The value that the quoting of a shell stands for; none where it has quotes.
 fn unquoted(alloc: Global, text: &str) -> Result<Option<String>, AllocError> {
     let mut value = String::new(alloc);
@@ -42,20 +35,14 @@ fn unquoted(alloc: Global, text: &str) -> Result<Option<String>, AllocError> {
     Ok(if is_escaped { None } else { Some(value) })
 }
 
-/// The setting that a line `NAME=VALUE; export NAME;` is.
-fn setting_of(alloc: Global, line: &str) -> Result<Option<Setting>, AllocError> {
+/// The name and the value that a line `NAME=VALUE; export NAME;` sets.
+fn setting_of(alloc: Global, line: &str) -> Result<Option<(&str, String)>, AllocError> {
     let Some((name, rest)) = line.split_once('=') else {
         return Ok(None);
     };
     let end = format!(in alloc; "; export {name};")?;
-    let Some(quoted) = rest.strip_suffix(end.as_str()) else {
-        return Ok(None);
-    };
-    match unquoted(alloc, quoted)? {
-        Some(value) => Ok(Some(Setting {
-            name: String::from_str(alloc, name)?,
-            value,
-        })),
+    match rest.strip_suffix(end.as_str()) {
+        Some(quoted) => Ok(unquoted(alloc, quoted)?.map(|value| (name, value))),
         None => Ok(None),
     }
 }
@@ -72,14 +59,6 @@ fn back_of(behind: &str) -> Option<(&str, char)> {
     Some((behind.strip_prefix(delimiter)?, delimiter))
 }
 
-/// A copy of a text, where there is one.
-fn copied(alloc: Global, text: Option<&str>) -> Result<Option<String>, AllocError> {
-    match text {
-        Some(text) => Ok(Some(String::from_str(alloc, text)?)),
-        None => Ok(None),
-    }
-}
-
 /// What was added to a path that had the mark.
 fn added(alloc: Global, before: &str, behind: &str) -> Result<Option<VariableChange>, AllocError> {
     let (front, back) = (front_of(before), back_of(behind));
@@ -89,8 +68,12 @@ fn added(alloc: Global, before: &str, behind: &str) -> Result<Option<VariableCha
         (None, None) => return Ok(None),
     };
     Ok(Some(VariableChange::Added(PathEnds {
-        front: copied(alloc, front.map(|front| front.0))?,
-        back: copied(alloc, back.map(|back| back.0))?,
+        front: front
+            .map(|front| String::from_str(alloc, front.0))
+            .transpose()?,
+        back: back
+            .map(|back| String::from_str(alloc, back.0))
+            .transpose()?,
         delimiter,
     })))
 }
@@ -109,64 +92,63 @@ fn change_of(alloc: Global, name: &str, value: &str) -> Result<Option<VariableCh
     }
 }
 
-/// Adds the texts between marks of a kind to some, but for the first, which names the module.
-fn add_others(
+/// Adds the names between marks of a kind.
+fn add_names(
     alloc: Global,
-    texts: &mut Vec<String>,
+    names: &mut Vec<String>,
     text: &str,
     mark: char,
 ) -> Result<(), AllocError> {
-    let mut is_first = true;
-    for part in text.split(mark) {
-        if !is_first {
-            texts.push(String::from_str(alloc, part)?)?;
-        }
-        is_first = false;
+    for name in text.split(mark) {
+        names.push(String::from_str(alloc, name)?)?;
     }
     Ok(())
 }
 
 /// Adds the lists of modules of which one is needed.
-fn add_needs(alloc: Global, needs: &mut Vec<Vec<String>>, value: &str) -> Result<(), AllocError> {
-    let mut lists = Vec::new(alloc);
-    add_others(alloc, &mut lists, value, '&')?;
-    for list in &lists {
+fn add_needs(alloc: Global, needs: &mut Vec<Vec<String>>, text: &str) -> Result<(), AllocError> {
+    for list in text.split('&') {
         let mut names = Vec::new(alloc);
-        for name in list.split('|') {
-            names.push(String::from_str(alloc, name)?)?;
-        }
+        add_names(alloc, &mut names, list, '|')?;
         needs.push(names)?;
     }
     Ok(())
 }
 
+/// Whether a variable keeps what Environment Modules knows of what is loaded.
+fn is_own(name: &str) -> bool {
+    name.starts_with("__MODULES_") || matches!(name, "_LMFILES_" | "LOADEDMODULES")
+}
+
 impl LoadRecords {
-    /// Whether a variable was pushed, by what was read of it so far; then its value counts as that.
-    fn push(&mut self, alloc: Global, name: &str, value: &str) -> Result<(), AllocError> {
-        let Some((_, value)) = value.split_once('&') else {
-            return Ok(());
-        };
-        self.variables
-            .retain(|variable| variable.0.as_str() != name);
-        let value = String::from_str(alloc, value)?;
+    /// Adds what became of a variable.
+    fn add_change(
+        &mut self,
+        alloc: Global,
+        name: &str,
+        change: VariableChange,
+    ) -> Result<(), AllocError> {
         let name = String::from_str(alloc, name)?;
-        self.variables.push((name, VariableChange::Pushed(value)))?;
+        self.variables.push((name, change))?;
         Ok(())
     }
 
-    /// Adds what a line says that keeps what Environment Modules knows; false where it says that others are loaded.
-    fn add_own(&mut self, alloc: Global, name: &str, value: &str) -> Result<bool, AllocError> {
+    /// Adds what a variable says that keeps what Environment Modules knows, behind the name of the module and a mark.
+    fn add_own(&mut self, alloc: Global, name: &str, rest: &str) -> Result<(), AllocError> {
         match name {
-            "LOADEDMODULES" => return Ok(!value.contains(':')),
-            "__MODULES_LMCONFLICT" => add_others(alloc, &mut self.conflicts, value, '&')?,
-            "__MODULES_LMPREREQ" => add_needs(alloc, &mut self.needs, value)?,
-            _ => {
-                if let Some(pushed) = name.strip_prefix("__MODULES_PUSHENV_") {
-                    self.push(alloc, pushed, value)?;
+            "__MODULES_LMCONFLICT" => add_names(alloc, &mut self.conflicts, rest, '&'),
+            "__MODULES_LMPREREQ" => add_needs(alloc, &mut self.needs, rest),
+            _ => match name.strip_prefix("__MODULES_PUSHENV_") {
+                Some(name) => {
+                    // What was read of it so far doesn't count.
+                    self.variables
+                        .retain(|variable| variable.0.as_str() != name);
+                    let value = String::from_str(alloc, rest)?;
+                    self.add_change(alloc, name, VariableChange::Pushed(value))
                 }
-            }
+                None => Ok(()),
+            },
         }
-        Ok(true)
     }
 
     /// Whether a variable was pushed.
@@ -176,33 +158,26 @@ impl LoadRecords {
         })
     }
 
-    /// Adds that a variable is unset.
-    fn unset(&mut self, alloc: Global, name: &str) -> Result<(), AllocError> {
-        let name = String::from_str(alloc, name)?;
-        self.variables.push((name, VariableChange::Unset))?;
-        Ok(())
-    }
-
-    /// Adds what a line says that sets a variable; why it doesn't serve, where it doesn't.
-    fn set(&mut self, alloc: Global, setting: Setting) -> Result<Option<Unserving>, AllocError> {
-        let Setting { name, value } = setting;
-        let is_own = name.starts_with("__MODULES_")
-            || matches!(name.as_str(), "_LMFILES_" | "LOADEDMODULES");
-        if is_own {
-            let is_alone = self.add_own(alloc, name.as_str(), value.as_str())?;
-            return Ok(if is_alone {
-                None
-            } else {
-                Some(Unserving("it loads other modules"))
-            });
+    /// Adds what a line says that sets a variable to a value; why it doesn't serve, where it doesn't.
+    fn set(
+        &mut self,
+        alloc: Global,
+        name: &str,
+        value: &str,
+    ) -> Result<Option<Unserving>, AllocError> {
+        if name == "LOADEDMODULES" && value.contains(':') {
+            return Ok(Some(Unserving("it loads other modules")));
         }
-        if self.is_pushed(name.as_str()) {
-            return Ok(None);
+        if is_own(name) {
+            if let Some((_, rest)) = value.split_once('&') {
+                self.add_own(alloc, name, rest)?;
+            }
+        } else if !self.is_pushed(name) {
+            match change_of(alloc, name, value)? {
+                Some(change) => self.add_change(alloc, name, change)?,
+                None => return Ok(Some(Unserving("a path has other elements than were added"))),
+            }
         }
-        let Some(change) = change_of(alloc, name.as_str(), value.as_str())? else {
-            return Ok(Some(Unserving("a path has other elements than were added")));
-        };
-        self.variables.push((name, change))?;
         Ok(None)
     }
 
@@ -215,16 +190,14 @@ impl LoadRecords {
             return Ok(Some(Unserving("the load failed")));
         }
         if let Some(rest) = line.strip_prefix("unset ") {
-            return match rest.strip_suffix(';') {
-                Some(name) => {
-                    self.unset(alloc, name)?;
-                    Ok(None)
-                }
-                None => Ok(Some(Unserving("a line of its records isn't read"))),
+            let Some(name) = rest.strip_suffix(';') else {
+                return Ok(Some(Unserving("a line of its records isn't read")));
             };
+            self.add_change(alloc, name, VariableChange::Unset)?;
+            return Ok(None);
         }
         match setting_of(alloc, line)? {
-            Some(setting) => self.set(alloc, setting),
+            Some((name, value)) => self.set(alloc, name, value.as_str()),
             None => Ok(Some(Unserving("it does something that is no variable"))),
         }
     }

@@ -22,58 +22,38 @@ fn rest_below<'e>(element: &'e str, home: Option<&str>) -> Option<&'e str> {
 }
 
 impl UserValues<'_> {
-    /// Whether a word is the person's name.
-    fn is_user(self, word: &str) -> bool {
-        match self.user {
-            Some(user) => word == user,
-            None => false,
-        }
-    }
-
-    /// Adds a path with what asks for the name in place of it.
-    fn push_path(self, text: &mut String, path: &str) -> Result<bool, AllocError> {
-        let mut asks = false;
-        let mut is_first = true;
+    /// A path with what asks for the name in place of it.
+    fn path(self, alloc: Global, path: &str) -> Result<String, AllocError> {
+        let mut parts = Vec::new(alloc);
         for part in path.split('/') {
-            if !is_first {
-                text.push('/')?;
-            }
-            if self.is_user(part) {
-                text.push_str("[getenv USER]")?;
-                asks = true;
-            } else {
-                text.push_str(part)?;
-            }
-            is_first = false;
+            let is_user = self.user == Some(part);
+            parts.push(if is_user { "[getenv USER]" } else { part })?;
         }
-        Ok(asks)
+        parts.as_slice().join(alloc, "/")
     }
 
-    /// Adds an element of a path with what asks for the home directory and the name in place of these.
-    fn push_element(self, text: &mut String, element: &str) -> Result<bool, AllocError> {
+    /// An element of a path with what asks for the home directory and the name in place of these.
+    fn element(self, alloc: Global, element: &str) -> Result<String, AllocError> {
         match rest_below(element, self.home) {
             Some(rest) => {
-                text.push_str("[getenv HOME]")?;
-                self.push_path(text, rest)?;
-                Ok(true)
+                let rest = self.path(alloc, rest)?;
+                Ok(format!(in alloc; "[getenv HOME]{rest}")?)
             }
-            None => self.push_path(text, element),
+            None => self.path(alloc, element),
         }
     }
 
     /// The value with what asks for the home directory and the name in place of these; none where neither is in it.
     pub(crate) fn asking(self, alloc: Global, value: &str) -> Result<Option<String>, AllocError> {
-        let mut text = String::new(alloc);
-        let mut asks = false;
-        let mut is_first = true;
+        let mut elements = Vec::new(alloc);
         for element in value.split(':') {
-            if !is_first {
-                text.push(':')?;
-            }
-            let does = self.push_element(&mut text, element)?;
-            asks = asks || does;
-            is_first = false;
+            elements.push(self.element(alloc, element)?)?;
         }
-        Ok(if asks { Some(text) } else { None })
+        let text = elements.as_slice().join(alloc, ":")?;
+        Ok(if text.as_str() == value {
+            None
+        } else {
+            Some(text)
+        })
     }
 }

@@ -21,71 +21,57 @@ fn is_plain(text: &str) -> bool {
 }
 
 impl Writing<'_> {
-    /// Adds a word behind a space, spelled as the element of a list.
-    fn push_word(&mut self, word: &str) -> Result<(), AllocError> {
-        let spelled = write_list(self.alloc, &[word])?;
-        self.text.push(' ')?;
-        self.text.push_str(spelled.as_str())
-    }
-
-    /// Adds a value, which asks for the person's home directory and name where these stand in it.
-    fn push_value(&mut self, value: &str) -> Result<(), AllocError> {
-        match self.person.asking(self.alloc, value)? {
-            Some(asking) if is_plain(value) => {
-                self.text.push_str(" \"")?;
-                self.text.push_str(asking.as_str())?;
-                self.text.push('"')
-            }
-            _ => self.push_word(value),
-        }
-    }
-
-    /// Adds a command on a variable and a value.
-    fn push_command(&mut self, command: &str, name: &str, value: &str) -> Result<(), AllocError> {
-        self.text.push_str(command)?;
-        self.push_word(name)?;
-        self.push_value(value)?;
+    /// Adds a command of these words.
+    fn push_command(&mut self, words: &[&str]) -> Result<(), AllocError> {
+        self.text.push_str(write_list(self.alloc, words)?.as_str())?;
         self.text.push('\n')
+    }
+
+    /// Adds a command on a variable and a value, which asks for the person's home directory and name where these stand in it.
+    fn push_value(&mut self, command: &str, name: &str, value: &str) -> Result<(), AllocError> {
+        let value = match self.person.asking(self.alloc, value)? {
+            Some(asking) if is_plain(value) => format!(in self.alloc; "\"{asking}\"")?,
+            _ => write_list(self.alloc, &[value])?,
+        };
+        let name = write_list(self.alloc, &[name])?;
+        let line = format!(in self.alloc; "{command} {name} {value}\n")?;
+        self.text.push_str(line.as_str())
     }
 
     /// Adds the commands that add to a path.
     fn push_path(&mut self, name: &str, ends: &PathEnds) -> Result<(), AllocError> {
-        let delimiter = ends.delimiter;
+        let option = match ends.delimiter {
+            ':' => String::new(self.alloc),
+            delimiter => format!(in self.alloc; " -d {{{delimiter}}}")?,
+        };
         for (command, added) in [("prepend-path", &ends.front), ("append-path", &ends.back)] {
             if let Some(added) = added {
-                let command = if delimiter == ':' {
-                    String::from_str(self.alloc, command)?
-                } else {
-                    format!(in self.alloc; "{command} -d {{{delimiter}}}")?
-                };
-                self.push_command(command.as_str(), name, added.as_str())?;
+                let command = format!(in self.alloc; "{command}{option}")?;
+                self.push_value(command.as_str(), name, added.as_str())?;
             }
         }
         Ok(())
     }
 
-    /// Adds a command with these words, where there are some.
-    fn push_words(&mut self, command: &str, words: &[String]) -> Result<(), AllocError> {
-        if words.is_empty() {
+    /// Adds a command with these names, where there are some.
+    fn push_names(&mut self, command: &str, names: &[String]) -> Result<(), AllocError> {
+        if names.is_empty() {
             return Ok(());
         }
-        self.text.push_str(command)?;
-        for word in words {
-            self.push_word(word.as_str())?;
+        let mut words = Vec::new(self.alloc);
+        words.push(command)?;
+        for name in names {
+            words.push(name.as_str())?;
         }
-        self.text.push('\n')
+        self.push_command(words.as_slice())
     }
 
     /// Adds the commands for what became of a variable.
     fn push_change(&mut self, name: &str, change: &VariableChange) -> Result<(), AllocError> {
         match change {
-            VariableChange::Set(value) => self.push_command("setenv", name, value.as_str()),
-            VariableChange::Pushed(value) => self.push_command("pushenv", name, value.as_str()),
-            VariableChange::Unset => {
-                self.text.push_str("unsetenv")?;
-                self.push_word(name)?;
-                self.text.push('\n')
-            }
+            VariableChange::Set(value) => self.push_value("setenv", name, value.as_str()),
+            VariableChange::Pushed(value) => self.push_value("pushenv", name, value.as_str()),
+            VariableChange::Unset => self.push_command(&["unsetenv", name]),
             VariableChange::Added(ends) => self.push_path(name, ends),
         }
     }
@@ -103,9 +89,9 @@ pub fn written_records(
         text: String::from_str(alloc, head)?,
         person,
     };
-    writing.push_words("conflict", records.conflicts.as_slice())?;
+    writing.push_names("conflict", records.conflicts.as_slice())?;
     for names in &records.needs {
-        writing.push_words("prereq", names.as_slice())?;
+        writing.push_names("prereq", names.as_slice())?;
     }
     for (name, change) in &records.variables {
         writing.push_change(name.as_str(), change)?;

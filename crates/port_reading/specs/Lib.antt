@@ -1,2 +1,1 @@
-pub mod file_text
-pub mod script_text
+pub mod FileTexts

@@ -34,45 +34,37 @@ none_at text rest ps e f =
     subst (λ (r : Text). Accounts text (pieces_view ps) r) (sym f)
     (subst (λ (qs : List TranslatedPiece). Accounts text (pieces_view qs) text) (sym e) (none text))
 
--- the piece of a command, for as many bytes of the rest
-pub cut : (rest : Text) (length : ℕ) (pieces : List Piece) (p : Piece) → Stays (take length rest) p → (text : Text) → Accounts text pieces rest
-    → Accounts text (pieces ++ p ∷ []) (drop length rest)
-cut rest length pieces p k text h = grown text rest (take length rest) (drop length rest) pieces p h (take-append-drop length rest) k
+-- a text in two
+pub halves : (text a b : Text) (n : ℕ) → a ≡ take n text → b ≡ drop n text → a ++ b ≡ text
+halves text a b n e f = ap (λ (t : Text). t ++ b) e ∙ (ap (λ (t : Text). take n text ++ t) f ∙ take-append-drop n text)
 
--- a piece for no part, of which something is said
-pub put_between : (pieces : List Piece) (p : Piece) (rest : Text) → p.is_said ≡ true → (text : Text) → Accounts text pieces rest
-    → Accounts text (pieces ++ p ∷ []) rest
-put_between pieces p rest e text h = grown text rest [] rest pieces p h refl (λ (unsaid : p.is_said ≡ false). let never : true ≡ false = sym e ∙ unsaid in cc)
+pub whole : (text : Text) → text ++ [] ≡ text
+whole text = append-nil text
 
 -- a piece with a note
 pub said : (p : TranslatedPiece) (n : Note) → p.notes.items ≡ n ∷ [] → (piece_view p).is_said ≡ true
 said p n e = ap has_notes e
 
--- the rest
-pub ended : (rest : Text) (pieces : List Piece) (p : Piece) → Stays rest p → (text : Text) → Accounts text pieces rest
-    → Accounts text (pieces ++ p ∷ []) []
-ended rest pieces p k text h = grown text rest rest [] pieces p h (append-nil rest) k
-
 -- a piece of the code behind others
 grown_list : (old new : List TranslatedPiece) (p : TranslatedPiece) → new ≡ old ++ p ∷ [] → pieces_view new ≡ pieces_view old ++ piece_view p ∷ []
 grown_list old new p n = ap pieces_view n ∙ map-append piece_view old (p ∷ [])
 
-pub pushed_cut : (rest was behind : Text) (length : ℕ) (old new : List TranslatedPiece) (p : TranslatedPiece) → was ≡ take length rest → behind ≡ drop length rest
-    → Stays was (piece_view p) → new ≡ old ++ p ∷ [] → (file : Text) → Accounts file (pieces_view old) rest → Accounts file (pieces_view new) behind
-pushed_cut rest was behind length old new p e f k n file h =
-    subst (λ (ps : List Piece). Accounts file ps behind) (sym (grown_list old new p n))
-    (subst (λ (b : Text). Accounts file (pieces_view old ++ piece_view p ∷ []) b) (sym f)
-    (cut rest length (pieces_view old) (piece_view p) (subst (λ (w : Text). Stays w (piece_view p)) e k) file h))
+-- one for a part that the rest begins with
+pub pushed : (rest was behind : Text) (old new : List TranslatedPiece) (p : TranslatedPiece) → was ++ behind ≡ rest → Stays was (piece_view p)
+    → new ≡ old ++ p ∷ [] → (file : Text) → Accounts file (pieces_view old) rest → Accounts file (pieces_view new) behind
+pushed rest was behind old new p e k n file h =
+    subst (λ (ps : List Piece). Accounts file ps behind) (sym (grown_list old new p n)) (grown file rest was behind (pieces_view old) (piece_view p) h e k)
 
+-- one for all of the rest
 pub pushed_ended : (rest : Text) (old new : List TranslatedPiece) (p : TranslatedPiece) → Stays rest (piece_view p) → new ≡ old ++ p ∷ []
     → (file : Text) → Accounts file (pieces_view old) rest → Accounts file (pieces_view new) []
-pushed_ended rest old new p k n file h =
-    subst (λ (ps : List Piece). Accounts file ps []) (sym (grown_list old new p n)) (ended rest (pieces_view old) (piece_view p) k file h)
+pushed_ended rest old new p k n = pushed rest rest [] old new p (append-nil rest) k n
 
+-- one for no part, of which something is said
 pub pushed_between : (rest : Text) (old new : List TranslatedPiece) (p : TranslatedPiece) → (piece_view p).is_said ≡ true → new ≡ old ++ p ∷ []
     → (file : Text) → Accounts file (pieces_view old) rest → Accounts file (pieces_view new) rest
-pushed_between rest old new p e n file h =
-    subst (λ (ps : List Piece). Accounts file ps rest) (sym (grown_list old new p n)) (put_between (pieces_view old) (piece_view p) rest e file h)
+pushed_between rest old new p e n =
+    pushed rest [] rest old new p refl (λ (unsaid : (piece_view p).is_said ≡ false). let never : true ≡ false = sym e ∙ unsaid in cc) n
 
 same : (parts : List Text) (pieces : List Piece) → AreFor parts pieces → AreUnsaid pieces → written pieces ≡ joined parts
 same [] [] h u = refl

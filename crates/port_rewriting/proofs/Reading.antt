@@ -16,7 +16,7 @@ use Rattle.modulefile.specs.Records.{Record}
 use Rattle.modulefile.specs.RecordViews.{record_view}
 use Rattle.modulefile.specs.declared.records.Record as rust_record
 use Rattle.port_rewriting.specs.RecordViews.{records_view}
-use Rattle.port_rewriting.specs.Leaving.{plain, HasRecord, Leave, Leaves}
+use Rattle.port_rewriting.specs.Leaving.{plain, HasRecord, Leave, Leaves, Parses}
 
 module _ {P : Type 0} (shown : P → Text) where
   pub script_commands : (s : rust_script.Script P) → script_view shown s ≡ tree.commands_of (map (command_view shown) (rust_script.out-Script P s).commands.items)
@@ -34,6 +34,10 @@ module _ {P : Type 0} (shown : P → Text) where
   pub script_leaves : (text : Text) (s : rust_script.Script P) (rs : List Record) → IsWithin text (script_view shown s)
       → Leave (tree.commands_of (map (command_view shown) (rust_script.out-Script P s).commands.items)) rs → Leaves text rs
   script_leaves text s rs h k = (script_view shown s, h, subst (λ (c : tree.Commands). Leave c rs) (sym (script_commands s)) k)
+
+-- a text that has a tree
+pub parses : (text : Text) (s : tree.Commands) → IsWithin text s → Parses text
+parses text s h = (s, h)
 
 more : (xs : List rust_record.Record) (a : rust_record.Record) → records_view (xs ++ a ∷ []) ≡ records_view xs ++ record_view a ∷ []
 more xs a = map-append record_view xs (a ∷ [])

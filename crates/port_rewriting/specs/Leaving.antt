@@ -25,3 +25,7 @@ Leave (command offset source ws cs) (r ∷ rs) = HasRecord ws r × Leave cs rs
 -- the commands of a text leave these records
 abbrev pub Leaves : Text → List Record → Type 0
 Leaves text rs = (s : Commands) × IsWithin text s × Leave s rs
+
+-- the grammar has a tree for the text, within the limits of length and nesting
+abbrev pub Parses : Text → Type 0
+Parses text = (s : Commands) × IsWithin text s

@@ -1,8 +1,8 @@
 -- Where a command may begin (own): a word that is evaluated is read later, or what it is in is left.
 use Rattle.std.specs.Prelude.{◌≡◌, IsSome, List, [], ◌∷◌, ◌++◌, Option, Some, None}
-use Rattle.port_reading.specs.declared.places.words.ConstantWord.{ConstantWord}
-use Rattle.port_reading.specs.declared.roles.reading.Role.{Role}
-use Rattle.port_reading.specs.declared.roles.reading.Role.TheVariants as roles
+use Rattle.port_reading.specs.declared.places.ConstantWord.{ConstantWord}
+use Rattle.port_reading.specs.declared.roles.Role.{Role}
+use Rattle.port_reading.specs.declared.roles.Role.TheVariants as roles
 use Rattle.port_rewriting.specs.declared.pieces.LeftPart.{LeftPart}
 use Rattle.port_rewriting.specs.declared.scopes.Scope.{Scope}
 

@@ -5,7 +5,7 @@ use crate::aliases::{is_folder, script_of};
 use crate::class::Class;
 use crate::guards::guard_of;
 use crate::meanings::{added, any_needed, each_needed, in_family};
-use crate::names::{Meaning, Site, is_plain, meaning_in};
+use crate::names::{Meaning, Site, folder_of, is_plain, meaning_in};
 use crate::reader::Reader;
 use crate::rewrite::{Case, Rewrite, WordText};
 use crate::scopes::{FileKind, Scope};
@@ -16,13 +16,23 @@ use tcltext::chars::is_name;
 
 /// How modules are asked for.
 #[derive(Clone, Copy, PartialEq, Eq)]
-enum Ask {
+pub(crate) enum Ask {
     /// They are loaded in this place.
     Load,
     /// They are loaded, if they are there.
     Try,
     /// They have to be loaded.
     Need,
+}
+
+/// How a command of these first words asks for modules, where it does, and how many words stand before their names.
+pub(crate) fn ask_of(name: &str, word: Option<&str>) -> Option<(Ask, usize)> {
+    match (name, word) {
+        ("module", Some("load" | "add")) => Some((Ask::Load, 2)),
+        ("module", Some("try-load")) => Some((Ask::Try, 2)),
+        ("depends-on" | "prereq-all", _) => Some((Ask::Need, 1)),
+        _ => None,
+    }
 }
 
 /// Whether a part of a path can be written as it is.
@@ -38,14 +48,6 @@ fn is_directory(word: &str) -> bool {
     word.starts_with('/') && word.split('/').all(|part| is_plain_part(part))
 }
 
-/// The folder of a module.
-fn folder_of(module: &str) -> &str {
-    match module.rsplit_once('/') {
-        Some((folder, _)) => folder,
-        None => "",
-    }
-}
-
 /// Whether a variable is one of the environment, which no command of Tcl changes here.
 fn is_of_environment(name: &str) -> bool {
     name == "env" || name.starts_with("env(") || name.starts_with("::env")
@@ -53,10 +55,7 @@ fn is_of_environment(name: &str) -> bool {
 
 /// Whether a shell takes something in a value for a home.
 fn has_tilde(word: Option<&str>) -> bool {
-    match word {
-        Some(value) => value.starts_with('~') || value.contains(":~"),
-        None => false,
-    }
+    word.is_some_and(|value| value.starts_with('~') || value.contains(":~"))
 }
 
 impl<'f> Reader<'f> {
@@ -70,9 +69,7 @@ impl<'f> Reader<'f> {
         match meaning_in(self.alloc, self.given.site, name)? {
             Meaning::Modules(modules) => Ok(Some(modules)),
             Meaning::Same if is_plain(name) => {
-                let mut names = Vec::new(self.alloc);
-                names.push(String::from_str(self.alloc, name)?)?;
-                Ok(Some(names))
+                Ok(Some(vec![in self.alloc; String::from_str(self.alloc, name)?]?))
             }
             _ => Ok(None),
         }
@@ -174,21 +171,15 @@ impl<'f> Reader<'f> {
         Ok(Some(Rewrite::Records(records, None)))
     }
 
-    /// What is written for `module` with these words, in a script that stands there.
-    fn module(&self, scope: Scope, words: &[Option<&str>]) -> Result<Option<Rewrite>, AllocError> {
+    /// What is written for `module use` with these words.
+    fn module_use(&self, words: &[Option<&str>]) -> Result<Option<Rewrite>, AllocError> {
         match words {
-            [Some("load" | "add"), names @ ..] if scope.is_top => self.asking(Ask::Load, names),
-            [Some("try-load"), names @ ..] if scope.is_top => self.asking(Ask::Try, names),
-            [Some("use"), Some("-a" | "--append" | "-append"), those @ ..] => {
+            [Some("-a" | "--append" | "-append"), those @ ..] => {
                 self.searching(PathEdit::Back, those)
             }
-            [
-                Some("use"),
-                Some("-p" | "--prepend" | "-prepend"),
-                those @ ..,
-            ]
-            | [Some("use"), those @ ..] => self.searching(PathEdit::Front, those),
-            _ => Ok(None),
+            [Some("-p" | "--prepend" | "-prepend"), those @ ..] | those => {
+                self.searching(PathEdit::Front, those)
+            }
         }
     }
 
@@ -219,25 +210,12 @@ impl<'f> Reader<'f> {
         match script_of(self.alloc, name, text)? {
             Some(script) if is_folder(folder) && !self.given.is_strict => {
                 self.scripts.push(script)?;
-                let mut folders = Vec::new(self.alloc);
-                folders.push(String::from_str(self.alloc, folder)?)?;
+                let folders = vec![in self.alloc; String::from_str(self.alloc, folder)?]?;
                 let records = added(self.alloc, PathEdit::Front, "PATH", folders)?;
                 Ok(Some(Rewrite::Records(records, Some(Case::Script))))
             }
             _ => Ok(None),
         }
-    }
-
-    /// The names of modules as one text.
-    fn spelled(&self, modules: &[String]) -> Result<String, AllocError> {
-        let mut text = String::new(self.alloc);
-        for module in modules {
-            if !text.is_empty() {
-                text.push(' ')?;
-            }
-            text.push_str(module.as_str())?;
-        }
-        Ok(text)
     }
 
     /// What is written for a command of these words, of which the first is this name and the others name modules.
@@ -252,7 +230,7 @@ impl<'f> Reader<'f> {
                     Meaning::Same => {}
                     Meaning::Unknown => return self.left(word),
                     Meaning::Modules(modules) => {
-                        let text = self.spelled(modules.as_slice())?;
+                        let text = modules.as_slice().join(self.alloc, " ")?;
                         texts.push(WordText { word: number, text })?;
                     }
                 },
@@ -286,9 +264,16 @@ impl<'f> Reader<'f> {
         if !scope.is_statement() {
             return Ok(None);
         }
+        if let [Some(name), others @ ..] = words {
+            match ask_of(name, others.first().copied().flatten()) {
+                Some((ask, front)) if scope.is_top || ask == Ask::Need => {
+                    return self.asking(ask, words.get(front..).unwrap_or(&[]));
+                }
+                _ => {}
+            }
+        }
         match words {
-            [Some("module"), others @ ..] => self.module(scope, others),
-            [Some("depends-on" | "prereq-all"), names @ ..] => self.asking(Ask::Need, names),
+            [Some("module"), Some("use"), those @ ..] => self.module_use(those),
             [Some("prereq-any"), names @ ..] => self.asking_one(names),
             [Some("family"), Some(name)] if scope.is_top => self.family(name),
             [Some("set-alias"), Some(name), Some(text)] if scope.is_top => self.alias(name, text),

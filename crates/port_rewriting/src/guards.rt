@@ -2,6 +2,7 @@
 ghost use Rattle.std.specs.Prelude.{◌≡◌, IfSome, IsTrue, map};
 ghost use Rattle.port_rewriting.specs.RecordViews.{shown};
 
+use crate::classifying::{Ask, ask_of};
 use crate::conditions::{Condition, condition_of};
 use crate::symbols::constant_words;
 use std::alloc::{AllocError, Global};
@@ -16,11 +17,15 @@ fn loads_of_script<'t>(
 ) -> Result<Option<Vec<&'t str>>, AllocError> {
     let mut loads = Vec::new(alloc);
     for command in &script.commands {
-        match constant_words(alloc, body, command)?.as_slice() {
-            ["module", "load" | "add", names @ ..] | ["depends-on" | "prereq-all", names @ ..] => {
-                loads.extend_from_slice(names)?;
+        let words = constant_words(alloc, body, command)?;
+        let [name, others @ ..] = words.as_slice() else {
+            return Ok(None);
+        };
+        match (ask_of(name, others.first().copied()), others) {
+            (Some((Ask::Load | Ask::Need, front)), _) => {
+                loads.extend_from_slice(words.get(front..).unwrap_or(&[]))?;
             }
-            ["puts", "stderr", _] | ["puts", "-nonewline", "stderr", _] => {}
+            (None, ["stderr", _] | ["-nonewline", "stderr", _]) if *name == "puts" => {}
             _ => return Ok(None),
         }
     }

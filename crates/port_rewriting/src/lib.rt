@@ -21,7 +21,7 @@ mod translation;
 
 pub use aliases::ShellScript;
 pub use class::{Class, Note, Outcome};
-pub use names::{Member, Site};
+pub use names::{Member, Site, folder_of};
 pub use pieces::TranslatedPiece;
 pub use reader::NamedFamily;
 pub use scopes::{FileKind, Given};

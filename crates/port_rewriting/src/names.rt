@@ -83,6 +83,11 @@ fn means_there(name: &str, called: &str) -> bool {
     means(name, called) || is_part(name, called)
 }
 
+/// The folder of a module, which is empty at the top.
+pub fn folder_of(module: &str) -> &str {
+    module.rsplit_once('/').map_or("", |parts| parts.0)
+}
+
 /// Whether a text is one of some.
 pub(crate) fn is_among(texts: &[String], text: &str) -> bool {
     texts.iter().any(|other| other.as_str() == text)
@@ -164,10 +169,9 @@ impl Site {
 
     /// Whether a module is directly in the folder of a name.
     pub fn has_version(&self, folder: &str) -> bool {
-        self.modules.iter().any(|module| match module.as_str().rsplit_once('/') {
-            Some((above, _)) => above == folder,
-            None => false,
-        })
+        self.modules
+            .iter()
+            .any(|module| folder_of(module.as_str()) == folder)
     }
 
     /// Whether a default file says what a name means.

@@ -4,29 +4,10 @@ ghost use Rattle.port_rewriting.specs.Accounts.{Stays};
 ghost use Rattle.port_rewriting.specs.AccountViews.{piece_view};
 
 use crate::class::{Class, Note, Outcome};
-use port_constants::Computed;
+use port_constants::Edit;
 use port_reading::places::first_line;
 use std::alloc::{AllocError, Global};
 use tcltext::script::ByteRange;
-
-/// A text that is written for what stands at a place of a file.
-#[derive(Debug, Drop)]
-pub(crate) struct Edit {
-    /// The place.
-    pub place: ByteRange,
-    /// The text.
-    pub text: String,
-}
-
-impl Edit {
-    /// That of a text for what stands between two places.
-    pub(crate) fn between(start: usize, end: usize, text: String) -> Edit {
-        Edit {
-            place: ByteRange { start, end },
-            text,
-        }
-    }
-}
 
 /// What is left in a command, and where it stands.
 #[derive(Debug, Drop)]
@@ -41,7 +22,7 @@ pub(crate) struct PieceFindings {
     /// The texts that are written for parts of it.
     pub edits: Vec<Edit>,
     /// The texts that Tcl computes.
-    pub computed: Vec<Computed>,
+    pub computed: Vec<Edit>,
     /// Whether other commands are written for all of it.
     pub is_replaced: bool,
     /// Whether something is done in it besides what its name says.
@@ -60,7 +41,7 @@ pub(crate) struct PieceFindings {
 #[derive(Debug, Drop)]
 pub struct TranslatedPiece {
     /// What is written.
-    pub text: Vec<u8>,
+    pub text: String,
     /// The notes.
     pub notes: Vec<Note>,
 }
@@ -107,13 +88,11 @@ impl PieceFindings {
 
 /// What stands at a place, up to a newline.
 fn line_at(text: &str, place: ByteRange) -> &str {
-    let length = place
-        .of(text)
-        .bytes()
-        .take_while(|byte| *byte != b'\n')
-        .count();
-    let (start, end) = (place.start, place.start.saturating_add(length));
-    ByteRange { start, end }.of(text)
+    let part = place.of(text);
+    match part.split_once('\n') {
+        Some((line, _)) => line,
+        None => part,
+    }
 }
 
 /// A part of a text, and the line where it begins.
@@ -158,15 +137,12 @@ impl TextPart<'_> {
 fn ordered(found: PieceFindings) -> Result<Vec<Edit>, AllocError> {
     let PieceFindings {
         mut edits,
-        computed,
+        mut computed,
         is_replaced,
         ..
     } = found;
     if !is_replaced {
-        for it in computed {
-            let Computed { place, text } = it;
-            edits.push(Edit { place, text })?;
-        }
+        edits.append(&mut computed)?;
     }
     edits.sort_by_key(|edit| edit.place.start)?;
     Ok(edits)
@@ -195,25 +171,25 @@ fn edited(
 /// The piece with these notes on a part of a file: the part, where there are none, and else what is written for it.
 pub(crate) fn noted(
     alloc: Global,
-    part: &[u8],
+    part: &str,
     notes: Vec<Note>,
     written: String,
 ) -> Result<TranslatedPiece, AllocError>
     ensures { IfOk result (λ p. Stays part.now (piece_view p)) }
 {
     let text = match notes.as_slice() {
-        [] => Vec::from_slice(alloc, part)?,
-        [_, ..] => written.into_bytes(),
+        [] => String::from_str(alloc, part)?,
+        [_, ..] => written,
     };
     Ok(TranslatedPiece { text, notes })
 }
 
-/// What is written for a part of a text of these bytes, by what was found in its command. A part on which there is no note
-/// is written as it is.
+/// What is written for a part of a text, by what was found in its command. A part on which there is no note is written as
+/// it is.
 pub(crate) fn written_piece(
     alloc: Global,
     part: TextPart,
-    was: &[u8],
+    was: &str,
     mut found: PieceFindings,
 ) -> Result<TranslatedPiece, AllocError>
     // A part of which nothing is said stays.

@@ -3,12 +3,12 @@ ghost use Rattle.std.specs.Prelude.{IsSome, OnOk};
 ghost use Rattle.port_rewriting.specs.LookingInto.{IsLookedInto};
 
 use crate::aliases::ShellScript;
-use crate::pieces::{Edit, PieceFindings};
+use crate::pieces::PieceFindings;
 use crate::rewrite::Rewrite;
 use crate::scopes::{Given, Scope};
 use modulefile::Record;
-use port_constants::{Knowledge, computed_in, copied};
-use port_reading::places::{ConstantWord, constant, first_line, places_of_words};
+use port_constants::{Edit, Knowledge, computed_in, copied, plain_name};
+use port_reading::places::{ConstantWord, constant, first_line, places_of_words, words_of};
 use port_reading::roles::{Role, roles_of};
 use std::alloc::{AllocError, Global};
 use std::mem::replace;
@@ -63,18 +63,15 @@ pub(crate) struct Reader<'f> {
     piece: PieceFindings,
 }
 
-/// Whether a command answers, and does nothing else.
+/// Commands that answer, and do nothing else.
+const PURE: &str =
+    "list llength lindex lrange split join concat string getenv is-loaded module-info expr";
+
+/// Whether a command of these words answers, and does nothing else.
 fn is_pure(words: &[Option<&str>]) -> bool {
     match words {
-        [
-            Some("list" | "llength" | "lindex" | "lrange" | "split" | "join" | "concat"),
-            ..
-        ] => true,
-        [
-            Some("string" | "getenv" | "is-loaded" | "module-info" | "expr"),
-            ..
-        ] => true,
-        [Some("info"), Some("exists"), ..] => true,
+        [Some("info"), second, ..] => *second == Some("exists"),
+        [Some(name), ..] => PURE.split(' ').any(|pure| pure == *name),
         _ => false,
     }
 }
@@ -105,14 +102,6 @@ fn may_end(name: &str) -> bool {
     )
 }
 
-/// The name of a variable without the colons of the global namespace.
-fn plain_variable(name: &str) -> &str {
-    match name.strip_prefix("::") {
-        Some(rest) => rest,
-        None => name,
-    }
-}
-
 /// Whether the number has a fraction or an exponent.
 fn is_fraction(number: &str) -> bool {
     let is_hexadecimal = number.contains('x') || number.contains('X');
@@ -121,10 +110,9 @@ fn is_fraction(number: &str) -> bool {
 
 /// Whether one of the records adds a directory that modules are searched in.
 fn adds_search(records: &[Record]) -> bool {
-    records.iter().any(|record| match record.added_elements() {
-        Some((var, _)) => var == "MODULEPATH",
-        None => false,
-    })
+    records.iter().any(|record| record
+        .added_elements()
+        .is_some_and(|added| added.0 == "MODULEPATH"))
 }
 
 /// Whether a place begins at a byte, or goes over it.
@@ -142,23 +130,6 @@ fn are_spelled(parts: &[Part<ByteRange>]) -> bool {
 /// Whether a procedure is called by no load.
 fn is_for_reports(name: &str) -> bool {
     matches!(name, "ModulesHelp" | "ModulesDisplay" | "ModulesTest")
-}
-
-/// Adds the constant words of a script to some; false where one isn't constant.
-fn add_constants<'t>(
-    words: &mut Vec<ConstantWord<'t>>,
-    text: &'t str,
-    script: &Script<ByteRange>,
-) -> Result<bool, AllocError> {
-    for command in &script.commands {
-        for word in &command.words {
-            match constant(text, word) {
-                Some(word) => words.push(word)?,
-                None => return Ok(false),
-            }
-        }
-    }
-    Ok(true)
 }
 
 /// Whether the values of words are these elements.
@@ -193,13 +164,9 @@ impl<'f> Reader<'f> {
     /// Notes the procedures that the commands of the file define.
     pub(crate) fn find_procedures(&mut self, script: &Script<ByteRange>) -> Result<(), AllocError> {
         for command in &script.commands {
-            if let [first, name, ..] = command.words.as_slice() {
-                let is_definition = constant(self.text, first).is_some_and(|word| word.value
-                    == "proc");
-                match constant(self.text, name) {
-                    Some(name) if is_definition => self.procedures.push(name.value)?,
-                    _ => {}
-                }
+            let words = words_of(self.alloc, self.text, command)?;
+            if let [Some("proc"), Some(name), ..] = words.as_slice() {
+                self.procedures.push(*name)?;
             }
         }
         Ok(())
@@ -335,13 +302,20 @@ impl<'f> Reader<'f> {
     fn pattern_words(&self, scope: Scope<'f>) -> Result<Option<Vec<ConstantWord<'f>>>, TextFault> {
         let script = parse_pieces(self.alloc, &scope.text)?;
         let elements = parse_list(self.alloc, scope.text)?;
-        let mut words = Vec::new(self.alloc);
-        let are_constant = match add_constants(&mut words, scope.text, &script) {
-            Ok(are_constant) => are_constant,
-            Err(_) => return Err(TextFault::OutOfMemory),
-        };
-        let are_all = are_constant && are_elements(words.as_slice(), elements.as_slice());
-        Ok(if are_all { Some(words) } else { None })
+        let words = script
+            .commands
+            .iter()
+            .flat_map(|command| command.words.iter());
+        match words
+            .map(|word| constant(scope.text, word))
+            .collect(self.alloc)
+        {
+            Ok(words) => Ok(words.filter(|words: &Vec<_>| are_elements(
+                words.as_slice(),
+                elements.as_slice(),
+            ))),
+            Err(_) => Err(TextFault::OutOfMemory),
+        }
     }
 
     /// Has the bodies in a list of patterns read later.
@@ -366,10 +340,7 @@ impl<'f> Reader<'f> {
     #[cycle(reads)]
     fn script(&mut self, scope: Scope<'f>, script: &Script<ByteRange>) -> Result<(), AllocError> {
         for command in &script.commands {
-            let mut words = Vec::new(self.alloc);
-            for word in &command.words {
-                words.push(constant(scope.text, word).map(|word| word.value))?;
-            }
+            let words = words_of(self.alloc, scope.text, command)?;
             self.command(scope, command, words.as_slice())?;
         }
         Ok(())
@@ -429,16 +400,13 @@ impl<'f> Reader<'f> {
 
     /// Notes a family that a command names.
     fn note_family(&mut self, scope: Scope<'f>, words: &[Option<&str>]) -> Result<(), AllocError> {
-        match words {
-            [Some("family"), Some(name)] => self.families.push(NamedFamily {
-                name: Some(String::from_str(self.alloc, name)?),
-                is_sure: scope.is_top && self.is_straight,
-            })?,
-            [Some("family"), ..] => self.families.push(NamedFamily {
-                name: None,
-                is_sure: false,
-            })?,
-            _ => {}
+        if let [Some("family"), names @ ..] = words {
+            let name = match names {
+                [name] => copied(self.alloc, *name)?,
+                _ => None,
+            };
+            let is_sure = scope.is_top && self.is_straight;
+            self.families.push(NamedFamily { name, is_sure })?;
         }
         Ok(())
     }
@@ -462,9 +430,8 @@ impl<'f> Reader<'f> {
             let Edit { place, text } = edit;
             let place = scope.range(place);
             // What Tcl computes in it is written anew with it.
-            self.piece
-                .computed
-                .retain(|it| !has_inside(place, it.place.start));
+            let computed = &mut self.piece.computed;
+            computed.retain(|it| !has_inside(place, it.place.start));
             self.piece.edits.push(Edit { place, text })?;
         }
         let outcome = rewrite.outcome(self.alloc)?;
@@ -542,51 +509,40 @@ impl<'f> Reader<'f> {
         Ok(())
     }
 
-    /// Reads what is in brackets in parts of a word.
+    /// Reads what is in parts of a word, but for the scripts in brackets in whose place a text is put.
     #[cycle(reads)]
     fn parts(&mut self, scope: Scope<'f>, parts: &[Part<ByteRange>]) -> Result<(), AllocError> {
         for part in parts {
-            self.part(scope, part)?;
+            match part {
+                Part::Literal(_) | Part::Backslash(_) => {}
+                Part::Variable(name) => self.variable(scope, *name)?,
+                Part::Indexed(name, index) => {
+                    self.variable(scope, *name)?;
+                    self.parts(scope, index.as_slice())?;
+                }
+                Part::Bracket(script) if self.is_computed_script(scope, script) => {}
+                Part::Bracket(script) => self.script(scope.bracket(), script)?,
+            }
         }
         Ok(())
-    }
-
-    /// Reads what is in brackets in a part of a word, unless its text is put in place of it.
-    #[cycle(reads)]
-    fn part(&mut self, scope: Scope<'f>, part: &Part<ByteRange>) -> Result<(), AllocError> {
-        match part {
-            Part::Literal(_) | Part::Backslash(_) => Ok(()),
-            Part::Variable(name) => self.variable(scope, *name),
-            Part::Indexed(name, index) => {
-                self.variable(scope, *name)?;
-                self.parts(scope, index.as_slice())
-            }
-            Part::Bracket(script) if self.is_computed_script(scope, script) => Ok(()),
-            Part::Bracket(script) => self.script(scope.bracket(), script),
-        }
     }
 
     /// Whether a text is put in place of what stands there.
     fn is_computed(&self, scope: Scope, start: usize) -> bool {
         let at = scope.place(start);
-        self.piece
-            .computed
-            .iter()
-            .any(|it| has_inside(it.place, at))
-            || self.piece.edits.iter().any(|it| has_inside(it.place, at))
+        let mut edits = self.piece.computed.iter().chain(self.piece.edits.iter());
+        edits.any(|it| has_inside(it.place, at))
     }
 
     /// Whether a text is put in place of a script in brackets.
     fn is_computed_script(&self, scope: Scope, script: &Script<ByteRange>) -> bool {
-        match script.commands.as_slice() {
-            [] => false,
-            [command, ..] => self.is_computed(scope, command.source.start),
-        }
+        let first = script.commands.as_slice().first();
+        first.is_some_and(|command| self.is_computed(scope, command.source.start))
     }
 
     /// Reads a variable.
     fn variable(&mut self, scope: Scope<'f>, name: ByteRange) -> Result<(), AllocError> {
-        let word = plain_variable(name.of(scope.text));
+        let word = plain_name(name.of(scope.text));
         self.piece.asks = self.piece.asks || word == "env";
         let is_foreign = FOREIGN_VARIABLES.split(' ').any(|other| other == word);
         if is_foreign && !self.is_computed(scope, name.start) {
@@ -655,10 +611,7 @@ impl<'f> Reader<'f> {
             }
             return Ok(());
         }
-        let name = match words {
-            [Some(name), ..] => *name,
-            _ => "",
-        };
+        let name = words.first().copied().flatten().unwrap_or("");
         let is_alone = !self.piece.does_more;
         self.is_quiet = self.is_quiet && is_still(name) && is_alone && !self.piece.asks;
         self.is_straight = self.is_straight && !self.piece.may_end;

@@ -1,9 +1,9 @@
 //! What is written for a command, and what is said of that.
 
 use crate::class::{Class, Outcome};
-use crate::pieces::Edit;
 use crate::records::written;
 use modulefile::Record;
+use port_constants::Edit;
 use std::alloc::{AllocError, Global};
 use tcltext::script::ByteRange;
 

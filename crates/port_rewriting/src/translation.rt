@@ -1,9 +1,9 @@
 //! A modulefile translated, piece by piece: a script again.
-ghost use Rattle.std.specs.Prelude.{◌≡◌, [], ◌++◌, take, drop, true, IfOk, OnOk, string_bytes};
+ghost use Rattle.std.specs.Prelude.{◌≡◌, [], ◌++◌, true, IfOk, OnOk, string_bytes};
 ghost use Rattle.tcltext.specs.chars.Runs.{Text};
-ghost use Rattle.port_reading.specs.script_text.ScriptTexts.{Parses};
 ghost use Rattle.port_rewriting.specs.Accounts.{Accounts, AreUnsaid, written};
 ghost use Rattle.port_rewriting.specs.Classes.{worst_of_pieces};
+ghost use Rattle.port_rewriting.specs.Leaving.{Parses};
 ghost use Rattle.port_rewriting.specs.AccountViews.{piece_view, pieces_view};
 
 use crate::aliases::ShellScript;
@@ -12,12 +12,12 @@ use crate::names::is_plain;
 use crate::pieces::{PieceFindings, TextPart, TranslatedPiece, noted, written_piece};
 use crate::reader::{NamedFamily, Reader};
 use crate::scopes::Given;
-use port_reading::script_text::script_text;
+use port_reading::places::line_ends;
 use std::alloc::{AllocError, AllocFailed, Global};
 use std::error::Error;
 use std::fmt;
 use tcltext::chars::TextFault;
-use tcltext::script::{ByteRange, Command, Script, parse_pieces};
+use tcltext::script::{ByteRange, Command, Script, parse_pieces, parse_script};
 
 /// What is written for a modulefile, and what is said of it.
 #[derive(Debug, Drop)]
@@ -66,20 +66,14 @@ impl<T: Drop> From<AllocFailed<T>> for TranslationFault {
     }
 }
 
-/// How many lines end in a part of a text.
-fn lines_in(text: &[u8]) -> usize {
-    text.iter().filter(|byte| **byte == b'\n').count()
-}
-
-/// The first bytes, as many as that or all, and the others.
-fn split_within(text: &[u8], length: usize) -> (&[u8], &[u8])
-    ensures first { result.0.now ≡ take length text.now }
-    ensures others { result.1.now ≡ drop length text.now }
+/// The text in two: as many bytes as that, where a character ends there, or all; and the others.
+#[tactic(auto, using(crate::proofs::Accounting::halves, crate::proofs::Accounting::whole))]
+fn split_within(text: &str, length: usize) -> (&str, &str)
+    ensures { result.0.now ++ result.1.now ≡ text.now }
 {
-    if length < text.len() {
-        text.split_at(length)
-    } else {
-        (text, &[])
+    match text.split_at_checked(length) {
+        Some((front, back)) => (front, back),
+        None => (text, ""),
     }
 }
 
@@ -91,7 +85,7 @@ fn start_of(text: &str, commands: &[Command<ByteRange>], number: usize) -> usize
     }
 }
 
-impl Reader<'_> {
+impl<'f> Reader<'f> {
     /// Reads commands of the file, and gives what was found in each.
     fn read_all(
         &mut self,
@@ -104,12 +98,11 @@ impl Reader<'_> {
         Ok(found)
     }
 
-    /// Whether a conflict with the name that the file is to be in conflict with is still to be added.
-    fn lacks_conflict(&self) -> bool {
-        match self.given.one_version {
-            Some(name) => !self.has_conflict && is_plain(name),
-            None => false,
-        }
+    /// The name that the file is to be in conflict with, where it isn't yet.
+    fn missing_conflict(&self) -> Option<&'f str> {
+        self.given
+            .one_version
+            .filter(|name| !self.has_conflict && is_plain(name))
     }
 }
 
@@ -119,7 +112,7 @@ struct PiecesSoFar<'f> {
     /// The pieces.
     pieces: Vec<TranslatedPiece>,
     /// What is still to be written.
-    rest: &'f [u8],
+    rest: &'f str,
     /// The line where that begins.
     line: usize,
 }
@@ -129,15 +122,13 @@ struct PiecesSoFar<'f> {
 fn added_conflict(alloc: Global, name: &str) -> Result<TranslatedPiece, AllocError>
     ensures { IfOk result (λ p. (piece_view p).is_said ≡ true) }
 {
-    let what = format!(in alloc; "conflict {name}")?;
-    let mut text = Vec::from_slice(alloc, what.as_bytes())?;
-    text.push(b'\n')?;
     let mut notes = Vec::new(alloc);
     notes.push(Note {
         line: None,
-        what,
+        what: format!(in alloc; "conflict {name}")?,
         outcome: Outcome::Added,
     })?;
+    let text = format!(in alloc; "conflict {name}\n")?;
     Ok(TranslatedPiece { text, notes })
 }
 
@@ -148,24 +139,11 @@ impl<'f> PiecesSoFar<'f> {
     {
         let mut so_far = PiecesSoFar {
             pieces: Vec::new(alloc),
-            rest: text.as_bytes(),
+            rest: text,
             line: 1,
         };
-        so_far.add_plain(alloc, first)?;
+        so_far.add(alloc, text, 0, first, PieceFindings::new(alloc))?;
         Ok(so_far)
-    }
-
-    /// Adds the next bytes as they are.
-    fn add_plain(&mut self, alloc: Global, length: usize) -> Result<(), AllocError>
-        ensures { OnOk result ((file : Text) → Accounts file (pieces_view self.old.pieces.items) self.old.rest.now
-            → Accounts file (pieces_view self.new.pieces.items) self.new.rest.now) }
-    {
-        let (was, rest) = split_within(self.rest, length);
-        let piece = noted(alloc, was, Vec::new(alloc), String::new(alloc))?;
-        self.pieces.push(piece)?;
-        self.line = self.line.saturating_add(lines_in(was));
-        self.rest = rest;
-        Ok(())
     }
 
     /// Adds all that is still to be written as it is.
@@ -208,7 +186,7 @@ impl<'f> PiecesSoFar<'f> {
         };
         let piece = written_piece(alloc, part, was, found)?;
         self.pieces.push(piece)?;
-        self.line = self.line.saturating_add(lines_in(was));
+        self.line = self.line.saturating_add(line_ends(was));
         self.rest = rest;
         Ok(())
     }
@@ -251,14 +229,26 @@ fn class_of(pieces: &[TranslatedPiece]) -> Class
 }
 
 /// The text of pieces.
-fn text_of(alloc: Global, pieces: &[TranslatedPiece]) -> Result<Vec<u8>, AllocError>
-    ensures { IfOk result (λ text. text.items ≡ written (pieces_view pieces.now)) }
+fn text_of(alloc: Global, pieces: &[TranslatedPiece]) -> Result<String, AllocError>
+    ensures { IfOk result (λ text. string_bytes text ≡ written (pieces_view pieces.now)) }
 {
-    let mut text = Vec::new(alloc);
+    let mut text = String::new(alloc);
     for piece in pieces {
-        text.extend_from_slice(piece.text.as_slice())?;
+        text.push_str(piece.text.as_str())?;
     }
     Ok(text)
+}
+
+/// That a text is a script; the error is that it is none, or want of memory.
+#[tactic(auto, using(crate::proofs::Reading::parses))]
+fn check(alloc: Global, text: &str) -> Result<(), TranslationFault>
+    ensures { OnOk result (Parses text.now) }
+{
+    match parse_script(alloc, text) {
+        Ok(_) => Ok(()),
+        Err(TextFault::OutOfMemory) => Err(TranslationFault::Given(TextFault::OutOfMemory)),
+        Err(_) => Err(TranslationFault::Written),
+    }
 }
 
 /// What is written for a file of this script.
@@ -277,13 +267,13 @@ fn translated<'f>(
     reader.find_procedures(script)?;
     let commands = script.commands.as_slice();
     let found = reader.read_all(commands)?;
-    let is_added = reader.lacks_conflict() && !commands.is_empty();
-    let added = if is_added { given.one_version } else { None };
-    let pieces = pieces_of(alloc, text, commands, found, added)?;
-    let bytes = text_of(alloc, pieces.as_slice())?;
-    let Some(written) = script_text(alloc, bytes)? else {
-        return Err(TranslationFault::Written);
+    let added = match commands {
+        [] => None,
+        _ => reader.missing_conflict(),
     };
+    let pieces = pieces_of(alloc, text, commands, found, added)?;
+    let written = text_of(alloc, pieces.as_slice())?;
+    check(alloc, written.as_str())?;
     let Reader {
         scripts,
         families,

@@ -1,5 +1,5 @@
-use Rattle.port_rewriting.proofs.Accounting.{pushed_cut}
+use Rattle.port_rewriting.proofs.Accounting.{pushed}
 use Rattle.port_rewriting.proofs.translation.PiecesSoFar.add.Goals as goal
 
 pub returns : goal.returns
-returns c = pushed_cut c.args.self.now.rest.now _ _ _ _ _ _ c.split_within.ensures.first c.split_within.ensures.others c.in_ok-piece.ensures c.in_ok-push.ensures.items
+returns c = pushed c.args.self.now.rest.now _ _ _ _ _ c.split_within.ensures c.in_ok-piece.ensures c.in_ok-push.ensures.items

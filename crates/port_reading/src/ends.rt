@@ -4,7 +4,7 @@ use tcltext::chars::{is_blank, read_backslash};
 use tcltext::script::{ByteRange, Command, Part, Script, Word, WordContent};
 
 /// What stands in the text from a place on.
-fn rest_at(text: &str, at: usize) -> &str {
+pub(crate) fn rest_at(text: &str, at: usize) -> &str {
     let rest = ByteRange {
         start: at,
         end: text.len(),
@@ -20,32 +20,8 @@ fn behind(text: &str, at: usize, byte: u8) -> Option<usize> {
     }
 }
 
-/// Whether a byte parts commands, or is one of the blanks around them.
-fn is_around(byte: u8) -> bool {
-    is_blank(byte) || byte == b'\n' || byte == b';'
-}
-
-/// What stands between words, or between commands.
-#[derive(Clone, Copy)]
-enum Between {
-    /// Between the words of a command.
-    Words,
-    /// Between commands, and around them.
-    Commands,
-}
-
-impl Between {
-    /// Whether the byte stands there.
-    fn has(self, byte: u8) -> bool {
-        match self {
-            Between::Words => is_blank(byte),
-            Between::Commands => is_around(byte),
-        }
-    }
-}
-
-/// The place behind the bytes between words or commands, and the escaped newlines, at a place.
-fn run_end(text: &str, at: usize, between: Between) -> usize {
+/// The place behind the blanks, escaped newlines and bytes of these that stand at a place.
+fn run_end(text: &str, at: usize, others: &[u8]) -> usize {
     let mut end = at;
     let mut is_escaped = false;
     for byte in rest_at(text, at).bytes() {
@@ -57,7 +33,7 @@ fn run_end(text: &str, at: usize, between: Between) -> usize {
             is_escaped = false;
         } else if byte == b'\\' {
             is_escaped = true;
-        } else if between.has(byte) {
+        } else if is_blank(byte) || others.contains(&byte) {
             end = end.saturating_add(1);
         } else {
             break;
@@ -67,8 +43,8 @@ fn run_end(text: &str, at: usize, between: Between) -> usize {
 }
 
 /// The place behind the blanks and escaped newlines at a place.
-pub fn gap_end(text: &str, at: usize) -> usize {
-    run_end(text, at, Between::Words)
+pub(crate) fn gap_end(text: &str, at: usize) -> usize {
+    run_end(text, at, b"")
 }
 
 /// The place behind the name of a variable, with its dollar sign, which stands at a place.
@@ -111,7 +87,7 @@ pub fn end_of_part(text: &str, at: usize, part: &Part<ByteRange>) -> Option<usiz
 
 /// The place behind parts of which the first stands at a place.
 #[cycle(ends)]
-pub fn end_of_parts(text: &str, at: usize, parts: &[Part<ByteRange>]) -> Option<usize> {
+fn end_of_parts(text: &str, at: usize, parts: &[Part<ByteRange>]) -> Option<usize> {
     let mut end = at;
     for part in parts {
         end = end_of_part(text, end, part)?;
@@ -126,7 +102,7 @@ fn end_of_bracket(text: &str, at: usize, script: &Script<ByteRange>) -> Option<u
     for command in &script.commands {
         end = end_of_command(text, command)?;
     }
-    behind(text, run_end(text, end, Between::Commands), b']')
+    behind(text, run_end(text, end, b"\n;"), b']')
 }
 
 /// The place behind the words of a command.

@@ -1,3 +1,0 @@
-pub mod Refused
-pub mod Scripts
-pub mod Utf8

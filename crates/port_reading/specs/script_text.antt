@@ -1,2 +1,0 @@
-pub mod ReadingFaults
-pub mod ScriptTexts
