@@ -81,8 +81,8 @@ def test_refused(folder):
     """Nothing is written where the modulefile isn't there, isn't a script or isn't named."""
     usage = (
         "Usage: modport [--json] [--strict] [--host NAME=VALUE]... [--flatten RECORDS [--kept NAME=VALUE]...] "
-        "FILE | --stdin | [--one-version] [--alias-scripts] [--defaults FILE] FROM TO [FROM TO]... | "
-        "[--one-version] [--alias-scripts] [--defaults FILE] --check FROM [TO]"
+        "FILE | --stdin | [--one-version] [--alias-scripts] [--drop-unread] [--defaults FILE] FROM TO [FROM TO]... | "
+        "[--one-version] [--alias-scripts] [--drop-unread] [--defaults FILE] --check FROM [TO]"
     )
     os.mkfifo(folder.at("fifo"))
     for words, given, said in (
@@ -98,6 +98,8 @@ def test_refused(folder):
         (["--one-version", "--stdin"], b"", usage),
         (["--one-version", "a"], b"", usage),
         (["--alias-scripts", "a"], b"", usage),
+        (["--drop-unread", "a"], b"", usage),
+        (["--drop-unread", "--stdin"], b"", usage),
         (["--like", "em", "a", "b"], b"", usage),
         (["--defaults", "d", "a"], b"", usage),
         (["--defaults", "d", "--stdin"], b"", usage),
@@ -498,7 +500,7 @@ def test_rows_of_trees(folder, row):
     files = files_of(row)
     read = {name: text(given) for name, (given, written, _) in files.items() if not is_script(given, written)}
     old, new = tree(folder, read)
-    options = ["--alias-scripts"] if "set-alias" in row else []
+    options = [it for mark, it in (("set-alias", "--alias-scripts"), ("dropped", "--drop-unread")) if mark in row]
     done = folder.run(*options, old, new)
     at = old.decode()
     said = [f"{at}/{name}:{line}" for name, (_, _, lines) in files.items() for line in lines]

@@ -1,6 +1,5 @@
 -- The report (own): lines on a file, for people, or each a JSON object (RFC 8259).
 use Rattle.std.specs.Prelude.{ℕ, List, [], ◌∷◌, ◌++◌, Bool, codes, decimal, flat_map, if◌then◌else◌, string_bytes, Option, Some, None}
-use Rattle.std.specs.Str.Lossy.{utf8_lossy}
 use Rattle.json.specs.Print.{print}
 use Rattle.json.specs.Token.{Token, begin_object, end_object, key, string, number}
 use Rattle.tcltext.specs.chars.Bytes.{newline}
@@ -53,9 +52,9 @@ plain path l = path ++ (place_text l.place ++ (codes ": " ++ (said_text l ++ new
 
 -- As JSON
 
--- a member that is a text; bytes that aren't UTF-8 are replaced
+-- a member that is a text
 abbrev pub text_tokens : Text → Text → List Token
-text_tokens name text = key name ∷ (string (utf8_lossy text) ∷ [])
+text_tokens name text = key name ∷ (string text ∷ [])
 
 abbrev pub place_tokens : Option ℕ → List Token
 place_tokens None = []

@@ -38,6 +38,8 @@ pub(crate) struct PortOptions {
     pub one_version: bool,
     /// Whether scripts are written for aliases.
     pub alias_scripts: bool,
+    /// Whether commands of default files that aren't read here are dropped.
+    pub drop_unread: bool,
     /// Whether a command is left where something would differ.
     pub strict: bool,
     /// What is said of the host that the modulefiles are for.
@@ -54,11 +56,10 @@ pub(crate) struct PortOptions {
 ///
 /// The errors: want of memory; one is there.
 fn set_once(path: &mut Option<String>, word: String) -> Result<(), PortFault> {
-    if path.is_some() {
-        return Err(PortFault::Usage);
+    match path.replace(word) {
+        Some(_) => Err(PortFault::Usage),
+        None => Ok(()),
     }
-    *path = Some(word);
-    Ok(())
 }
 
 impl PortOptions {
@@ -71,6 +72,7 @@ impl PortOptions {
             json: false,
             one_version: false,
             alias_scripts: false,
+            drop_unread: false,
             strict: false,
             host: NamedValues::new(alloc),
             kept: NamedValues::new(alloc),
@@ -90,6 +92,7 @@ impl PortOptions {
             "--json" => self.json = true,
             "--one-version" => self.one_version = true,
             "--alias-scripts" => self.alias_scripts = true,
+            "--drop-unread" => self.drop_unread = true,
             "--strict" => self.strict = true,
             "--host" => return Ok(Some("--host")),
             "--kept" => return Ok(Some("--kept")),
@@ -120,7 +123,10 @@ impl PortOptions {
         if self.help {
             return Ok(PortTarget::Help);
         }
-        let is_of_trees = self.one_version || self.alias_scripts || self.defaults.is_some();
+        let is_of_trees = self.one_version
+            || self.alias_scripts
+            || self.drop_unread
+            || self.defaults.is_some();
         match (self.stdin, self.check, paths.len()) {
             (true, false, 0) if !is_of_trees => Ok(PortTarget::Stdin),
             (false, false, 1) if !is_of_trees => match paths.pop() {
@@ -137,19 +143,13 @@ impl PortOptions {
 /// The trees of paths that are read and written in turn, or are only read.
 fn trees(alloc: Global, paths: Vec<String>, is_check: bool) -> Result<PortTarget, PortFault> {
     let mut trees = Vec::new(alloc);
-    let mut before = None;
-    for path in paths {
-        match before {
-            None => before = Some(path),
-            Some(from) => {
-                let to = if is_check { None } else { Some(path) };
-                trees.push(TreePaths { from, to })?;
-                before = None;
-            }
+    let count = paths.len();
+    let mut paths = paths.into_iter();
+    for _ in 0..count {
+        if let Some(from) = paths.next() {
+            let to = paths.next().filter(|_| !is_check);
+            trees.push(TreePaths { from, to })?;
         }
-    }
-    if let Some(from) = before {
-        trees.push(TreePaths { from, to: None })?;
     }
     Ok(PortTarget::Trees(trees))
 }

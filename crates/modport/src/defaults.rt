@@ -2,10 +2,10 @@
 
 use crate::fault::PortFault;
 use crate::texts::{joined, read, text_at, write_new};
-use crate::tree::folder_of;
 use filetree::DiskTree;
 use lookup::locate;
 use port_reading::file_text::file_text;
+use port_rewriting::folder_of;
 use std::alloc::{AllocError, Global};
 use std::fs;
 use tclrules::Limits;
@@ -23,15 +23,13 @@ pub(crate) struct NamedDefaults {
     modules: Vec<String>,
 }
 
-/// What became of the default of a folder.
+/// The default of a folder, as a list names it.
 #[derive(Debug, Drop)]
-pub(crate) enum DefaultOutcome {
+pub(crate) enum NamedDefault {
     /// It is the one that was taken.
-    Same,
-    /// It was named.
-    Named(String),
-    /// It isn't that one, and can't be named.
-    Unnamed,
+    Old,
+    /// It is another module.
+    New(String),
 }
 
 /// A folder whose default is to be named.
@@ -47,10 +45,7 @@ pub(crate) struct DefaultPlace<'p> {
 
 /// The module that a line of a list names, without what stands behind it in parentheses.
 fn module_of(line: &str) -> &str {
-    match line.split_once('(') {
-        Some((module, _)) => module.trim(),
-        None => line.trim(),
-    }
+    line.split_once('(').map_or(line, |parts| parts.0).trim()
 }
 
 impl NamedDefaults {
@@ -102,52 +97,50 @@ fn with_default(alloc: Global, text: &str, module: &str) -> Result<String, Alloc
 /// Writes a default file in place of the one that is there; another one gets the permissions of a modulefile.
 fn put(rt: &HostRuntime, path: &str, module: &str, like: &str) -> Result<(), PortFault> {
     let alloc = rt.alloc();
-    match fs::symlink_metadata(rt, path) {
-        Ok(found) => {
-            let file = file_text(alloc, read(rt, path)?.as_slice())?;
-            let text = with_default(alloc, file.text.as_str(), module)?;
-            if fs::remove_file(rt, path).is_err() {
-                return Err(PortFault::Unwritable);
-            }
-            write_new(rt, path, text.as_bytes(), &found)
+    let old = fs::symlink_metadata(rt, path);
+    let mut text = String::new(alloc);
+    if old.is_ok() {
+        text = file_text(alloc, read(rt, path)?.as_slice())?.text;
+        if fs::remove_file(rt, path).is_err() {
+            return Err(PortFault::Unwritable);
         }
-        Err(_) => match fs::metadata(rt, like) {
-            Ok(found) => {
-                let text = with_default(alloc, "", module)?;
-                write_new(rt, path, text.as_bytes(), &found)
-            }
-            Err(_) => Err(PortFault::Unreadable),
-        },
     }
+    let Ok(status) = old.or_else(|_| fs::metadata(rt, like)) else {
+        return Err(PortFault::Unreadable);
+    };
+    let text = with_default(alloc, text.as_str(), module)?;
+    write_new(rt, path, text.as_bytes(), &status)
 }
 
-/// Names the default of a folder in its default file, where it isn't the one that is taken here.
+/// Names the default of a folder in its default file, where it isn't the one that is taken here; none where it
+/// can't be named.
 ///
 /// The errors: want of memory; it can't be written.
 pub(crate) fn name_default(
     rt: &HostRuntime,
     defaults: &NamedDefaults,
     place: DefaultPlace,
-) -> Result<DefaultOutcome, PortFault> {
+) -> Result<Option<NamedDefault>, PortFault> {
     let alloc = rt.alloc();
     let own = own_default(rt, place.top, place.name)?;
     let Some(wanted) = defaults.of(place.name) else {
-        return Ok(DefaultOutcome::Unnamed);
+        return Ok(None);
     };
     if own.as_deref() == Some(wanted) {
-        return Ok(DefaultOutcome::Same);
+        return Ok(Some(NamedDefault::Old));
     }
     let like = joined(alloc, place.top, wanted)?;
     if fs::metadata(rt, like.as_str()).is_err() || wanted.contains(' ') {
-        return Ok(DefaultOutcome::Unnamed);
+        return Ok(None);
     }
     if let Some(to) = place.to {
         let folder = joined(alloc, to, place.name)?;
         let path = joined(alloc, folder.as_str(), ".modulerc")?;
         put(rt, path.as_str(), wanted, like.as_str())?;
         if own_default(rt, to, place.name)?.as_deref() != Some(wanted) {
-            return Ok(DefaultOutcome::Unnamed);
+            return Ok(None);
         }
     }
-    Ok(DefaultOutcome::Named(String::from_str(alloc, wanted)?))
+    let name = String::from_str(alloc, wanted)?;
+    Ok(Some(NamedDefault::New(name)))
 }

@@ -10,8 +10,8 @@ use tcltext::chars::TextFault;
 /// How the program is called.
 pub(crate) const USAGE: &str = "Usage: modport [--json] [--strict] [--host NAME=VALUE]... \
      [--flatten RECORDS [--kept NAME=VALUE]...] FILE | --stdin | \
-     [--one-version] [--alias-scripts] [--defaults FILE] FROM TO [FROM TO]... | \
-     [--one-version] [--alias-scripts] [--defaults FILE] --check FROM [TO]";
+     [--one-version] [--alias-scripts] [--drop-unread] [--defaults FILE] FROM TO [FROM TO]... | \
+     [--one-version] [--alias-scripts] [--drop-unread] [--defaults FILE] --check FROM [TO]";
 
 /// Why nothing was translated, or not all.
 #[derive(Debug, Drop)]
@@ -92,12 +92,15 @@ impl From<TreeFault> for PortFault {
 
 impl From<TextFault> for PortFault {
     fn from(fault: TextFault) -> PortFault {
-        PortFault::Translation(TranslationFault::Given(fault))
+        PortFault::from(TranslationFault::Given(fault))
     }
 }
 
 impl From<TranslationFault> for PortFault {
     fn from(fault: TranslationFault) -> PortFault {
-        PortFault::Translation(fault)
+        match fault {
+            TranslationFault::Given(TextFault::OutOfMemory) => PortFault::OutOfMemory,
+            fault => PortFault::Translation(fault),
+        }
     }
 }

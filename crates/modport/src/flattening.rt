@@ -2,7 +2,7 @@
 
 use crate::fault::PortFault;
 use port_flatten::{LoadRecords, Unserving, UserValues, records_of, written_records};
-use port_reading::places::{constant, first_line};
+use port_reading::places::{constant, first_line, line_ends};
 use port_rewriting::{Class, Given, Note, Outcome, TranslatedPiece, Translation, translate};
 use std::alloc::{AllocError, Global};
 use tcltext::script::{ByteRange, Script, parse_pieces};
@@ -18,35 +18,21 @@ fn said_alone(
     what: String,
     outcome: Outcome,
 ) -> Result<TranslatedPiece, AllocError> {
-    let mut notes = Vec::new(alloc);
-    notes.push(Note {
-        line,
-        what,
-        outcome,
-    })?;
-    Ok(TranslatedPiece {
-        text: Vec::new(alloc),
-        notes,
-    })
+    let text = String::new(alloc);
+    let notes = vec![in alloc;
+        Note {
+            line,
+            what,
+            outcome
+        },
+    ]?;
+    Ok(TranslatedPiece { text, notes })
 }
 
 /// A note that a file isn't written so, by the reason.
 fn unserving(alloc: Global, why: &str) -> Result<TranslatedPiece, AllocError> {
     let what = format!(in alloc; "not flattened, as {why}")?;
     said_alone(alloc, None, what, Outcome::Left)
-}
-
-/// How many lines end in a text before a place.
-fn lines_before(text: &str, place: usize) -> usize {
-    let before = ByteRange {
-        start: 0,
-        end: place,
-    };
-    before
-        .of(text)
-        .bytes()
-        .filter(|byte| *byte == b'\n')
-        .count()
 }
 
 /// Adds a note on each command of a file.
@@ -57,7 +43,8 @@ fn push_commands(
     script: &Script<ByteRange>,
 ) -> Result<(), AllocError> {
     for command in &script.commands {
-        let line = lines_before(text, command.offset).saturating_add(1);
+        let (start, end) = (0, command.offset);
+        let line = line_ends(ByteRange { start, end }.of(text)).saturating_add(1);
         let what = String::from_str(alloc, first_line(text, command.offset))?;
         pieces.push(said_alone(alloc, Some(line), what, Outcome::Flattened)?)?;
     }

@@ -1,7 +1,7 @@
 //! Values by names, as words `NAME=VALUE` say them: of a host, and of the person in whose environment files were loaded.
 
 use crate::fault::PortFault;
-use port_constants::KnownVariable;
+use port_constants::{KnownVariable, value_among};
 use port_flatten::UserValues;
 use std::alloc::Global;
 
@@ -49,10 +49,7 @@ impl NamedValues {
 
     /// The value of a name.
     fn of(&self, name: &str) -> Option<&str> {
-        self.said
-            .iter()
-            .find(|said| said.name.as_str() == name)
-            .map(|said| said.value.as_str())
+        value_among(self.said.as_slice(), name)
     }
 
     /// Adds what a word `NAME=VALUE` says.

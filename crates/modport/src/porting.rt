@@ -43,23 +43,20 @@ pub struct TranslatedFile {
 /// The notes on how a file was written.
 fn notes_on(alloc: Global, source: SourceEncoding) -> Result<Vec<Note>, AllocError> {
     let seen = [
-        (source.mark, "byte order mark"),
-        (source.latin, "Latin-1"),
-        (source.returns, "CR LF"),
-        (source.lone_returns, "carriage return"),
+        (source.mark, "byte order mark", Outcome::Translated),
+        (source.latin, "Latin-1", Outcome::Translated),
+        (source.returns, "CR LF", Outcome::Translated),
+        (source.lone_returns, "carriage return", Outcome::Left),
     ];
     let mut notes = Vec::new(alloc);
-    for (is_so, what) in seen {
+    for (is_so, what, outcome) in seen {
         if is_so {
-            let is_left = what == "carriage return";
+            let what = String::from_str(alloc, what)?;
+            let line = Some(1);
             notes.push(Note {
-                line: Some(1),
-                what: String::from_str(alloc, what)?,
-                outcome: if is_left {
-                    Outcome::Left
-                } else {
-                    Outcome::Translated
-                },
+                line,
+                what,
+                outcome,
             })?;
         }
     }

@@ -1,6 +1,5 @@
 //! The text of the report: for people, or each line a JSON object.
-ghost use Rattle.std.specs.Prelude.{◌≡◌, [], ◌∷◌, ◌++◌, if◌then◌else◌, OnOk};
-ghost use Rattle.json.specs.Token.{key, string};
+ghost use Rattle.std.specs.Prelude.{◌≡◌, ◌++◌, OnOk};
 ghost use Rattle.modport.specs.Lines as spec;
 ghost use Rattle.modport.specs.LineViews.{line_view, lines_view, now, AddsTokens};
 
@@ -10,33 +9,19 @@ use json::Writer;
 use port_rewriting::{Note, Outcome};
 use std::alloc::{AllocError, Global};
 
-/// How the report says what became of a command.
-fn word_of(outcome: &Outcome) -> &'static str
-    ensures { result.now ≡ spec.word_of outcome.now }
+/// How the report says what became of a command; and what is written for it, or in which case that differs.
+fn words_of(outcome: &Outcome) -> (&'static str, Option<&str>)
+    ensures word { result.0.now ≡ spec.word_of outcome.now }
+    ensures put { now result.1 ≡ spec.put_of outcome.now }
 {
     match outcome {
-        Outcome::Translated => "translated",
-        Outcome::Changed(_) => "changed",
-        Outcome::Computed(_) => "computed",
-        Outcome::Flattened => "flattened",
-        Outcome::Added => "added",
-        Outcome::Default => "default",
-        Outcome::Left => "left out",
-    }
-}
-
-/// What is written for it, or in which case that differs, where this is said.
-fn put_of(outcome: &Outcome) -> Option<&[u8]>
-    ensures { now result ≡ spec.put_of outcome.now }
-{
-    match outcome {
-        Outcome::Changed(case) => Some(case.as_bytes()),
-        Outcome::Computed(text) => Some(text.as_bytes()),
-        Outcome::Translated => None,
-        Outcome::Flattened => None,
-        Outcome::Added => None,
-        Outcome::Default => None,
-        Outcome::Left => None,
+        Outcome::Translated => ("translated", None),
+        Outcome::Changed(case) => ("changed", Some(case.as_str())),
+        Outcome::Computed(text) => ("computed", Some(text.as_str())),
+        Outcome::Flattened => ("flattened", None),
+        Outcome::Added => ("added", None),
+        Outcome::Default => ("default", None),
+        Outcome::Left => ("left out", None),
     }
 }
 
@@ -55,13 +40,13 @@ fn push_place(report: &mut Vec<u8>, place: Option<usize>) -> Result<(), AllocErr
 }
 
 /// Adds what is written for what a line is about, where that is said.
-fn push_put(report: &mut Vec<u8>, put: Option<&[u8]>) -> Result<(), AllocError>
+fn push_put(report: &mut Vec<u8>, put: Option<&str>) -> Result<(), AllocError>
     ensures { OnOk result (report.new.items ≡ report.old.items ++ spec.put_text (now put.entry)) }
 {
     match put {
         Some(text) => {
             report.extend_from_slice(b": ")?;
-            report.extend_from_slice(text)
+            report.extend_from_slice(text.as_bytes())
         }
         None => Ok(()),
     }
@@ -71,10 +56,11 @@ fn push_put(report: &mut Vec<u8>, put: Option<&[u8]>) -> Result<(), AllocError>
 fn push_said(report: &mut Vec<u8>, line: &Note) -> Result<(), AllocError>
     ensures { OnOk result (report.new.items ≡ report.old.items ++ spec.said_text (line_view line.now)) }
 {
-    report.extend_from_slice(word_of(&line.outcome).as_bytes())?;
+    let (word, put) = words_of(&line.outcome);
+    report.extend_from_slice(word.as_bytes())?;
     report.extend_from_slice(b": ")?;
     report.extend_from_slice(line.what.as_bytes())?;
-    push_put(report, put_of(&line.outcome))
+    push_put(report, put)
 }
 
 /// Adds a line on the file of this path, for people.
@@ -91,23 +77,10 @@ fn push_plain(report: &mut Vec<u8>, path: &str, line: &Note) -> Result<(), Alloc
 /// Writes a member that is a text.
 #[tactic(auto, using(crate::proofs::Tokens::adds_one, crate::proofs::Tokens::adds_more))]
 fn write_text(writer: &mut Writer, name: &str, text: &str) -> Result<(), AllocError>
-    ensures { OnOk result (AddsTokens writer.old writer.new (key name.now ∷ (string text.now ∷ []))) }
+    ensures { OnOk result (AddsTokens writer.old writer.new (spec.text_tokens name.now text.now)) }
 {
     writer.key(name)?;
     writer.string(text)
-}
-
-/// Writes a member that is a text of these bytes.
-fn write_bytes(
-    alloc: Global,
-    writer: &mut Writer,
-    name: &str,
-    bytes: &[u8],
-) -> Result<(), AllocError>
-    ensures { OnOk result (AddsTokens writer.old writer.new (spec.text_tokens name.now bytes.now)) }
-{
-    let text = String::from_utf8_lossy(alloc, bytes)?;
-    write_text(writer, name, text.as_str())
 }
 
 /// Writes a place as a member.
@@ -124,29 +97,25 @@ fn write_place(writer: &mut Writer, place: Option<usize>) -> Result<(), AllocErr
 }
 
 /// Writes what is written for what a line is about as a member, where that is said.
-fn write_put(alloc: Global, writer: &mut Writer, put: Option<&[u8]>) -> Result<(), AllocError>
+fn write_put(writer: &mut Writer, put: Option<&str>) -> Result<(), AllocError>
     ensures { OnOk result (AddsTokens writer.old writer.new (spec.put_tokens (now put.entry))) }
 {
     match put {
-        Some(text) => write_bytes(alloc, writer, "text", text),
+        Some(text) => write_text(writer, "text", text),
         None => Ok(()),
     }
 }
 
 /// Writes the members of a line on the file of this path.
-fn write_members(
-    alloc: Global,
-    writer: &mut Writer,
-    path: &str,
-    line: &Note,
-) -> Result<(), AllocError>
+fn write_members(writer: &mut Writer, path: &str, line: &Note) -> Result<(), AllocError>
     ensures { OnOk result (AddsTokens writer.old writer.new (spec.members path.now (line_view line.now))) }
 {
-    write_bytes(alloc, writer, "file", path.as_bytes())?;
+    let (word, put) = words_of(&line.outcome);
+    write_text(writer, "file", path)?;
     write_place(writer, line.line)?;
-    write_bytes(alloc, writer, "what", line.what.as_bytes())?;
-    write_bytes(alloc, writer, "why", word_of(&line.outcome).as_bytes())?;
-    write_put(alloc, writer, put_of(&line.outcome))
+    write_text(writer, "what", line.what.as_str())?;
+    write_text(writer, "why", word)?;
+    write_put(writer, put)
 }
 
 /// Adds a line on the file of this path, as JSON.
@@ -155,7 +124,7 @@ fn push_json(alloc: Global, report: &mut Vec<u8>, path: &str, line: &Note) -> Re
 {
     let mut writer = Writer::new(Vec::new(alloc));
     writer.begin_object()?;
-    write_members(alloc, &mut writer, path, line)?;
+    write_members(&mut writer, path, line)?;
     writer.end_object()?;
     report.extend_from_slice(writer.into_inner().as_slice())?;
     report.extend_from_slice(b"\n")

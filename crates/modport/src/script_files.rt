@@ -3,21 +3,24 @@
 use crate::fault::PortFault;
 use crate::site::is_default_file;
 use crate::texts::{absolute, joined};
-use port_rewriting::ShellScript;
+use port_rewriting::{ShellScript, folder_of};
 use std::alloc::Global;
-use std::fs;
-use std::fs::OpenOptions;
+use std::fs::{Metadata, OpenOptions};
 use std::io::{ErrorKind, Write};
 use std::os::unix::fs::OpenOptionsExt;
+use std::{fs, io};
 
 /// The name of the directory that they are written below.
 const SCRIPTS: &str = "bin";
 
+/// Whether the system says that nothing is there.
+fn is_nothing(found: io::Result<Metadata>) -> bool {
+    found.is_err_and(|fault| fault.kind() == ErrorKind::NotFound)
+}
+
 /// A script that is to be written.
 #[derive(Debug, Drop)]
 pub(crate) struct ScriptFile {
-    /// The path of its folder.
-    folder: String,
     /// Its path.
     pub path: String,
     /// Its text.
@@ -35,33 +38,20 @@ pub(crate) struct ScriptPlaces {
     named: Option<String>,
 }
 
-/// The absolute path of the directory of scripts in a tree that is written; where none is, as at the root.
-fn named_place(rt: &HostRuntime, to: Option<&str>) -> Result<Option<String>, PortFault> {
-    let alloc = rt.alloc();
-    match to {
-        Some(to) => match absolute(rt, to)? {
-            Some(place) => Ok(Some(joined(alloc, place.as_str(), SCRIPTS)?)),
-            None => Ok(None),
-        },
-        None => Ok(Some(joined(alloc, "/", SCRIPTS)?)),
-    }
-}
-
 impl ScriptPlaces {
     /// Those of a tree that is read, and is written below `to`, where it is.
     ///
     /// The error: want of memory.
     pub fn new(rt: &HostRuntime, from: &str, to: Option<&str>) -> Result<ScriptPlaces, PortFault> {
         let alloc = rt.alloc();
-        let named = named_place(rt, to)?;
-        let to = match to {
-            Some(to) => Some(joined(alloc, to, SCRIPTS)?),
-            None => None,
-        };
+        // Where nothing is written, scripts are spoken of as at the root.
+        let top = absolute(rt, to.unwrap_or("/"))?;
         Ok(ScriptPlaces {
             from: joined(alloc, from, SCRIPTS)?,
-            to,
-            named,
+            to: to.map(|to| joined(alloc, to, SCRIPTS)).transpose()?,
+            named: top
+                .map(|top| joined(alloc, top.as_str(), SCRIPTS))
+                .transpose()?,
         })
     }
 
@@ -73,14 +63,10 @@ impl ScriptPlaces {
         for part in name.split('/') {
             match fs::symlink_metadata(rt, path.as_str()) {
                 Ok(found) if found.is_dir() => path = joined(rt.alloc(), path.as_str(), part)?,
-                Err(fault) => return Ok(fault.kind() == ErrorKind::NotFound),
-                Ok(_) => return Ok(false),
+                found => return Ok(is_nothing(found)),
             }
         }
-        match fs::symlink_metadata(rt, path.as_str()) {
-            Ok(_) => Ok(false),
-            Err(fault) => Ok(fault.kind() == ErrorKind::NotFound),
-        }
+        Ok(is_nothing(fs::symlink_metadata(rt, path.as_str())))
     }
 
     /// The folder for scripts of the modulefile of this name, where they can be written.
@@ -111,11 +97,9 @@ impl ScriptPlaces {
         };
         for script in scripts {
             let folder = joined(alloc, to.as_str(), name)?;
-            files.push(ScriptFile {
-                path: joined(alloc, folder.as_str(), script.name.as_str())?,
-                folder,
-                text: script.text,
-            })?;
+            let path = joined(alloc, folder.as_str(), script.name.as_str())?;
+            let text = script.text;
+            files.push(ScriptFile { path, text })?;
         }
         Ok(())
     }
@@ -130,7 +114,7 @@ impl ScriptFile {
         let path = self.path.as_str();
         let mut how = OpenOptions::new();
         how.write(true).create(true).truncate(true).mode(0o755);
-        let made = fs::create_dir_all(rt, self.folder.as_str());
+        let made = fs::create_dir_all(rt, folder_of(path));
         let (Ok(()), Ok(mut file)) = (made, how.open(rt, path)) else {
             return Err(PortFault::Unwritable);
         };

@@ -13,9 +13,9 @@ use std::{env, fs};
 /// The first bytes of each modulefile (modulefile(5)).
 const COOKIE: &str = "#%Module";
 
-/// The path of a name in a directory.
+/// The path of a name in a directory, or in no directory, where that is empty.
 pub(crate) fn joined(alloc: Global, dir: &str, name: &str) -> Result<String, AllocError> {
-    if dir.ends_with('/') {
+    if dir.is_empty() || dir.ends_with('/') {
         return Ok(format!(in alloc; "{dir}{name}")?);
     }
     Ok(format!(in alloc; "{dir}/{name}")?)
@@ -57,11 +57,7 @@ pub(crate) fn absolute(rt: &HostRuntime, path: &str) -> Result<Option<String>, P
 /// The modulefile of these bytes, and how it was written; none where they don't begin as one.
 pub(crate) fn modulefile(alloc: Global, bytes: &[u8]) -> Result<Option<FileText>, PortFault> {
     let file = file_text(alloc, bytes)?;
-    if file.text.starts_with(COOKIE) {
-        Ok(Some(file))
-    } else {
-        Ok(None)
-    }
+    Ok(Some(file).filter(|file| file.text.starts_with(COOKIE)))
 }
 
 /// The bytes of the file at the path, which isn't opened where it is of another type.
@@ -84,10 +80,7 @@ pub(crate) fn read(rt: &HostRuntime, path: &str) -> Result<Vec<u8>, PortFault> {
 ///
 /// The errors: no file is there; it can't be read.
 pub(crate) fn text_at(rt: &HostRuntime, path: &str) -> Result<Option<String>, PortFault> {
-    match String::from_utf8(read(rt, path)?) {
-        Ok(text) => Ok(Some(text)),
-        Err(_) => Ok(None),
-    }
+    Ok(String::from_utf8(read(rt, path)?).ok())
 }
 
 /// The bytes of standard input.

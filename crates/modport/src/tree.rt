@@ -1,14 +1,25 @@
-//! What is below a directory: its files and directories, by their paths.
+//! What is below a directory: its files and directories, by their paths, and the modulefiles among them.
 
 use crate::fault::PortFault;
-use crate::texts::joined;
+use crate::texts::{joined, modulefile, read};
 use filetree::{DiskTree, Tree};
-use std::alloc::{AllocError, Global};
+use port_reading::file_text::FileText;
 use std::fs;
 use std::fs::Metadata;
 
 /// The most files and directories that are listed.
 const MOST_ENTRIES: usize = 10_000_000;
+
+/// What is found at a path.
+#[derive(Debug, Drop)]
+pub(crate) struct Found {
+    /// What the system says of it, where links aren't followed.
+    pub status: Metadata,
+    /// Whether it is a directory, or a link to one.
+    pub is_folder: bool,
+    /// The modulefile that it is, or that a link leads to.
+    pub file: Option<FileText>,
+}
 
 /// What is at a path below a directory.
 #[derive(Debug, Drop)]
@@ -17,12 +28,10 @@ pub(crate) struct TreeEntry {
     pub path: String,
     /// Its name below the directory.
     pub below: String,
-    /// What the system says of it, where links aren't followed; or why it isn't read.
-    pub found: Result<Metadata, PortFault>,
-    /// Whether it is a directory, or a link to one.
-    pub is_folder: bool,
     /// Whether it is in a directory that a link leads to, which isn't written.
     pub is_linked: bool,
+    /// What is found there; or why it isn't read.
+    pub found: Result<Found, PortFault>,
 }
 
 /// The names in a directory, in their order.
@@ -37,61 +46,58 @@ pub(crate) fn names_in(rt: &HostRuntime, path: &str) -> Result<Vec<String>, Port
     Ok(names)
 }
 
-/// The folder of a name, which is empty at the top.
-pub(crate) fn folder_of(name: &str) -> &str {
-    match name.rsplit_once('/') {
-        Some((folder, _)) => folder,
-        None => "",
-    }
+/// What is found at a path.
+fn look(rt: &HostRuntime, path: &str) -> Result<Found, PortFault> {
+    let Ok(status) = fs::symlink_metadata(rt, path) else {
+        return Err(PortFault::Unreadable);
+    };
+    let (is_folder, is_file) = match fs::metadata(rt, path) {
+        Ok(found) => (found.is_dir(), found.is_file()),
+        Err(_) => (false, false),
+    };
+    let file = if is_file {
+        modulefile(rt.alloc(), read(rt, path)?.as_slice())?
+    } else {
+        None
+    };
+    Ok(Found {
+        status,
+        is_folder,
+        file,
+    })
 }
 
-/// A name in a folder of a tree, which is empty at the top.
-fn name_below(alloc: Global, folder: &str, name: &str) -> Result<String, AllocError> {
-    if folder.is_empty() {
-        String::from_str(alloc, name)
-    } else {
-        joined(alloc, folder, name)
+/// What is in a directory of a path and this name below a tree.
+fn entries_of(
+    rt: &HostRuntime,
+    path: &str,
+    below: &str,
+    is_linked: bool,
+) -> Result<Vec<TreeEntry>, PortFault> {
+    let alloc = rt.alloc();
+    let mut entries = Vec::new(alloc);
+    for name in names_in(rt, path)? {
+        let path = joined(alloc, path, name.as_str())?;
+        entries.push(TreeEntry {
+            found: look(rt, path.as_str()),
+            path,
+            below: joined(alloc, below, name.as_str())?,
+            is_linked,
+        })?;
     }
+    Ok(entries)
 }
 
 impl TreeEntry {
-    /// What is at a path, by this name.
-    fn at(rt: &HostRuntime, path: String, below: String, is_linked: bool) -> TreeEntry {
-        let found = match fs::symlink_metadata(rt, path.as_str()) {
-            Ok(found) => Ok(found),
-            Err(_) => Err(PortFault::Unreadable),
-        };
-        let is_folder = match fs::metadata(rt, path.as_str()) {
-            Ok(found) => found.is_dir(),
-            Err(_) => false,
-        };
-        TreeEntry {
-            path,
-            below,
-            found,
-            is_folder,
-            is_linked,
-        }
-    }
-
-    /// Whether what is in it isn't written.
-    fn leads_away(&self) -> bool {
+    /// What is in it, where it is a directory.
+    fn inside(&self, rt: &HostRuntime) -> Result<Vec<TreeEntry>, PortFault> {
         match &self.found {
-            Ok(found) => self.is_linked || found.is_symlink(),
-            Err(_) => self.is_linked,
+            Ok(found) if found.is_folder => {
+                let is_linked = self.is_linked || found.status.is_symlink();
+                entries_of(rt, self.path.as_str(), self.below.as_str(), is_linked)
+            }
+            _ => Ok(Vec::new(rt.alloc())),
         }
-    }
-
-    /// What is in the directory that it is.
-    fn inside(&self, rt: &HostRuntime, is_linked: bool) -> Result<Vec<TreeEntry>, PortFault> {
-        let alloc = rt.alloc();
-        let mut entries = Vec::new(alloc);
-        for name in names_in(rt, self.path.as_str())? {
-            let path = joined(alloc, self.path.as_str(), name.as_str())?;
-            let below = name_below(alloc, self.below.as_str(), name.as_str())?;
-            entries.push(TreeEntry::at(rt, path, below, is_linked))?;
-        }
-        Ok(entries)
     }
 }
 
@@ -99,26 +105,15 @@ impl TreeEntry {
 ///
 /// The errors: want of memory; no directory is there, or it can't be read.
 pub(crate) fn entries_below(rt: &HostRuntime, from: &str) -> Result<Vec<TreeEntry>, PortFault> {
-    let alloc = rt.alloc();
-    let top = TreeEntry::at(
-        rt,
-        String::from_str(alloc, from)?,
-        String::new(alloc),
-        false,
-    );
-    let mut entries = top.inside(rt, false)?;
+    let mut entries = entries_of(rt, from, "", false)?;
     for place in 0..MOST_ENTRIES {
-        let inside = match entries.as_slice().get(place) {
-            Some(entry) if entry.is_folder => entry.inside(rt, entry.leads_away()),
-            Some(_) => continue,
-            None => break,
+        let Some(entry) = entries.get_mut(place) else {
+            break;
         };
-        match (inside, entries.get_mut(place)) {
-            (Ok(mut inside), _) => entries.append(&mut inside)?,
-            (Err(PortFault::OutOfMemory), _) | (Err(_), None) => {
-                return Err(PortFault::OutOfMemory);
-            }
-            (Err(fault), Some(entry)) => entry.found = Err(fault),
+        match entry.inside(rt) {
+            Ok(mut inside) => entries.append(&mut inside)?,
+            Err(PortFault::OutOfMemory) => return Err(PortFault::OutOfMemory),
+            Err(fault) => entry.found = Err(fault),
         }
     }
     Ok(entries)

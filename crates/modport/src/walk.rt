@@ -1,17 +1,18 @@
 //! A walk over the files of trees, which are translated and written below others.
 
 use crate::arguments::{PortOptions, TreePaths};
-use crate::defaults::{DefaultOutcome, DefaultPlace, NamedDefaults, name_default};
+use crate::defaults::{DefaultPlace, NamedDefault, NamedDefaults, name_default};
 use crate::fault::PortFault;
 use crate::porting::{Sources, port_file};
 use crate::reporting::{fault_line, line_on};
 use crate::script_files::{ScriptFile, ScriptPlaces};
 use crate::site::{add_tree, is_default_file, last_part};
 use crate::status::Status;
-use crate::texts::{absolute, joined, modulefile, read, text_at, write_new};
-use crate::tree::{TreeEntry, entries_below, folder_of, names_in};
+use crate::texts::{absolute, joined, text_at, write_new};
+use crate::tree::{Found, TreeEntry, entries_below, names_in};
 use port_constants::KnownFile;
-use port_rewriting::{FileKind, Given, Outcome, Site};
+use port_reading::file_text::FileText;
+use port_rewriting::{FileKind, Given, Outcome, Site, folder_of};
 use std::fs::{Metadata, Permissions};
 use std::io::Write;
 use std::os::unix::fs::symlink;
@@ -137,41 +138,32 @@ impl<'r> Walk<'r> {
         let Some(records) = &self.options.records else {
             return Ok(None);
         };
-        match text_at(
-            self.rt,
-            joined(self.rt.alloc(), records.as_str(), below)?.as_str(),
-        ) {
+        let path = joined(self.rt.alloc(), records.as_str(), below)?;
+        match text_at(self.rt, path.as_str()) {
             Err(PortFault::NoFile) => Ok(None),
             text => text,
         }
     }
 
-    /// The folder for the scripts of the aliases of a file, where they are asked for.
-    fn scripts_folder(&self, below: &str) -> Result<Option<String>, PortFault> {
-        if !self.options.alias_scripts {
-            return Ok(None);
-        }
-        self.script_places.folder(self.rt, below)
-    }
-
     /// Translates a file, and writes it with these permissions.
-    fn file(&mut self, at: FileAt, found: &Metadata) -> Result<(), PortFault> {
+    fn file(&mut self, at: FileAt, file: &FileText, status: &Metadata) -> Result<(), PortFault> {
         let alloc = self.rt.alloc();
-        let Some(file) = modulefile(alloc, read(self.rt, at.from)?.as_slice())? else {
-            return self.say_of(at.from, Outcome::Left, "no modulefile");
-        };
         let records = self.records_of(at.below)?;
         let sources = Sources {
             json: self.options.json,
             records: records.as_deref(),
             person: self.options.kept.person(),
         };
-        let folder = self.scripts_folder(at.below)?;
+        let folder = if self.options.alias_scripts {
+            self.script_places.folder(self.rt, at.below)?
+        } else {
+            None
+        };
         let path = joined(alloc, self.top.as_str(), at.below)?;
         let given = self.given(at, path.as_str(), folder.as_deref());
-        let ported = port_file(alloc, sources, at.from, &file, given)?;
+        let ported = port_file(alloc, sources, at.from, file, given)?;
         if let Some(to) = at.to {
-            write_new(self.rt, to, ported.text.as_bytes(), found)?;
+            write_new(self.rt, to, ported.text.as_bytes(), status)?;
         }
         self.script_places
             .add(alloc, &mut self.scripts, at.below, ported.scripts)?;
@@ -188,6 +180,7 @@ impl<'r> Walk<'r> {
     ) -> Given<'g> {
         let folder = folder_of(at.below);
         let is_module = !folder.is_empty() && !last_part(at.below).starts_with('.');
+        let is_alone = self.options.one_version && is_module;
         Given {
             kind: if is_default_file(at.below) {
                 FileKind::Defaults
@@ -201,27 +194,16 @@ impl<'r> Walk<'r> {
             }),
             host: self.options.host.said.as_slice(),
             scripts_folder,
-            one_version: if self.options.one_version && is_module {
-                Some(folder)
-            } else {
-                None
-            },
+            one_version: Some(folder).filter(|_| is_alone),
             has_defaults: self.defaults.is_some(),
+            drops_unread: self.options.drop_unread,
             is_strict: self.options.strict,
         }
     }
 
-    /// Whether what is at a path, as a link leads to it, is a modulefile.
-    fn is_modulefile(&self, path: &str, found: &Metadata) -> Result<bool, PortFault> {
-        if !found.is_file() {
-            return Ok(false);
-        }
-        Ok(modulefile(self.rt.alloc(), read(self.rt, path)?.as_slice())?.is_some())
-    }
-
     /// Writes the modulefile that a link leads to at the place of the link, or makes the link again, where it still leads to the
     /// same place.
-    fn link(&mut self, at: FileAt) -> Result<(), PortFault> {
+    fn link(&mut self, at: FileAt, file: Option<FileText>) -> Result<(), PortFault> {
         let Ok(target) = fs::read_link(self.rt, at.from) else {
             return Err(PortFault::Unreadable);
         };
@@ -229,12 +211,12 @@ impl<'r> Walk<'r> {
             return Err(PortFault::NotUtf8);
         };
         let what = format!(in self.rt.alloc(); "link to {target}")?;
-        match fs::metadata(self.rt, at.from) {
-            Ok(found) if self.is_modulefile(at.from, &found)? => {
+        match (file, fs::metadata(self.rt, at.from)) {
+            (Some(file), Ok(status)) => {
                 self.say_of(at.from, Outcome::Translated, what.as_str())?;
-                return self.file(at, &found);
+                return self.file(at, &file, &status);
             }
-            Ok(_) if stays(target) => {}
+            (None, Ok(_)) if stays(target) => {}
             _ => return self.leave(at.from, what.as_str()),
         }
         match at.to {
@@ -244,27 +226,31 @@ impl<'r> Walk<'r> {
     }
 
     /// Makes a directory.
-    fn folder(&mut self, at: FileAt, found: &Metadata) -> Result<(), PortFault> {
+    fn folder(&mut self, at: FileAt, status: &Metadata) -> Result<(), PortFault> {
         let alloc = self.rt.alloc();
         if let Some(to) = at.to {
             if fs::create_dir(self.rt, to).is_err() {
                 return Err(PortFault::Unwritable);
             }
-            let made = (String::from_str(alloc, to)?, found.permissions());
+            let made = (String::from_str(alloc, to)?, status.permissions());
             self.made.push(made)?;
         }
         self.names.push(String::from_str(alloc, at.below)?)?;
         Ok(())
     }
 
-    /// Does what is to be done for what is at a path below a tree.
-    fn entry(&mut self, at: FileAt, found: &Metadata) -> Result<(), PortFault> {
-        if found.is_dir() {
-            self.folder(at, found)
-        } else if found.is_file() {
-            self.file(at, found)
-        } else if found.is_symlink() {
-            self.link(at)
+    /// Does what is to be done for what is found at a path below a tree.
+    fn entry(&mut self, at: FileAt, found: Found) -> Result<(), PortFault> {
+        let Found { status, file, .. } = found;
+        if status.is_dir() {
+            self.folder(at, &status)
+        } else if status.is_symlink() {
+            self.link(at, file)
+        } else if let Some(file) = file {
+            self.file(at, &file, &status)
+        } else if status.is_file() {
+            // What is no modulefile isn't missed.
+            self.say_of(at.from, Outcome::Left, "no modulefile")
         } else {
             self.leave(at.from, "neither a file nor a directory")
         }
@@ -275,37 +261,26 @@ impl<'r> Walk<'r> {
         let TreeEntry {
             path,
             below,
-            found,
             is_linked,
-            ..
+            found,
         } = entry;
         if is_linked {
             return Ok(());
         }
-        let to = match &tree.to {
-            Some(to) => Some(joined(self.rt.alloc(), to.as_str(), below.as_str())?),
-            None => None,
+        let to = tree.to.as_deref();
+        let to = to
+            .map(|to| joined(self.rt.alloc(), to, below.as_str()))
+            .transpose()?;
+        let at = FileAt {
+            from: path.as_str(),
+            to: to.as_deref(),
+            below: below.as_str(),
         };
         let done = match found {
-            Ok(found) => {
-                let at = FileAt {
-                    from: path.as_str(),
-                    to: to.as_deref(),
-                    below: below.as_str(),
-                };
-                self.entry(at, &found)
-            }
+            Ok(found) => self.entry(at, found),
             Err(fault) => Err(fault),
         };
-        self.go_on(path.as_str(), done)
-    }
-
-    /// Walks what is below a tree.
-    fn go(&mut self, tree: &TreePaths, entries: Vec<TreeEntry>) -> Result<(), PortFault> {
-        for entry in entries {
-            self.visit(tree, entry)?;
-        }
-        Ok(())
+        self.go_on(at.from, done)
     }
 
     /// Names the default of a folder of this path, where a list names another than is taken here.
@@ -316,9 +291,9 @@ impl<'r> Walk<'r> {
         place: DefaultPlace,
     ) -> Result<(), PortFault> {
         match name_default(self.rt, defaults, place)? {
-            DefaultOutcome::Same => Ok(()),
-            DefaultOutcome::Named(name) => { self.say_of(path, Outcome::Default, name.as_str()) }
-            DefaultOutcome::Unnamed => self.leave(path, "default"),
+            Some(NamedDefault::New(name)) => self.say_of(path, Outcome::Default, name.as_str()),
+            Some(NamedDefault::Old) => Ok(()),
+            None => self.leave(path, "default"),
         }
     }
 
@@ -382,17 +357,16 @@ fn walk_tree(
         options,
         site,
         defaults,
-        top: match absolute(rt, tree.from.as_str())? {
-            Some(path) => path,
-            None => tree.from.clone()?,
-        },
+        top: absolute(rt, tree.from.as_str())?.unwrap_or(tree.from.clone()?),
         script_places: ScriptPlaces::new(rt, tree.from.as_str(), tree.to.as_deref())?,
         scripts: Vec::new(rt.alloc()),
         status: Status::Within,
         names: Vec::new(rt.alloc()),
         made: Vec::new(rt.alloc()),
     };
-    walk.go(tree, entries)?;
+    for entry in entries {
+        walk.visit(tree, entry)?;
+    }
     walk.write_scripts()?;
     walk.name_defaults(tree)?;
     walk.finish()?;
@@ -420,7 +394,7 @@ pub(crate) fn walk_trees(
         if let Some(to) = &tree.to {
             begin(rt, tree.from.as_str(), to.as_str())?;
         }
-        add_tree(rt, &mut site, entries.as_slice())?;
+        add_tree(rt.alloc(), &mut site, entries.as_slice())?;
         listed.push(entries)?;
     }
     let mut status = Status::Within;

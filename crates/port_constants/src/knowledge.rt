@@ -87,7 +87,7 @@ impl<'k> Knowledge<'k> {
         match (value_among(self.variables.as_slice(), name), name) {
             (Some(value), _) => Some(value),
             (None, "tcl_version") => Some("8.6"),
-            (None, "ModulesCurrentModulefile") => self.file.map(|file| file.path),
+            (None, "ModulesCurrentModulefile") => self.path(),
             _ => None,
         }
     }
@@ -101,6 +101,11 @@ impl<'k> Knowledge<'k> {
     pub(crate) fn host(&self, word: &str) -> Option<&str> {
         let word = if word == "node" { "nodename" } else { word };
         value_among(self.host, word)
+    }
+
+    /// The path of the file.
+    fn path(&self) -> Option<&str> {
+        self.file.map(|file| file.path)
     }
 
     /// The name of the module of the file.

@@ -3,7 +3,7 @@
 use crate::answers::copied;
 use crate::knowledge::{Knowledge, plain_name};
 use std::alloc::{AllocError, Global};
-use tcltext::script::{ByteRange, Command, Part, Script, Word, WordContent};
+use tcltext::script::{ByteRange, Command, Part, Word, WordContent};
 
 impl Knowledge<'_> {
     /// The value of an element of an array.
@@ -11,14 +11,11 @@ impl Knowledge<'_> {
         &self,
         alloc: Global,
         array: &str,
-        index: Option<String>,
+        index: &str,
     ) -> Result<Option<String>, AllocError> {
-        let Some(index) = index else {
-            return Ok(None);
-        };
         match plain_name(array) {
-            "env" => copied(alloc, self.environment(index.as_str())),
-            "tcl_platform" => copied(alloc, self.platform(index.as_str())),
+            "env" => copied(alloc, self.environment(index)),
+            "tcl_platform" => copied(alloc, self.platform(index)),
             _ => Ok(None),
         }
     }
@@ -40,10 +37,15 @@ impl Knowledge<'_> {
             }
             Part::Variable(name) => copied(alloc, self.variable(name.of(text))),
             Part::Indexed(name, index) => {
-                let index = self.value_of_parts(alloc, text, index.as_slice())?;
-                self.element(alloc, name.of(text), index)
+                match self.value_of_parts(alloc, text, index.as_slice())? {
+                    Some(index) => self.element(alloc, name.of(text), index.as_str()),
+                    None => Ok(None),
+                }
             }
-            Part::Bracket(script) => self.value_of_bracket(alloc, text, script),
+            Part::Bracket(script) => match script.commands.as_slice() {
+                [command] => self.value_of_command(alloc, text, command),
+                _ => Ok(None),
+            },
         }
     }
 
@@ -63,20 +65,6 @@ impl Knowledge<'_> {
             }
         }
         Ok(Some(value))
-    }
-
-    /// The answer of the one command of a script in brackets.
-    #[cycle(values)]
-    fn value_of_bracket(
-        &self,
-        alloc: Global,
-        text: &str,
-        script: &Script<ByteRange>,
-    ) -> Result<Option<String>, AllocError> {
-        match script.commands.as_slice() {
-            [command] => self.value_of_command(alloc, text, command),
-            _ => Ok(None),
-        }
     }
 
     /// The answer of a command.

@@ -15,11 +15,10 @@ const SOME_WORD: &str = "0";
 
 /// The words with some word for each that isn't known.
 pub(crate) fn filled(alloc: Global, words: &[Option<&str>]) -> Result<Vec<String>, AllocError> {
-    let mut all = Vec::new(alloc);
-    for word in words {
-        all.push(String::from_str(alloc, word.unwrap_or(SOME_WORD))?)?;
-    }
-    Ok(all)
+    words
+        .iter()
+        .map(|word| String::from_str(alloc, word.unwrap_or(SOME_WORD)))
+        .try_collect(alloc)
 }
 
 /// Whether the evaluator refuses a command by this fault as one that it leaves out.

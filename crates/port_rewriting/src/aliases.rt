@@ -1,7 +1,7 @@
 //! Aliases that are one command: the shell scripts that stand for them.
 
 use std::alloc::{AllocError, Global};
-use tcltext::chars::is_name;
+use tcltext::chars::{is_blank, is_name};
 
 /// What a shell does itself, or reads in another way, so that no program of this name does the same: reserved words,
 /// utilities that act on the shell (POSIX), and those of bash, zsh, ksh, tcsh and of the modules' own functions.
@@ -39,52 +39,21 @@ fn is_literal(byte: u8) -> bool {
     is_name(byte) || matches!(byte, b'.' | b'/' | b':' | b',' | b'+' | b'@' | b'%' | b'-')
 }
 
-/// Whether the byte is a space or a tab.
-fn is_blank(byte: u8) -> bool {
-    byte == b' ' || byte == b'\t'
-}
-
-/// Whether a name or a path of a program can begin with the byte.
-fn begins_program(byte: u8) -> bool {
-    is_name(byte) || byte == b'.' || byte == b'/'
-}
-
-/// Whether the first byte is a letter, a digit or `_`.
-fn begins_name(word: &str) -> bool {
-    match word.as_bytes() {
-        [] => false,
-        [first, ..] => is_name(*first),
-    }
-}
-
 /// Whether a shell finds a program by the name in a folder.
 fn is_program(name: &str) -> bool {
-    begins_name(name)
+    name.bytes().next().is_some_and(|byte| is_name(byte))
         && name.bytes().all(|byte| is_literal(byte) && byte != b'/')
         && !is_in(OF_SHELLS, name)
         && !is_in(DOUBLED, name)
 }
 
-/// The first word of a text.
-fn first_word(text: &str) -> &str {
-    for word in text.split(' ') {
-        for part in word.split('\t') {
-            if !part.is_empty() {
-                return part;
-            }
-        }
-    }
-    ""
-}
-
 /// Whether the text is one command of another program than the one of this name.
 fn is_command(name: &str, text: &str) -> bool {
-    let first = first_word(text);
-    let begins = match first.as_bytes() {
-        [] => false,
-        [byte, ..] => begins_program(*byte),
-    };
-    begins
+    let first = text.split_ascii_whitespace().next().unwrap_or("");
+    let mut bytes = first.bytes();
+    bytes
+        .next()
+        .is_some_and(|byte| is_name(byte) || byte == b'.' || byte == b'/')
         && first != name
         && !is_in(OF_SHELLS, first)
         && text.bytes().all(|byte| is_literal(byte) || is_blank(byte))

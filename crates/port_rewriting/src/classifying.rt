@@ -7,7 +7,7 @@ use crate::guards::guard_of;
 use crate::meanings::{added, any_needed, each_needed, in_family};
 use crate::names::{Meaning, Site, folder_of, is_plain, meaning_in};
 use crate::reader::Reader;
-use crate::rewrite::{Case, Rewrite, WordText};
+use crate::rewrite::{Case, Rewrite};
 use crate::scopes::{FileKind, Scope};
 use crate::symbols::{full_name, in_place};
 use modulefile::PathEdit;
@@ -53,6 +53,14 @@ fn is_of_environment(name: &str) -> bool {
     name == "env" || name.starts_with("env(") || name.starts_with("::env")
 }
 
+/// Whether default files of Environment Modules have a command of this name that those here haven't (modulefile(5)).
+fn is_of_default_files(name: &str) -> bool {
+    matches!(
+        name,
+        "module-alias" | "module-virtual" | "module-hide" | "module-forbid" | "module-tag"
+    )
+}
+
 /// Whether a shell takes something in a value for a home.
 fn has_tilde(word: Option<&str>) -> bool {
     word.is_some_and(|value| value.starts_with('~') || value.contains(":~"))
@@ -77,14 +85,10 @@ impl<'f> Reader<'f> {
 
     /// Whether a name means a module of the site there.
     fn is_there(&self, name: &str) -> Result<bool, AllocError> {
-        match self.given.site {
-            Some(site) if site.has(name) => Ok(true),
-            Some(site) => match site.meaning(self.alloc, name)? {
-                Meaning::Modules(_) => Ok(true),
-                _ => Ok(false),
-            },
-            None => Ok(false),
-        }
+        let Some(site) = self.given.site else {
+            return Ok(false);
+        };
+        Ok(site.has(name) || matches!(site.meaning(self.alloc, name)?, Meaning::Modules(_)))
     }
 
     /// Whether a module that is asked for may be missing, or there only for this file.
@@ -222,25 +226,22 @@ impl<'f> Reader<'f> {
     fn naming(&self, name: &str, words: &[Option<&str>]) -> Result<Rewrite, AllocError> {
         let mut texts = Vec::new(self.alloc);
         for (number, word) in words.iter().enumerate() {
-            match *word {
-                Some(_) if number == 0 => {}
+            let meaning = match *word {
+                Some(word) if number > 0 => meaning_in(self.alloc, self.given.site, word)?,
                 None if self.given.site.is_some() => return self.left(name),
-                None => {}
-                Some(word) => match meaning_in(self.alloc, self.given.site, word)? {
-                    Meaning::Same => {}
-                    Meaning::Unknown => return self.left(word),
-                    Meaning::Modules(modules) => {
-                        let text = modules.as_slice().join(self.alloc, " ")?;
-                        texts.push(WordText { word: number, text })?;
-                    }
-                },
-            }
+                _ => Meaning::Same,
+            };
+            texts.push(match meaning {
+                Meaning::Same => None,
+                Meaning::Unknown => return self.left(word.unwrap_or("")),
+                Meaning::Modules(modules) => Some(modules.as_slice().join(self.alloc, " ")?),
+            })?;
         }
-        if texts.is_empty() {
-            Ok(Rewrite::Keep)
+        Ok(if texts.iter().all(|text| text.is_none()) {
+            Rewrite::Keep
         } else {
-            Ok(Rewrite::Words(texts))
-        }
+            Rewrite::Words(texts)
+        })
     }
 
     /// What is written for an `if` that only loads modules.
@@ -248,10 +249,7 @@ impl<'f> Reader<'f> {
         let Some(loads) = guard_of(self.alloc, words)? else {
             return Ok(None);
         };
-        let mut names = Vec::new(self.alloc);
-        for load in &loads {
-            names.push(Some(*load))?;
-        }
+        let names: Vec<_> = loads.iter().map(|load| Some(*load)).collect(self.alloc)?;
         self.asking(Ask::Load, names.as_slice())
     }
 
@@ -366,9 +364,14 @@ impl<'f> Reader<'f> {
         is_read(self.alloc, self.given.kind, all.as_slice())
     }
 
-    /// What is said of a command of these words that isn't read here: its name, and the option that isn't.
+    /// What is written for a command of these words that isn't read here: nothing, where it is to be dropped. Else its name is
+    /// said, and the option that isn't read.
     fn unread(&self, name: &str, words: &[Option<&str>]) -> Result<Rewrite, AllocError> {
+        let is_droppable = self.given.kind == FileKind::Defaults && is_of_default_files(name);
         match words {
+            _ if is_droppable && self.given.drops_unread => {
+                Ok(Rewrite::Records(Vec::new(self.alloc), Some(Case::Dropped)))
+            }
             [_, Some(option), ..]
                 if option.starts_with('-') && is_name_read(self.given.kind, name) => {
                 Ok(Rewrite::Left(format!(in self.alloc; "{name} {option}")?))

@@ -19,29 +19,23 @@ pub(crate) enum Condition<'t> {
     Exists,
 }
 
-/// The constant words of the one command in brackets that an expression is.
-fn words_of<'t>(
-    alloc: Global,
-    text: &'t str,
-    expression: &Expr<ByteRange>,
-) -> Result<Vec<&'t str>, AllocError> {
-    match expression {
-        Expr::Operand(Operand::Bracket(script)) => match script.commands.as_slice() {
-            [command] => constant_words(alloc, text, command),
-            _ => Ok(Vec::new(alloc)),
-        },
-        _ => Ok(Vec::new(alloc)),
-    }
-}
-
-/// What an expression without operators asks, or the one behind `!`.
+/// What a command in brackets asks, or one behind `!`.
 fn question<'t>(
     alloc: Global,
     text: &'t str,
     expression: &Expr<ByteRange>,
-    is_negated: bool,
 ) -> Result<Option<Condition<'t>>, AllocError> {
-    let words = words_of(alloc, text, expression)?;
+    let (operand, is_negated) = match expression {
+        Expr::Unary(UnaryOperator::Not, inner) => (&**inner, true),
+        _ => (expression, false),
+    };
+    let Expr::Operand(Operand::Bracket(script)) = operand else {
+        return Ok(None);
+    };
+    let [command] = script.commands.as_slice() else {
+        return Ok(None);
+    };
+    let words = constant_words(alloc, text, command)?;
     Ok(match (words.as_slice(), is_negated) {
         (["module-info", "mode", "load"], false) => Some(Condition::Loading),
         (["module-info", "mode", "remove"], false) => Some(Condition::Unloading),
@@ -57,15 +51,11 @@ fn condition_in<'t>(
     text: &'t str,
     expression: &Expr<ByteRange>,
 ) -> Result<Option<Condition<'t>>, AllocError> {
-    match expression {
-        Expr::Operand(_) => question(alloc, text, expression, false),
-        Expr::Unary(UnaryOperator::Not, inner) => question(alloc, text, inner, true),
-        Expr::Or(left, right) => match (question(alloc, text, left, false)?, &**right) {
-            (Some(Condition::Unloading), Expr::Unary(UnaryOperator::Not, inner)) => {
-                question(alloc, text, inner, true)
-            }
-            _ => Ok(None),
-        },
+    let Expr::Or(left, right) = expression else {
+        return question(alloc, text, expression);
+    };
+    match (question(alloc, text, left)?, &**right) {
+        (Some(Condition::Unloading), Expr::Unary(..)) => question(alloc, text, right),
         _ => Ok(None),
     }
 }

@@ -132,13 +132,23 @@ fn is_for_reports(name: &str) -> bool {
     matches!(name, "ModulesHelp" | "ModulesDisplay" | "ModulesTest")
 }
 
+/// The constant words of a script.
+fn constants_of<'t>(
+    alloc: Global,
+    text: &'t str,
+    script: &Script<ByteRange>,
+) -> Result<Vec<ConstantWord<'t>>, AllocError> {
+    let words = script
+        .commands
+        .iter()
+        .flat_map(|command| command.words.iter());
+    words.filter_map(|word| constant(text, word)).collect(alloc)
+}
+
 /// Whether the values of words are these elements.
 fn are_elements(words: &[ConstantWord], elements: &[String]) -> bool {
-    words.len() == elements.len()
-        && words
-            .iter()
-            .zip(elements.iter())
-            .all(|(word, element)| word.value == element.as_str())
+    let values = words.iter().map(|word| word.value);
+    values.eq(elements.iter().map(|element| element.as_str()))
 }
 
 impl<'f> Reader<'f> {
@@ -178,10 +188,10 @@ impl<'f> Reader<'f> {
         command: &Command<ByteRange>,
     ) -> Result<PieceFindings, AllocError> {
         let values = self.values_of(command)?;
-        let mut words = Vec::new(self.alloc);
-        for value in &values {
-            words.push(value.as_deref())?;
-        }
+        let words: Vec<_> = values
+            .iter()
+            .map(|value| value.as_deref())
+            .collect(self.alloc)?;
         self.has_conflict = self.has_conflict
             || self.is_straight && self.is_own_conflict(words.as_slice());
         self.piece.computed = computed_in(self.alloc, &self.known, self.text, command)?;
@@ -215,35 +225,36 @@ impl<'f> Reader<'f> {
             values.push(self.known.value_of_word(self.alloc, self.text, word)?)?;
         }
         if name == Some("if") {
-            self.spell_condition(command, &mut values)?;
+            if let (Some(text), Some(value)) = (
+                self.spelled_condition(command)?,
+                values.get_mut(1),
+            ) {
+                *value = Some(text);
+            }
         }
         Ok(values)
     }
 
-    /// Puts the text of a condition in place of its value, where it is spelled without braces.
-    fn spell_condition(
+    /// The text of the condition of an `if` that is spelled without braces and quotes, with scripts in brackets.
+    fn spelled_condition(
         &self,
         command: &Command<ByteRange>,
-        values: &mut Vec<Option<String>>,
-    ) -> Result<(), AllocError> {
+    ) -> Result<Option<String>, AllocError> {
         let places = places_of_words(self.alloc, self.text, command)?;
-        let (Some(places), [_, word, ..]) = (places, command.words.as_slice()) else {
-            return Ok(());
+        let place = places.as_ref().and_then(|places| places.get(1));
+        let (Some(place), [_, word, ..]) = (place, command.words.as_slice()) else {
+            return Ok(None);
         };
-        if let (WordContent::Parts(parts), Some(place)) = (
-            &word.content,
-            places.as_slice().get(1),
-        ) {
-            let spelled = place.of(self.text);
-            let is_bare = !word.expands && !spelled.starts_with('"');
-            if let (true, Some(value)) = (
-                is_bare && are_spelled(parts.as_slice()),
-                values.get_mut(1),
-            ) {
-                *value = Some(String::from_str(self.alloc, spelled)?);
+        let spelled = place.of(self.text);
+        match &word.content {
+            WordContent::Parts(parts) if !word.expands && are_spelled(parts.as_slice()) => {
+                copied(
+                    self.alloc,
+                    Some(spelled).filter(|text| !text.starts_with('"')),
+                )
             }
+            _ => Ok(None),
         }
-        Ok(())
     }
 
     /// Reads the bodies and expressions that are still to be read.
@@ -302,18 +313,9 @@ impl<'f> Reader<'f> {
     fn pattern_words(&self, scope: Scope<'f>) -> Result<Option<Vec<ConstantWord<'f>>>, TextFault> {
         let script = parse_pieces(self.alloc, &scope.text)?;
         let elements = parse_list(self.alloc, scope.text)?;
-        let words = script
-            .commands
-            .iter()
-            .flat_map(|command| command.words.iter());
-        match words
-            .map(|word| constant(scope.text, word))
-            .collect(self.alloc)
-        {
-            Ok(words) => Ok(words.filter(|words: &Vec<_>| are_elements(
-                words.as_slice(),
-                elements.as_slice(),
-            ))),
+        match constants_of(self.alloc, scope.text, &script) {
+            Ok(words) if are_elements(words.as_slice(), elements.as_slice()) => Ok(Some(words)),
+            Ok(_) => Ok(None),
             Err(_) => Err(TextFault::OutOfMemory),
         }
     }

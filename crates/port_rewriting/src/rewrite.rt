@@ -18,6 +18,8 @@ pub(crate) enum Case {
     Present,
     /// A script stands for an alias.
     Script,
+    /// A command of a default file is dropped.
+    Dropped,
 }
 
 impl Case {
@@ -27,20 +29,12 @@ impl Case {
             Case::Order => "the module is loaded before the file, and not between its commands",
             Case::Absence => "the module has to be there",
             Case::Present => "an element that is there already keeps its place",
+            Case::Dropped => "a name that it gives isn't found, and it hides nothing",
             Case::Script => {
                 "child processes run the script too, and directories before it in PATH hide it"
             }
         }
     }
-}
-
-/// A text for a word of a command.
-#[derive(Debug, Drop)]
-pub(crate) struct WordText {
-    /// Which word, from 0.
-    pub word: usize,
-    /// The text.
-    pub text: String,
 }
 
 /// What is written for a command.
@@ -50,8 +44,8 @@ pub(crate) enum Rewrite {
     Keep,
     /// Commands that leave these records; and what differs.
     Records(Vec<Record>, Option<Case>),
-    /// The command with other words.
-    Words(Vec<WordText>),
+    /// The command with a text in place of each word for which there is one.
+    Words(Vec<Option<String>>),
     /// The command without the option that is its second word; and what differs.
     WithoutOption(Option<Case>),
     /// The command, which isn't read here as it was meant, by what is said.
@@ -105,9 +99,9 @@ impl Rewrite {
                 edits.push(Edit::between(name.end, option.end, String::new(alloc)))?;
             }
             (Rewrite::Words(texts), _, _) => {
-                for put in texts {
-                    if let Some(place) = places.get(put.word) {
-                        edits.push(Edit::between(place.start, place.end, put.text.clone()?))?;
+                for (place, text) in places.iter().zip(texts.iter()) {
+                    if let Some(text) = text {
+                        edits.push(Edit::between(place.start, place.end, text.clone()?))?;
                     }
                 }
             }

@@ -32,6 +32,8 @@ pub struct Given<'g> {
     pub one_version: Option<&'g str>,
     /// Whether the defaults of folders are named by a list.
     pub has_defaults: bool,
+    /// Whether commands of default files that aren't read here are dropped.
+    pub drops_unread: bool,
     /// Whether a command is left where something would differ.
     pub is_strict: bool,
 }
@@ -47,6 +49,7 @@ impl Given<'_> {
             scripts_folder: None,
             one_version: None,
             has_defaults: false,
+            drops_unread: false,
             is_strict: false,
         }
     }

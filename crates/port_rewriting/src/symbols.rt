@@ -1,10 +1,10 @@
 //! Version symbols: names that mean a module with a version, as a default file says.
 
+use crate::translation::TranslationFault;
 use modulename::means;
 use port_reading::places::constant;
 use std::alloc::{AllocError, Global};
-use tcltext::chars::TextFault;
-use tcltext::script::{ByteRange, Command, Script, parse_pieces};
+use tcltext::script::{ByteRange, Command, parse_pieces};
 
 /// A name that means a module with a version.
 #[derive(Debug, Drop)]
@@ -17,10 +17,7 @@ pub struct VersionSymbol {
 
 /// The name that a word means in a default file of a folder, which is empty at the top.
 pub(crate) fn full_name(alloc: Global, folder: &str, word: &str) -> Result<String, AllocError> {
-    let rest = match word.strip_prefix(".") {
-        Some(rest) => rest,
-        None => word,
-    };
+    let rest = word.strip_prefix(".").unwrap_or(word);
     if rest.starts_with('/') {
         Ok(format!(in alloc; "{folder}{rest}")?)
     } else {
@@ -80,21 +77,6 @@ fn add_symbols(
     Ok(())
 }
 
-/// The symbols of a default file of a folder that is this script.
-fn symbols_of(
-    alloc: Global,
-    text: &str,
-    folder: &str,
-    script: &Script<ByteRange>,
-) -> Result<Vec<VersionSymbol>, AllocError> {
-    let mut symbols = Vec::new(alloc);
-    for command in &script.commands {
-        let words = constant_words(alloc, text, command)?;
-        add_symbols(alloc, &mut symbols, folder, words.as_slice())?;
-    }
-    Ok(symbols)
-}
-
 /// The version symbols that a default file of a folder says by `module-version NAME WORD...`, outside of bodies.
 ///
 /// The error: it is no script, or memory ran out.
@@ -102,10 +84,12 @@ pub fn symbols_said(
     alloc: Global,
     text: &str,
     folder: &str,
-) -> Result<Vec<VersionSymbol>, TextFault> {
+) -> Result<Vec<VersionSymbol>, TranslationFault> {
     let script = parse_pieces(alloc, &text)?;
-    match symbols_of(alloc, text, folder, &script) {
-        Ok(symbols) => Ok(symbols),
-        Err(_) => Err(TextFault::OutOfMemory),
+    let mut symbols = Vec::new(alloc);
+    for command in &script.commands {
+        let words = constant_words(alloc, text, command)?;
+        add_symbols(alloc, &mut symbols, folder, words.as_slice())?;
     }
+    Ok(symbols)
 }

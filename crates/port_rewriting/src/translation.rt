@@ -54,6 +54,12 @@ impl fmt::Display for TranslationFault {
 
 impl Error for TranslationFault {}
 
+impl From<TextFault> for TranslationFault {
+    fn from(fault: TextFault) -> TranslationFault {
+        TranslationFault::Given(fault)
+    }
+}
+
 impl From<AllocError> for TranslationFault {
     fn from(_refused: AllocError) -> TranslationFault {
         TranslationFault::Given(TextFault::OutOfMemory)

@@ -26,6 +26,7 @@ port_options =
     codes "--alias-scripts"
     ∷ codes "--check"
     ∷ codes "--defaults"
+    ∷ codes "--drop-unread"
     ∷ codes "--flatten"
     ∷ codes "--help"
     ∷ codes "--host"

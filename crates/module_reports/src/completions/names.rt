@@ -38,6 +38,7 @@ fn port_options() -> &'static [&'static str]
         "--alias-scripts",
         "--check",
         "--defaults",
+        "--drop-unread",
         "--flatten",
         "--help",
         "--host",
