@@ -81,10 +81,8 @@ fn own_default(rt: &HostRuntime, top: &str, name: &str) -> Result<Option<String>
     let Ok(disk) = rt.clone() else {
         return Err(PortFault::OutOfMemory);
     };
-    match locate(rt.alloc(), &mut DiskTree::new(disk), top, name, LIMITS) {
-        Ok(found) => Ok(Some(found.name)),
-        Err(_) => Ok(None),
-    }
+    let found = locate(rt.alloc(), &mut DiskTree::new(disk), top, name, LIMITS);
+    Ok(found.ok().map(|found| found.name))
 }
 
 /// A default file that names a module, behind what is in it.

@@ -31,10 +31,8 @@ use walk::walk_trees;
 
 /// Says how the program is called.
 fn help(rt: &HostRuntime) -> Result<Status, PortFault> {
-    match writeln!(rt.stdout(), "{USAGE}") {
-        Ok(()) => Ok(Status::Within),
-        Err(_) => Err(PortFault::WriteFailed),
-    }
+    writeln!(rt.stdout(), "{USAGE}").map_err(|_| PortFault::WriteFailed)?;
+    Ok(Status::Within)
 }
 
 /// Writes the translation of a text to standard output, and the report to standard error, where the text has this path.
@@ -44,10 +42,8 @@ fn print(
     path: &str,
     bytes: &[u8],
 ) -> Result<Status, PortFault> {
-    let records = match &options.records {
-        Some(path) => text_at(rt, path.as_str())?,
-        None => None,
-    };
+    let records = options.records.as_deref();
+    let records = records.map(|path| text_at(rt, path)).transpose()?.flatten();
     let sources = Sources {
         json: options.json,
         records: records.as_deref(),

@@ -70,10 +70,7 @@ pub(crate) fn read(rt: &HostRuntime, path: &str) -> Result<Vec<u8>, PortFault> {
         Err(e) if e.kind() == ErrorKind::NotFound => return Err(PortFault::NoFile),
         Err(_) => return Err(PortFault::Unreadable),
     }
-    match fs::read(rt, path) {
-        Ok(bytes) => Ok(bytes),
-        Err(_) => Err(PortFault::Unreadable),
-    }
+    fs::read(rt, path).map_err(|_| PortFault::Unreadable)
 }
 
 /// The text of the file at the path; none where it isn't UTF-8.
@@ -88,10 +85,9 @@ pub(crate) fn text_at(rt: &HostRuntime, path: &str) -> Result<Option<String>, Po
 /// The error: it can't be read.
 pub(crate) fn read_input(rt: &HostRuntime) -> Result<Vec<u8>, PortFault> {
     let mut bytes = Vec::new(rt.alloc());
-    match rt.stdin().read_to_end(&mut bytes) {
-        Ok(_) => Ok(bytes),
-        Err(_) => Err(PortFault::Unreadable),
-    }
+    let read = rt.stdin().read_to_end(&mut bytes);
+    read.map_err(|_| PortFault::Unreadable)?;
+    Ok(bytes)
 }
 
 /// Writes a new file, with these permissions. One that fails leaves nothing, and what is there stays.

@@ -100,10 +100,8 @@ fn begin(rt: &HostRuntime, from: &str, to: &str) -> Result<(), PortFault> {
 impl<'r> Walk<'r> {
     /// Writes a part of the report.
     fn say(&self, lines: &[u8]) -> Result<(), PortFault> {
-        match self.rt.stdout().write_all(lines) {
-            Ok(()) => Ok(()),
-            Err(_) => Err(PortFault::WriteFailed),
-        }
+        let written = self.rt.stdout().write_all(lines);
+        written.map_err(|_| PortFault::WriteFailed)
     }
 
     /// Says what became of what is at a path.
@@ -383,10 +381,8 @@ pub(crate) fn walk_trees(
     options: &PortOptions,
     trees: &[TreePaths],
 ) -> Result<Status, PortFault> {
-    let defaults = match &options.defaults {
-        Some(path) => Some(NamedDefaults::read(rt, path.as_str())?),
-        None => None,
-    };
+    let list = options.defaults.as_deref();
+    let defaults = list.map(|path| NamedDefaults::read(rt, path)).transpose()?;
     let mut site = Site::new(rt.alloc());
     let mut listed = Vec::new(rt.alloc());
     for tree in trees {
