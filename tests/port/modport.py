@@ -158,7 +158,10 @@ NAMES = (
     *("/", "//", "a", "/a", "a/", "/a/b", "/a//b/", "a//b", "./a", "../a", "a/..", ".", "..", "a.b/c-d", "///a///"),
     *("/opt/x86_64/lib64", "A+B", "a,b/c:d", "#a/#b", "%a/@b", "*/?"),
 )
-JOINED = ("/ a", "/a/ b/", "a b//c", "a ../b", "//a b", "/a b c d", "/x//y z//w/ v", ". a", "# a")
+JOINED = (
+    *("/ a", "/a/ b/", "a b//c", "a ../b", "//a b", "/a b c d", "/x//y z//w/ v", ". a", "# a"),
+    *("/a /b", "a /b c", "a / b", "a b /", "/a b //c/ d //e"),
+)
 
 
 @pytest.mark.parametrize("what", [*(f"{it} {name}" for it in ("join", "tail", "dirname") for name in NAMES),
