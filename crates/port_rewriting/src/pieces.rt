@@ -48,7 +48,7 @@ pub struct TranslatedPiece {
 
 impl PieceFindings {
     /// Those of a command that isn't read yet.
-    pub(crate) fn new(alloc: Global) -> PieceFindings {
+    pub(crate) fn none(alloc: Global) -> PieceFindings {
         PieceFindings {
             edits: Vec::new(alloc),
             computed: Vec::new(alloc),

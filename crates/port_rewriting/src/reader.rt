@@ -167,7 +167,7 @@ impl<'f> Reader<'f> {
             has_conflict: false,
             known: Knowledge::new(alloc, given.host, given.file),
             queue: Vec::new(alloc),
-            piece: PieceFindings::new(alloc),
+            piece: PieceFindings::none(alloc),
         }
     }
 
@@ -198,7 +198,7 @@ impl<'f> Reader<'f> {
         self.command(Scope::of_file(self.text), command, words.as_slice())?;
         self.read_bodies()?;
         self.learn(words.as_slice())?;
-        let next = PieceFindings::new(self.alloc);
+        let next = PieceFindings::none(self.alloc);
         Ok(replace(&mut self.piece, next))
     }
 

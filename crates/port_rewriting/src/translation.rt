@@ -148,7 +148,7 @@ impl<'f> PiecesSoFar<'f> {
             rest: text,
             line: 1,
         };
-        so_far.add(alloc, text, 0, first, PieceFindings::new(alloc))?;
+        so_far.add(alloc, text, 0, first, PieceFindings::none(alloc))?;
         Ok(so_far)
     }
 
