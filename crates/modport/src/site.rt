@@ -3,7 +3,9 @@
 use crate::fault::PortFault;
 use crate::tree::{Found, TreeEntry};
 use port_constants::KnownFile;
-use port_rewriting::{FileKind, Given, Member, Site, folder_of, symbols_said, translate};
+use port_rewriting::{
+    FileKind, Given, Member, NamedFamily, Site, folder_of, symbols_said, translate,
+};
 use std::alloc::Global;
 
 /// Whether the name is that of a default file.
@@ -23,11 +25,15 @@ fn add_module(alloc: Global, site: &mut Site, text: &str, name: &str) -> Result<
         ..Given::of_kind(FileKind::Modulefile)
     };
     for named in translate(alloc, given, text)?.families {
-        match named.name {
+        let NamedFamily {
+            name: family,
+            is_sure,
+        } = named;
+        match family {
             Some(family) => site.members.push(Member {
                 family,
                 own: String::from_str(alloc, name)?,
-                is_sure: named.is_sure,
+                is_sure,
             })?,
             None => site.has_unknown_families = true,
         }

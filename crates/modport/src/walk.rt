@@ -97,6 +97,38 @@ fn begin(rt: &HostRuntime, from: &str, to: &str) -> Result<(), PortFault> {
     }
 }
 
+/// What is known of the file of this name, whose absolute path this is.
+fn given<'g>(
+    options: &'g PortOptions,
+    site: &'g Site,
+    has_defaults: bool,
+    below: &'g str,
+    path: &'g str,
+    scripts_folder: Option<&'g str>,
+) -> Given<'g> {
+    let folder = folder_of(below);
+    let is_module = !folder.is_empty() && !last_part(below).starts_with('.');
+    Given {
+        kind: if is_default_file(below) {
+            FileKind::Defaults
+        } else {
+            FileKind::Modulefile
+        },
+        site: Some(site),
+        file: Some(KnownFile { path, name: below }),
+        host: options.host.said.as_slice(),
+        scripts_folder,
+        one_version: if options.one_version && is_module {
+            Some(folder)
+        } else {
+            None
+        },
+        has_defaults,
+        drops_unread: options.drop_unread,
+        is_strict: options.strict,
+    }
+}
+
 impl<'r> Walk<'r> {
     /// Writes a part of the report.
     fn say(&self, lines: &[u8]) -> Result<(), PortFault> {
@@ -143,8 +175,16 @@ impl<'r> Walk<'r> {
         }
     }
 
+    /// The folder for scripts of the file of this name, where they are wanted and can be written.
+    fn scripts_folder(&self, below: &str) -> Result<Option<String>, PortFault> {
+        if !self.options.alias_scripts {
+            return Ok(None);
+        }
+        self.script_places.folder(self.rt, below)
+    }
+
     /// Translates a file, and writes it with these permissions.
-    fn file(&mut self, at: FileAt, file: &FileText, status: &Metadata) -> Result<(), PortFault> {
+    fn file(&mut self, at: FileAt, file: FileText, status: &Metadata) -> Result<(), PortFault> {
         let alloc = self.rt.alloc();
         let records = self.records_of(at.below)?;
         let sources = Sources {
@@ -152,14 +192,19 @@ impl<'r> Walk<'r> {
             records: records.as_deref(),
             person: self.options.kept.person(),
         };
-        let folder = if self.options.alias_scripts {
-            self.script_places.folder(self.rt, at.below)?
-        } else {
-            None
-        };
+        let folder = self.scripts_folder(at.below)?;
         let path = joined(alloc, self.top.as_str(), at.below)?;
-        let given = self.given(at, path.as_str(), folder.as_deref());
-        let ported = port_file(alloc, sources, at.from, file, given)?;
+        let has_defaults = self.defaults.is_some();
+        let (path, folder) = (path.as_str(), folder.as_deref());
+        let given = given(
+            self.options,
+            self.site,
+            has_defaults,
+            at.below,
+            path,
+            folder,
+        );
+        let ported = port_file(alloc, sources, at.from, &file, given)?;
         if let Some(to) = at.to {
             write_new(self.rt, to, ported.text.as_bytes(), status)?;
         }
@@ -167,36 +212,6 @@ impl<'r> Walk<'r> {
             .add(alloc, &mut self.scripts, at.below, ported.scripts)?;
         self.status = self.status.and(ported.status);
         self.say(ported.report.as_slice())
-    }
-
-    /// What is known of a file whose absolute path this is.
-    fn given<'g>(
-        &'g self,
-        at: FileAt<'g>,
-        path: &'g str,
-        scripts_folder: Option<&'g str>,
-    ) -> Given<'g> {
-        let folder = folder_of(at.below);
-        let is_module = !folder.is_empty() && !last_part(at.below).starts_with('.');
-        let is_alone = self.options.one_version && is_module;
-        Given {
-            kind: if is_default_file(at.below) {
-                FileKind::Defaults
-            } else {
-                FileKind::Modulefile
-            },
-            site: Some(self.site),
-            file: Some(KnownFile {
-                path,
-                name: at.below,
-            }),
-            host: self.options.host.said.as_slice(),
-            scripts_folder,
-            one_version: Some(folder).filter(|_| is_alone),
-            has_defaults: self.defaults.is_some(),
-            drops_unread: self.options.drop_unread,
-            is_strict: self.options.strict,
-        }
     }
 
     /// Writes the modulefile that a link leads to at the place of the link, or makes the link again, where it still leads to the
@@ -212,7 +227,7 @@ impl<'r> Walk<'r> {
         match (file, fs::metadata(self.rt, at.from)) {
             (Some(file), Ok(status)) => {
                 self.say_of(at.from, Outcome::Translated, what.as_str())?;
-                return self.file(at, &file, &status);
+                return self.file(at, file, &status);
             }
             (None, Ok(_)) if stays(target) => {}
             _ => return self.leave(at.from, what.as_str()),
@@ -245,7 +260,7 @@ impl<'r> Walk<'r> {
         } else if status.is_symlink() {
             self.link(at, file)
         } else if let Some(file) = file {
-            self.file(at, &file, &status)
+            self.file(at, file, &status)
         } else if status.is_file() {
             // What is no modulefile isn't missed.
             self.say_of(at.from, Outcome::Left, "no modulefile")
