@@ -93,7 +93,7 @@ def test_what_is_written_down(title, most, counts, note):
 def test_a_load_by_the_function(product, program, folder, note):
     if not is_static(program) or hindrance(COUNTERS[goals.instructions]):
         pytest.skip("the counts are those of a static link, by valgrind")
-    folder.module("m/1.0", "setenv M on\nprepend-path PATH /opt/m/bin\n")
+    folder.module("m/1.0", goals.PACKAGE.format("m", "M"))
     env = {"MODULEPATH": os.fsdecode(folder.modules), "PATH": "/usr/bin:/bin", "PWD": os.getcwd(), "LANG": "C.UTF-8"}
     with tempfile.TemporaryDirectory(prefix="modulecmd-costs-") as room:
         alone, behind = (
