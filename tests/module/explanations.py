@@ -203,6 +203,13 @@ def test_the_word_of_older_functions(program, site):
     same(at_terminal([program, "sh", "explain", "load"], env, 0), "usage: module load NAME...\n", "a load without names")
 
 
+# Words that don't fit a subcommand of the function alone. (`use` has two usages.)
+OF_THE_FUNCTION = (
+    "keyword", "reload a", "forget", "is-avail", "unuse", "save a b", "restore a b", "savelist a", "saveshow a b",
+    "saverm",
+)  # fmt: skip
+
+
 def test_a_usage_is_that_of_help(program):
     """Behind words that are refused stands what `help` has of their subcommand, without the option `--auto`."""
     done = subprocess.run([program, "sh", "help"], capture_output=True, text=True, timeout=SECONDS, check=True)
@@ -210,6 +217,9 @@ def test_a_usage_is_that_of_help(program):
     usages = {name: names.split(", ")[0] + rest.replace(" [--auto]", "") for names, rest in found for name in names.split(", ")}
     for words in REFUSED_WORDS:
         said = at_terminal([program, "sh", "explain", *words.split()], {}, 0)
+        same(said, f"usage: module {usages[words.split()[0]]}\n", f"what is said behind {words}")
+    for words in OF_THE_FUNCTION:
+        said = told(program, words.split(), {"HOME": "/"})
         same(said, f"usage: module {usages[words.split()[0]]}\n", f"what is said behind {words}")
 
 
