@@ -28,7 +28,7 @@ abbrev pub distinct_questions : List Question → List (List Text)
 distinct_questions asked = once_after [] (loaded_questions asked)
 
 -- How many of them are answered by each choice: as many as make no more than eight evaluations of a file, in each
--- context of the mode, which are four where it is asked for, and of the shell, which are seven.
+-- context of the mode, which are four where it is asked for, and of the shell.
 abbrev pub most_questions : Bool → Bool → ℕ
 most_questions false false = 3
 most_questions true false = 1
