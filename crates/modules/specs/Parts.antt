@@ -48,7 +48,7 @@ AreEntriesOf xs e = Ok xs ≡ entries_of e
 
 -- that is so of the list of a request in progress
 abbrev pub IsListedIn : RequestProgress → Environment → Type 0
-IsListedIn progress e = AreEntriesOf (entries_view progress.entries) e
+IsListedIn progress e = AreEntriesOf (entries_view progress.list.entries) e
 
 -- the module needs another
 abbrev pub needs_another : Entry → Bool

@@ -17,7 +17,7 @@ ghost use Rattle.modules.specs.Parts.{AreEntriesOf, entries_view, objection, all
 use crate::done::Module;
 use crate::missing::MissingNames;
 use crate::refusal::Refusal;
-use envstate::loaded_list::{Loaded, add_to_list, loaded};
+use envstate::loaded_list::{Loaded, LoadedList, add_to_list, loaded};
 use envvars::Vars;
 use envvars::fields::{deduplicated, owned, slices};
 use message::texts::copies;
@@ -172,17 +172,17 @@ fn allowed_entry(alloc: Global, entries: &[Loaded], loading: &Module) -> Result<
 /// (52) forbids it.
 pub(crate) fn join_loaded<V: Vars>(
     alloc: Global,
-    entries: &mut Vec<Loaded>,
+    list: &mut LoadedList,
     loading: &Module,
     env: &mut V,
 ) -> Result<(), Refusal>
-    requires { AreEntriesOf (entries_view entries.old) (V.vars env.old) }
+    requires { AreEntriesOf (entries_view list.old.entries) (V.vars env.old) }
     ensures given { GivesOrRefuses (λ u. V.vars env.new) result
-        (Is (added (entries_view entries.old) (module_view loading.now) (V.vars env.old))) }
-    ensures listed { OnOk result (AreEntriesOf (entries_view entries.new) (V.vars env.new)) }
+        (Is (added (entries_view list.old.entries) (module_view loading.now) (V.vars env.old))) }
+    ensures listed { OnOk result (AreEntriesOf (entries_view list.new.entries) (V.vars env.new)) }
     ensures base { V.base env.new ≡ V.base env.old }
 {
-    let entry = allowed_entry(alloc, entries.as_slice(), loading)?;
-    add_to_list(alloc, env, entries, entry)?;
+    let entry = allowed_entry(alloc, list.entries(), loading)?;
+    add_to_list(alloc, env, list, entry)?;
     Ok(())
 }

@@ -2,6 +2,8 @@
 //! reported on.
 ghost use Rattle.std.specs.Prelude.{◌≡◌, false, IfOk, OnOk, map, string_bytes};
 ghost use Rattle.std.specs.Option.{option_map};
+ghost use Rattle.envvars.specs.Texts.{has};
+ghost use Rattle.envstate.specs.loaded_list.Loaded.{names_of};
 ghost use Rattle.envstate.specs.loaded_list.LoadedEntries.{entry_view};
 ghost use Rattle.filetree.specs.Agreement.{Files, Listings};
 ghost use Rattle.modulefile.specs.RecordViews.{mode_view, record_view};
@@ -18,12 +20,12 @@ ghost use Rattle.modules.specs.Parts.{IsListedIn, TreeAnswer, entries_view, file
 ghost use Rattle.modules.specs.Parts.{LoadedLooksAt, UnloadsFound, ReportsFound, report_mode, report_text, any_needs};
 
 use crate::done::{Module, Move};
-use crate::entries::{join_loaded, names_of};
+use crate::entries::join_loaded;
 use crate::progress::RequestProgress;
 use crate::refusal::Refusal;
 use crate::scripts::script_at;
 use crate::settings::EvaluationSettings;
-use envstate::loaded_list::{Loaded, drop_from_list, is_loaded};
+use envstate::loaded_list::{Loaded, LoadedList, drop_from_list, is_loaded};
 use envvars::Vars;
 use filetree::Tree;
 use lookup::EvaluatedDefaultFiles;
@@ -107,18 +109,17 @@ pub(crate) fn evaluate<V: Vars>(
     alloc: Global,
     name_request: NameRequest<'_>,
     mode: Mode,
-    entries: &[Loaded],
+    list: &LoadedList,
     file: ModuleFile<'_>,
     env: &mut V,
 ) -> Result<FileRun, Refusal>
     ensures given { GivesOrRefuses (λ ran. ran_view ran (V.vars env.new)) result (RefusedAs file_refused
         (RunsFile name_request.entry.settings.limits (file_context name_request.entry
         (mode_view mode) file.entry.name.now
-        file.entry.path.now (map entry_view entries.now) (V.vars env.old)) file.entry.text.now)) }
+        file.entry.path.now (entries_view list.now.entries) (V.vars env.old)) file.entry.text.now)) }
     ensures listed { OnOk result (entries_of (V.vars env.new) ≡ entries_of (V.vars env.old)) }
     ensures base { V.base env.new ≡ V.base env.old }
 {
-    let loaded = names_of(alloc, entries)?;
     let context = FileContext {
         mode,
         in_switch: name_request.in_switch,
@@ -126,7 +127,7 @@ pub(crate) fn evaluate<V: Vars>(
         path: file.path,
         shell: name_request.settings.shell,
         typed: name_request.typed,
-        loaded: loaded.as_slice(),
+        loaded: list.names(),
     };
     Ok(run_file(
         alloc,
@@ -137,7 +138,16 @@ pub(crate) fn evaluate<V: Vars>(
     )?)
 }
 
-/// Loads the module that was found, unless it is loaded already: evaluates its file, and joins it to the loaded list.
+/// Whether a module is loaded, where none of the typed name is: of that name the list isn't searched again.
+fn is_other_loaded(list: &[Loaded], typed: &str, name: &str) -> bool
+    requires { has typed.now (names_of (map entry_view list.now)) ≡ false }
+    ensures { result ≡ has name.now (names_of (map entry_view list.now)) }
+{
+    name != typed && is_loaded(list, name)
+}
+
+/// Loads the module that was found, unless it is loaded already: evaluates its file, and joins it to the loaded list. No
+/// module of the typed name is loaded.
 fn load_found<V: Vars>(
     alloc: Global,
     name_request: NameRequest<'_>,
@@ -145,33 +155,28 @@ fn load_found<V: Vars>(
     env: &mut V,
     progress: &mut RequestProgress,
 ) -> Result<(), Refusal>
-    requires { IsListedIn progress.old (V.vars env.old) }
+    requires listed { IsListedIn progress.old (V.vars env.old) }
+    requires unloaded { has name_request.typed.now (names_of (entries_view progress.old.list.entries)) ≡ false }
     ensures given { (files : Files) (listings : Listings)
         → GivesOrRefuses (λ u. done_view progress.new.done (V.vars env.new)) result
         (LoadsFound (request_context_of name_request.entry.settings files listings) name_request.entry.in_switch
-        name_request.entry.typed.now (done_view progress.old.done (V.vars env.old)) (entries_view progress.old.entries)
+        name_request.entry.typed.now (done_view progress.old.done (V.vars env.old)) (entries_view progress.old.list.entries)
         (found_view found)) }
     ensures listed { OnOk result (IsListedIn progress.new (V.vars env.new)) }
     ensures base { V.base env.new ≡ V.base env.old }
 {
-    if is_loaded(progress.entries.as_slice(), found.name.as_str()) {
+    let list = progress.list.entries();
+    if is_other_loaded(list, name_request.typed, found.name.as_str()) {
         return Ok(());
     }
     let file = ModuleFile::of(&found);
-    let ran = evaluate(
-        alloc,
-        name_request,
-        Mode::Load,
-        progress.entries.as_slice(),
-        file,
-        env,
-    )?;
+    let ran = evaluate(alloc, name_request, Mode::Load, &progress.list, file, env)?;
     let loading = Module {
         name: found.name,
         path: found.path,
         records: ran.records,
     };
-    join_loaded(alloc, &mut progress.entries, &loading, env)?;
+    join_loaded(alloc, &mut progress.list, &loading, env)?;
     progress
         .done
         .continue_with(Move::Loads(loading), ran.messages)?;
@@ -199,7 +204,7 @@ pub(crate) fn load_name<T: Tree, V: Vars>(
     ensures listed { OnOk result (IsListedIn progress.new (V.vars env.new)) }
     ensures base { V.base env.new ≡ V.base env.old }
 {
-    if is_loaded(progress.entries.as_slice(), name_request.typed) {
+    if is_loaded(progress.list.entries(), name_request.typed) {
         return Ok(());
     }
     let found = find_module(alloc, name_request, env, tree)?;
@@ -254,23 +259,16 @@ fn unload_found<V: Vars>(
 ) -> Result<(), Refusal>
     requires { IsListedIn progress.old (V.vars env.old) }
     ensures given { GivesOrRefuses (λ u. done_view progress.new.done (V.vars env.new)) result
-        (UnloadsFound name_request.entry (found_view found) (entries_view progress.old.entries)
+        (UnloadsFound name_request.entry (found_view found) (entries_view progress.old.list.entries)
         (done_view progress.old.done (V.vars env.old))) }
     ensures listed { OnOk result (IsListedIn progress.new (V.vars env.new)) }
-    ensures free { OnOk result (any_needs (entries_view progress.old.entries) ≡ false
-        → any_needs (entries_view progress.new.entries) ≡ false) }
+    ensures free { OnOk result (any_needs (entries_view progress.old.list.entries) ≡ false
+        → any_needs (entries_view progress.new.list.entries) ≡ false) }
     ensures base { V.base env.new ≡ V.base env.old }
 {
     let file = ModuleFile::of(&found);
-    let ran = evaluate(
-        alloc,
-        name_request,
-        Mode::Unload,
-        progress.entries.as_slice(),
-        file,
-        env,
-    )?;
-    drop_from_list(alloc, env, &mut progress.entries, found.name.as_str())?;
+    let ran = evaluate(alloc, name_request, Mode::Unload, &progress.list, file, env)?;
+    drop_from_list(alloc, env, &mut progress.list, found.name.as_str())?;
     let unloaded = Module {
         name: found.name,
         path: found.path,
@@ -300,11 +298,11 @@ pub(crate) fn unload_name<T: Tree, V: Vars>(
         name_request.entry.in_switch name_request.entry.typed.now (done_view progress.old.done (V.vars env.old)))
         (λ files listings. UnloadLooksAt name_request.entry.typed.now (done_view progress.old.done (V.vars env.old))) }
     ensures listed { OnOk result (IsListedIn progress.new (V.vars env.new)) }
-    ensures free { OnOk result (any_needs (entries_view progress.old.entries) ≡ false
-        → any_needs (entries_view progress.new.entries) ≡ false) }
+    ensures free { OnOk result (any_needs (entries_view progress.old.list.entries) ≡ false
+        → any_needs (entries_view progress.new.list.entries) ≡ false) }
     ensures base { V.base env.new ≡ V.base env.old }
 {
-    let meant = find_loaded(alloc, name_request.typed, progress.entries.as_slice(), tree)?;
+    let meant = find_loaded(alloc, name_request.typed, progress.list.entries(), tree)?;
     match meant {
         None => Ok(()),
         Some(found) => unload_found(alloc, name_request, found, env, progress),
@@ -348,7 +346,7 @@ fn report_found<V: Vars>(
 ) -> Result<(), Refusal>
     requires { IsListedIn progress.old (V.vars env.old) }
     ensures given { GivesOrRefuses (λ u. done_view progress.new.done (V.vars env.new)) result
-        (ReportsFound name_request.entry report_kind (found_view found.now) (entries_view progress.old.entries)
+        (ReportsFound name_request.entry report_kind (found_view found.now) (entries_view progress.old.list.entries)
         (done_view progress.old.done (V.vars env.old))) }
     ensures listed { OnOk result (IsListedIn progress.new (V.vars env.new)) }
     ensures base { V.base env.new ≡ V.base env.old }
@@ -358,7 +356,7 @@ fn report_found<V: Vars>(
         alloc,
         name_request,
         mode_of_report(report_kind),
-        progress.entries.as_slice(),
+        &progress.list,
         file,
         env,
     )?;

@@ -68,8 +68,8 @@ fn act_on_name<T: Tree, V: Vars>(
         (λ files listings. NameActionLooksAt name_action (request_context_of settings files listings) typed.now
         (done_view progress.old.done (V.vars env.old))) }
     ensures listed { OnOk result (IsListedIn progress.new (V.vars env.new)) }
-    ensures free { OnOk result (may_lose name_action (entries_view progress.old.entries) ≡ false
-        → may_lose name_action (entries_view progress.new.entries) ≡ false) }
+    ensures free { OnOk result (may_lose name_action (entries_view progress.old.list.entries) ≡ false
+        → may_lose name_action (entries_view progress.new.list.entries) ≡ false) }
     ensures base { V.base env.new ≡ V.base env.old }
 {
     let name_request = NameRequest {
@@ -104,8 +104,8 @@ fn act_on_each<T: Tree, V: Vars>(
         (λ files listings. EachActionLooksAt name_action (request_context_of settings files listings)
         (map string_bytes names.now) (done_view progress.old.done (V.vars env.old))) }
     ensures listed { OnOk result (IsListedIn progress.new (V.vars env.new)) }
-    ensures free { OnOk result (may_lose name_action (entries_view progress.old.entries) ≡ false
-        → may_lose name_action (entries_view progress.new.entries) ≡ false) }
+    ensures free { OnOk result (may_lose name_action (entries_view progress.old.list.entries) ≡ false
+        → may_lose name_action (entries_view progress.new.list.entries) ≡ false) }
     ensures base { V.base env.new ≡ V.base env.old }
 {
     for name in names {
@@ -201,7 +201,7 @@ fn change_freely<T: Tree, V: Vars>(
         (map string_bytes names.now) (nothing_done (V.vars env.old))) }
     ensures base { V.base env.new ≡ V.base env.old }
 {
-    let mut progress = RequestProgress::of(alloc, before);
+    let mut progress = RequestProgress::of(alloc, before)?;
     act_on_each(
         alloc,
         settings,
@@ -392,8 +392,7 @@ fn report_names<T: Tree, V: Vars>(
         return Err(Refusal::BadArguments);
     }
     let entries = entries_of(alloc, env)?;
-    let done = RequestResults::new(alloc);
-    let mut progress = RequestProgress { entries, done };
+    let mut progress = RequestProgress::of(alloc, entries)?;
     let name_action = NameAction::ReportOn(report_kind);
     act_on_each(
         alloc,

@@ -1,13 +1,12 @@
 //! The verdict on the module that a name means: whether its file is plain.
-ghost use Rattle.std.specs.Prelude.{◌<◌, [], ◌∷◌, map, IfOk, IfErr};
-ghost use Rattle.envstate.specs.loaded_list.LoadedEntries.{entry_view};
+ghost use Rattle.std.specs.Prelude.{◌<◌, [], ◌∷◌, IfOk, IfErr};
 ghost use Rattle.filetree.specs.Agreement.{FailsAt, InEachPair, ReadsOn};
 ghost use Rattle.search.specs.Answers.{found_view};
 ghost use Rattle.requests.specs.Looked.{SearchLooksAt};
 ghost use Rattle.requests.specs.Verdicts.{HasVerdict};
 ghost use Rattle.modules.specs.Answers.{GivesOrRefuses, StepAnswersOverTree, is_failure};
 ghost use Rattle.modules.specs.Messages.{MemoryNumberAmong};
-ghost use Rattle.modules.specs.Parts.{TreeAnswer, JudgesFound};
+ghost use Rattle.modules.specs.Parts.{TreeAnswer, JudgesFound, entries_view};
 ghost use Rattle.modules.specs.Verdicts.{verdict_view, in_sh, PlainVerdictHolds};
 
 use crate::entries::entries_of;
@@ -15,7 +14,7 @@ use crate::judged::{Verdict, verdict_on};
 use crate::one_name::{ModuleFile, NameRequest, evaluate, find_module};
 use crate::refusal::Refusal;
 use crate::settings::EvaluationSettings;
-use envstate::loaded_list::Loaded;
+use envstate::loaded_list::{Loaded, LoadedList};
 use envvars::{Env, Vars, Working};
 use filetree::Tree;
 use modulefile::Mode;
@@ -28,15 +27,16 @@ use tclrules::Limits;
 fn judge_found<V: Vars>(
     alloc: Global,
     name_request: NameRequest<'_>,
-    entries: &[Loaded],
+    entries: Vec<Loaded>,
     found: &LocatedModule,
     env: &mut V,
 ) -> Result<Verdict, Refusal>
     ensures { GivesOrRefuses verdict_view result
-        (JudgesFound name_request.entry (found_view found.now) (map entry_view entries.now) (V.vars env.old)) }
+        (JudgesFound name_request.entry (found_view found.now) (entries_view entries) (V.vars env.old)) }
 {
+    let list = LoadedList::of(alloc, entries)?;
     let file = ModuleFile::of(found);
-    let ran = evaluate(alloc, name_request, Mode::Load, entries, file, env)?;
+    let ran = evaluate(alloc, name_request, Mode::Load, &list, file, env)?;
     Ok(verdict_on(&ran))
 }
 
@@ -63,7 +63,7 @@ fn give_verdict<T: Tree, V: Vars>(
     };
     let entries = entries_of(alloc, env)?;
     let found = find_module(alloc, name_request, env, tree)?;
-    judge_found(alloc, name_request, entries.as_slice(), &found, env)
+    judge_found(alloc, name_request, entries, &found, env)
 }
 
 /// Judges the module that a name means: its file is evaluated for loading in sh, with this name as the one that was

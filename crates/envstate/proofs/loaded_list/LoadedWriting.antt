@@ -7,6 +7,7 @@ use Rattle.std.specs.Borrow.{Bor}
 use Rattle.std.specs.Option.{option_map}
 use Rattle.std.specs.List.{list_all, list_any}
 use Rattle.std.specs.declared.string.String.{String}
+use Rattle.std.specs.declared.vec.Vec.{Vec}
 use Rattle.std.proofs.lemmas.List.{take_more}
 use Rattle.std.proofs.lemmas.List.Folds.{list_all-map}
 use Rattle.modulename.specs.ModuleName.{is_module_name}
@@ -16,7 +17,8 @@ use Rattle.envvars.specs.Fields.{ampersand, text_of_elements}
 use Rattle.envvars.proofs.FieldLemmas.{after_separators}
 use Rattle.envstate.specs.loaded_list.LoadedTexts.{has_names, element_of, group_text}
 use Rattle.envstate.specs.loaded_list.ElementTexts.{before_element, with_elements}
-use Rattle.envstate.specs.loaded_list.Loaded.{Entry, names_of, conflict_elements, conflicts_text, prereq_elements, has_groups}
+use Rattle.envstate.specs.loaded_list.Loaded.{Entry, names_of, names_text, files_text, conflict_elements, conflicts_text}
+use Rattle.envstate.specs.loaded_list.Loaded.{prereq_elements, prereqs_text, has_groups}
 use Rattle.envstate.specs.loaded_list.Loaded.{with_loaded, is_group, can_be_added, without_entry, dropped_from, added_to}
 use Rattle.envstate.specs.loaded_list.Loaded.{with_conflicts_once, entry_named}
 use Rattle.envstate.specs.loaded_list.LoadedEntries.{entry_view}
@@ -104,10 +106,12 @@ conflicts-turn t u xs i x l e h k =
     ∙ elements_more (conflict_elements (map entry_view (take i xs))) (conflict_elements (entry_view x ∷ []))
     ∙ ap text_of_elements (sym (conflicts-append (map entry_view (take i xs)) (entry_view x ∷ [])) ∙ ap conflict_elements (sym (one_more xs i x l e)))
 
-pub prereqs-turn : (ts us : List Text) (xs : List Loaded) (i : ℕ) (x : Loaded) → i < length xs → x ≡ get_or xs i x → ts ≡ prereq_elements (map entry_view (take i xs))
-    → us ≡ ts ++ prereq_elements (entry_view x ∷ []) → us ≡ prereq_elements (map entry_view (take (i + 1) xs))
-prereqs-turn ts us xs i x l e h k =
-    k ∙ ap (λ (t : List Text). t ++ prereq_elements (entry_view x ∷ [])) h ∙ sym (prereqs-append (map entry_view (take i xs)) (entry_view x ∷ [])) ∙ ap prereq_elements (sym (one_more xs i x l e))
+pub prereqs-turn : (t u : Option Text) (xs : List Loaded) (i : ℕ) (x : Loaded) → i < length xs → x ≡ get_or xs i x → t ≡ prereqs_text (map entry_view (take i xs))
+    → u ≡ with_elements t (prereq_elements (entry_view x ∷ [])) → u ≡ prereqs_text (map entry_view (take (i + 1) xs))
+prereqs-turn t u xs i x l e h k =
+    k ∙ ap (λ (o : Option Text). with_elements o (prereq_elements (entry_view x ∷ []))) h
+    ∙ elements_more (prereq_elements (map entry_view (take i xs))) (prereq_elements (entry_view x ∷ []))
+    ∙ ap text_of_elements (sym (prereqs-append (map entry_view (take i xs)) (entry_view x ∷ [])) ∙ ap prereq_elements (sym (one_more xs i x l e)))
 
 -- a group with names
 pub names_there : (names : List (String Global)) → 0 < length names → has_names (map string_bytes names) ≡ true
@@ -173,3 +177,96 @@ conflicts_written t x names begun named written some are h k m =
     ap Some (m ∙ ap (λ (w : Text). named ++ w) words ∙ ap (λ (n : Text). n ++ after_separators ampersand x.conflicts) (k ∙ ap (λ (b : Text). b ++ x.name) h)
     ∙ element_written (before_element t) x.name x.conflicts)
     ∙ sym (with_one (has_names x.conflicts) t (element_of x.name x.conflicts) there)
+
+-- ---- the prereqs of an entry
+
+groups_there : (groups : List (Vec (String Global) Global)) → 0 < length groups → has_groups (map texts_in groups) ≡ true
+groups_there [] h = absurd (omega arith)
+groups_there (g ∷ gs) h = refl
+
+-- the text with the element of an entry that has prereqs, where it is written part by part
+pub prereqs_written : (t : Option Text) (x : Loaded) (texts : List (String Global)) (begun named written : Text) → 0 < length x.prereqs.items
+    → map string_bytes texts ≡ map group_text (map texts_in x.prereqs.items) → begun ≡ before_element t → named ≡ begun ++ string_bytes x.name
+    → written ≡ named ++ flat_map (λ word. ampersand ∷ string_bytes word) texts → Some written ≡ with_elements t (prereq_elements (entry_view x ∷ []))
+prereqs_written t x texts begun named written some are h k m =
+    let name = string_bytes x.name in
+    let groups = map group_text (map texts_in x.prereqs.items) in
+    let words : flat_map (λ word. ampersand ∷ string_bytes word) texts ≡ after_separators ampersand groups = sym
+    (map-flattened (λ (w : Text). ampersand ∷ w) string_bytes texts) ∙ ap (after_separators ampersand) are in
+    ap Some (m ∙ ap (λ (w : Text). named ++ w) words ∙ ap (λ (n : Text). n ++ after_separators ampersand groups) (k ∙ ap (λ (b : Text). b ++ name) h)
+    ∙ element_written (before_element t) name groups)
+    ∙ sym (with_one (has_groups (entry_view x).prereqs) t (element_of name groups) (groups_there x.prereqs.items some))
+
+-- ---- a list that grows by one module at its end
+
+texts-push : (ns : List (String Global)) (n : String Global) → map string_bytes (ns ++ n ∷ []) ≡ map string_bytes ns ++ string_bytes n ∷ []
+texts-push [] n = refl
+texts-push (m ∷ ms) n = ap (λ (l : List Text). string_bytes m ∷ l) (texts-push ms n)
+
+names-push : (xs : List Loaded) (x : Loaded) → names_of (map entry_view (xs ++ x ∷ [])) ≡ names_of (map entry_view xs) ++ string_bytes x.name ∷ []
+names-push [] x = refl
+names-push (y ∷ ys) x = ap (λ (l : List Text). string_bytes y.name ∷ l) (names-push ys x)
+
+paths-push : (xs : List Loaded) (x : Loaded) → map (λ x. x.path) (map entry_view (xs ++ x ∷ [])) ≡ map (λ x. x.path) (map entry_view xs) ++ string_bytes x.path ∷ []
+paths-push [] x = refl
+paths-push (y ∷ ys) x = ap (λ (l : List Text). string_bytes y.path ∷ l) (paths-push ys x)
+
+-- the names
+pub named_grown : (ns ms : List (String Global)) (n : String Global) (xs ys : List Loaded) (x : Loaded) → ms ≡ ns ++ n ∷ [] → string_bytes n ≡ string_bytes x.name
+    → map string_bytes ns ≡ names_of (map entry_view xs) → ys ≡ xs ++ x ∷ [] → map string_bytes ms ≡ names_of (map entry_view ys)
+named_grown ns ms n xs ys x hm hn h e =
+    ap (map string_bytes) hm ∙ texts-push ns n ∙ ap (λ (l : List Text). l ++ string_bytes n ∷ []) h
+    ∙ ap (λ (t : Text). names_of (map entry_view xs) ++ t ∷ []) hn ∙ sym (names-push xs x)
+    ∙ ap (λ (zs : List Loaded). names_of (map entry_view zs)) (sym e)
+
+-- the four texts
+pub names_grown : (t u : Option Text) (xs ys : List Loaded) (x : Loaded) → ys ≡ xs ++ x ∷ [] → t ≡ names_text (map entry_view xs)
+    → u ≡ with_elements t (string_bytes x.name ∷ []) → u ≡ names_text (map entry_view ys)
+names_grown t u xs ys x e h k =
+    k ∙ ap (λ (o : Option Text). with_elements o (string_bytes x.name ∷ [])) h ∙ elements_more (names_of (map entry_view xs)) (string_bytes x.name ∷ [])
+    ∙ ap text_of_elements (sym (names-push xs x) ∙ ap (λ (zs : List Loaded). names_of (map entry_view zs)) (sym e))
+
+pub files_grown : (t u : Option Text) (xs ys : List Loaded) (x : Loaded) → ys ≡ xs ++ x ∷ [] → t ≡ files_text (map entry_view xs)
+    → u ≡ with_elements t (string_bytes x.path ∷ []) → u ≡ files_text (map entry_view ys)
+files_grown t u xs ys x e h k =
+    k ∙ ap (λ (o : Option Text). with_elements o (string_bytes x.path ∷ [])) h ∙ elements_more (map (λ x. x.path) (map entry_view xs)) (string_bytes x.path ∷ [])
+    ∙ ap text_of_elements (sym (paths-push xs x) ∙ ap (λ (zs : List Loaded). map (λ x. x.path) (map entry_view zs)) (sym e))
+
+pub conflicts_grown : (t u : Option Text) (xs ys : List Loaded) (x : Loaded) → ys ≡ xs ++ x ∷ [] → t ≡ conflicts_text (map entry_view xs)
+    → u ≡ with_elements t (conflict_elements (entry_view x ∷ [])) → u ≡ conflicts_text (map entry_view ys)
+conflicts_grown t u xs ys x e h k =
+    k ∙ ap (λ (o : Option Text). with_elements o (conflict_elements (entry_view x ∷ []))) h
+    ∙ elements_more (conflict_elements (map entry_view xs)) (conflict_elements (entry_view x ∷ []))
+    ∙ ap text_of_elements (sym (conflicts-append (map entry_view xs) (entry_view x ∷ [])) ∙ ap conflict_elements (sym (map-push xs x) ∙ ap (map entry_view) (sym e)))
+
+pub prereqs_grown : (t u : Option Text) (xs ys : List Loaded) (x : Loaded) → ys ≡ xs ++ x ∷ [] → t ≡ prereqs_text (map entry_view xs)
+    → u ≡ with_elements t (prereq_elements (entry_view x ∷ [])) → u ≡ prereqs_text (map entry_view ys)
+prereqs_grown t u xs ys x e h k =
+    k ∙ ap (λ (o : Option Text). with_elements o (prereq_elements (entry_view x ∷ []))) h
+    ∙ elements_more (prereq_elements (map entry_view xs)) (prereq_elements (entry_view x ∷ []))
+    ∙ ap text_of_elements (sym (prereqs-append (map entry_view xs) (entry_view x ∷ [])) ∙ ap prereq_elements (sym (map-push xs x) ∙ ap (map entry_view) (sym e)))
+
+-- ---- a list without a module
+
+filtered_map : {A B : Type 0} (f : A → B) (p : B → Bool) (xs : List A) → map f (filter (λ x. p (f x)) xs) ≡ filter p (map f xs)
+filtered_map f p [] = refl
+filtered_map f p (x ∷ xs) = at (p (f x)) (filtered_map f p xs)
+  where
+    at : (b : Bool) → map f (filter (λ x. p (f x)) xs) ≡ filter p (map f xs)
+        → map f (cond b (x ∷ filter (λ x. p (f x)) xs) (filter (λ x. p (f x)) xs)) ≡ cond b (f x ∷ filter p (map f xs)) (filter p (map f xs))
+    at true e = ap (λ l. f x ∷ l) e
+    at false e = e
+
+names_are : (xs : List Loaded) → names_of (map entry_view xs) ≡ map (λ x. string_bytes x.name) xs
+names_are [] = refl
+names_are (x ∷ xs) = ap (λ (l : List Text). string_bytes x.name ∷ l) (names_are xs)
+
+-- its names are those of the modules that stay
+pub named_without : (ns : List (String Global)) (xs : List Loaded) (name : Text) → map string_bytes ns ≡ names_of (map entry_view xs)
+    → map string_bytes (filter (λ n. not (bytes_eq (string_bytes n) name)) ns)
+    ≡ names_of (map entry_view (filter (λ x. not (bytes_eq (string_bytes x.name) name)) xs))
+named_without ns xs name h =
+    let other : Text → Bool = λ (t : Text). not (bytes_eq t name) in
+    filtered_map string_bytes other ns ∙ ap (filter other) (h ∙ names_are xs)
+    ∙ sym (filtered_map (λ (x : Loaded). string_bytes x.name) other xs)
+    ∙ sym (names_are (filter (λ x. other (string_bytes x.name)) xs))

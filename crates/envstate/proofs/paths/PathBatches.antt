@@ -1,6 +1,6 @@
 -- Edits of one path variable, one after another, as one edit.
 use Rattle.std.proofs.Common.{◌≡◌, ℕ, ◌+◌, ◌≤◌, Bool, true, false, cond, ◌&&◌, List, [], ◌∷◌, ◌++◌, refl, sym, ap}
-use Rattle.std.proofs.Common.{◌∙◌, arith, subst, Option, Some, None, Result, Ok, Err}
+use Rattle.std.proofs.Common.{◌∙◌, arith, Option, Some, None, Result, Ok, Err}
 use Rattle.std.specs.Prelude.{bytes_eq, if◌then◌else◌}
 use Rattle.std.specs.List.{list_all}
 use Rattle.std.specs.Option.{option_or}
@@ -10,14 +10,13 @@ use Rattle.envvars.specs.Texts.{Text}
 use Rattle.envvars.specs.Names.{share_name, name_reason}
 use Rattle.envvars.specs.Environment.{Environment, lookup, with_value}
 use Rattle.envvars.specs.Reasons.{EnvReason, unless, bad_value, counter_full}
-use Rattle.envvars.proofs.EditLemmas.{both_true, and_both, no_reason, no_value_reason, looked}
+use Rattle.envvars.proofs.EditLemmas.{both_true, and_both, no_reason, no_value_reason}
 use Rattle.envvars.proofs.EnvLemmas.{same_environment, lookup-with_value}
 use Rattle.envstate.specs.paths.Paths.{PathState, HasRoom, largest_counter, add, drop, add_front, add_back, add_all}
 use Rattle.envstate.specs.paths.Paths.{drop_all}
-use Rattle.envstate.specs.paths.PathTexts.{is_delimiter, elements_text, counters_as_text, IsWritable}
-use Rattle.envstate.specs.paths.PathVariables.{path_in, with_path, is_element, value_reason, path_reason, counters_fit}
+use Rattle.envstate.specs.paths.PathTexts.{is_delimiter, elements_text, counters_as_text}
+use Rattle.envstate.specs.paths.PathVariables.{path_in, with_path, is_element, path_reason, counters_fit}
 use Rattle.envstate.specs.paths.PathVariables.{written_path, added_path, dropped_path}
-use Rattle.envstate.specs.paths.PathOrder.{LeavesPath}
 use Rattle.envstate.specs.declared.paths.adding.End.{End}
 use Rattle.envstate.specs.declared.paths.adding.End.TheVariants.{Front, Back}
 use Rattle.envstate.proofs.paths.PathSteps.{small_fits}

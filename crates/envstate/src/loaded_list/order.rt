@@ -6,7 +6,7 @@ ghost use Rattle.envvars.specs.Changes.{new_value_of, same_value};
 ghost use Rattle.envstate.specs.loaded_list.Loaded.{AreLoadedInOrder};
 
 use crate::loaded_list::list::loaded_if_consistent;
-use crate::loaded_list::writing::loaded_changes;
+use crate::loaded_list::written_list::LoadedList;
 use envvars::{Change, Env, has_value};
 use std::alloc::{AllocError, Global};
 
@@ -25,6 +25,8 @@ pub fn are_loaded_in_order(alloc: Global, env: &Env) -> Result<bool, AllocError>
     let Some(list) = loaded_if_consistent(alloc, env)? else {
         return Ok(false);
     };
-    let changes = loaded_changes(alloc, env, list.as_slice())?;
+    let changes = LoadedList::of(alloc, list)?
+        .written(alloc)?
+        .changes(alloc, env)?;
     Ok(are_made(env, changes.as_slice()))
 }

@@ -1,21 +1,20 @@
 //! The four texts that the list of loaded modules is written as, and which entries can be written.
-ghost use Rattle.std.specs.Prelude.{◌≡◌, ◌&&◌, ◌++◌, [], ◌∷◌, filter, map, flat_map, string_bytes, OnOk, IfOk};
+ghost use Rattle.std.specs.Prelude.{◌≡◌, ◌&&◌, ◌++◌, [], ◌∷◌, filter, map, flat_map, string_bytes, OnOk, IfOk, Some};
 ghost use Rattle.std.specs.List.{list_all};
 ghost use Rattle.std.specs.Option.{option_map};
 ghost use Rattle.modulename.specs.ModuleName.{is_module_name};
 ghost use Rattle.envvars.specs.Changes.{new_values_in};
 ghost use Rattle.envvars.specs.Fields.{ampersand, without_repeats};
-ghost use Rattle.envstate.specs.loaded_list.LoadedTexts.{element_of, group_text};
+ghost use Rattle.envstate.specs.loaded_list.LoadedTexts.{group_text};
 ghost use Rattle.envstate.specs.loaded_list.ElementTexts.{before_element, with_elements};
 ghost use Rattle.envstate.specs.loaded_list.Loaded.{names_of, names_text, files_text, conflict_elements, conflicts_text};
 ghost use Rattle.envstate.specs.loaded_list.Loaded.{prereq_elements, prereqs_text, is_path, is_group, is_entry};
 ghost use Rattle.envstate.specs.loaded_list.Loaded.{can_be_added, with_conflicts_once};
 ghost use Rattle.envstate.specs.loaded_list.LoadedEntries.{entry_view};
-ghost use Rattle.envstate.specs.loaded_list.NeededChanges.{is_needed, needed_changes};
+ghost use Rattle.envstate.specs.loaded_list.NeededChanges.{is_needed};
 ghost use Rattle.envvars.specs.Texts.{has, slice_texts, texts_in};
 
 use crate::loaded_list::entry::Loaded;
-use crate::loaded_list::list::{CONFLICTS, FILES, NAMES, PREREQS};
 use envvars::fields::{deduplicated, join, owned, slices, text_of_elements};
 use envvars::{Change, Vars, push_change};
 use modulename::is_module_name;
@@ -33,7 +32,7 @@ pub fn names_of(alloc: Global, list: &[Loaded]) -> Result<Vec<&str>, AllocError>
 }
 
 /// The text of `LOADEDMODULES`: the names, in load order; none for an empty list.
-fn names_text(alloc: Global, list: &[Loaded]) -> Result<Option<String>, AllocError>
+pub(crate) fn names_text(alloc: Global, list: &[Loaded]) -> Result<Option<String>, AllocError>
     ensures { IfOk result (λ t. option_map string_bytes t ≡ names_text (map entry_view list.now)) }
 {
     let names = names_of(alloc, list)?;
@@ -41,7 +40,7 @@ fn names_text(alloc: Global, list: &[Loaded]) -> Result<Option<String>, AllocErr
 }
 
 /// The text of `_LMFILES_`: the paths, in load order; none for an empty list.
-fn files_text(alloc: Global, list: &[Loaded]) -> Result<Option<String>, AllocError>
+pub(crate) fn files_text(alloc: Global, list: &[Loaded]) -> Result<Option<String>, AllocError>
     ensures { IfOk result (λ t. option_map string_bytes t ≡ files_text (map entry_view list.now)) }
 {
     let mut files = Vec::with_capacity(alloc, list.len())?;
@@ -49,15 +48,6 @@ fn files_text(alloc: Global, list: &[Loaded]) -> Result<Option<String>, AllocErr
         files.push(entry.path.as_str())?;
     }
     text_of_elements(alloc, files.as_slice())
-}
-
-/// The element that a module's name and its words are written as, with `&` between them.
-fn element(alloc: Global, name: &str, words: &[String]) -> Result<String, AllocError>
-    ensures { IfOk result (λ t. string_bytes t ≡ element_of name.now (map string_bytes words.now)) }
-{
-    let mut parts = slices(alloc, words)?;
-    parts.insert(0, name)?;
-    join(alloc, parts.as_slice(), '&')
 }
 
 /// The room that a text of elements gets at once: the conflicts of a list of twenty modules, about.
@@ -76,6 +66,20 @@ fn before_element(alloc: Global, text: Option<String>) -> Result<String, AllocEr
     }
 }
 
+/// The text with one more element.
+pub(crate) fn with_element(
+    alloc: Global,
+    text: Option<String>,
+    element: &str,
+) -> Result<String, AllocError>
+    ensures { IfOk result (λ t. Some (string_bytes t)
+        ≡ with_elements (option_map string_bytes text) (element.now ∷ [])) }
+{
+    let mut text = before_element(alloc, text)?;
+    text.push_str(element)?;
+    Ok(text)
+}
+
 /// Appends words, with `&` before each.
 fn push_words(text: &mut String, words: &[String]) -> Result<(), AllocError>
     ensures { OnOk result (string_bytes text.new
@@ -89,7 +93,7 @@ fn push_words(text: &mut String, words: &[String]) -> Result<(), AllocError>
 }
 
 /// The text with the element of a module's conflicts, if it has some.
-fn with_conflicts(
+pub(crate) fn with_conflicts(
     alloc: Global,
     text: Option<String>,
     entry: &Loaded,
@@ -107,7 +111,7 @@ fn with_conflicts(
 }
 
 /// The text of `__MODULES_LMCONFLICT`: an element for each module with conflicts; none where no module has one.
-fn conflicts_text(alloc: Global, list: &[Loaded]) -> Result<Option<String>, AllocError>
+pub(crate) fn conflicts_text(alloc: Global, list: &[Loaded]) -> Result<Option<String>, AllocError>
     ensures { IfOk result (λ t. option_map string_bytes t ≡ conflicts_text (map entry_view list.now)) }
 {
     let mut text = None;
@@ -136,32 +140,38 @@ fn group_texts(alloc: Global, groups: &[Vec<String>]) -> Result<Vec<String>, All
     Ok(texts)
 }
 
-/// Appends the element of a module's prereqs, if it has some.
-fn push_prereqs(alloc: Global, elements: &mut Vec<String>, entry: &Loaded) -> Result<(), AllocError>
-    ensures { OnOk result (texts_in elements.new ≡ texts_in elements.old ++ prereq_elements (entry_view entry.now ∷ [])) }
+/// The text with the element of a module's prereqs, if it has some.
+pub(crate) fn with_prereqs(
+    alloc: Global,
+    text: Option<String>,
+    entry: &Loaded,
+) -> Result<Option<String>, AllocError>
+    ensures { IfOk result (λ t. option_map string_bytes t
+        ≡ with_elements (option_map string_bytes text) (prereq_elements (entry_view entry.now ∷ []))) }
 {
     if entry.prereqs.is_empty() {
-        return Ok(());
+        return Ok(text);
     }
     let groups = group_texts(alloc, entry.prereqs.as_slice())?;
-    elements.push(element(alloc, entry.name.as_str(), groups.as_slice())?)?;
-    Ok(())
+    let mut text = before_element(alloc, text)?;
+    text.push_str(entry.name.as_str())?;
+    push_words(&mut text, groups.as_slice())?;
+    Ok(Some(text))
 }
 
 /// The text of `__MODULES_LMPREREQ`: an element for each module with prereqs; none where no module has one.
-fn prereqs_text(alloc: Global, list: &[Loaded]) -> Result<Option<String>, AllocError>
+pub(crate) fn prereqs_text(alloc: Global, list: &[Loaded]) -> Result<Option<String>, AllocError>
     ensures { IfOk result (λ t. option_map string_bytes t ≡ prereqs_text (map entry_view list.now)) }
 {
-    let mut elements = Vec::new(alloc);
+    let mut text = None;
     for entry in list {
-        push_prereqs(alloc, &mut elements, entry)?;
+        text = with_prereqs(alloc, text, entry)?;
     }
-    let elements = slices(alloc, elements.as_slice())?;
-    text_of_elements(alloc, elements.as_slice())
+    Ok(text)
 }
 
 /// Appends the change of a variable to a value, or to none. One that is unset and gets none stays as it is.
-fn push_needed<V: Vars>(
+pub(crate) fn push_needed<V: Vars>(
     alloc: Global,
     changes: &mut Vec<Change>,
     env: &V,
@@ -175,34 +185,6 @@ fn push_needed<V: Vars>(
         return Ok(());
     }
     push_change(alloc, changes, name, value)
-}
-
-/// The changes of the four variables that write the list to these variables.
-pub fn loaded_changes<V: Vars>(
-    alloc: Global,
-    env: &V,
-    list: &[Loaded],
-) -> Result<Vec<Change>, AllocError>
-    ensures { IfOk result (λ v. new_values_in v ≡ needed_changes (V.vars env.now) (map entry_view list.now)) }
-{
-    let mut changes = Vec::new(alloc);
-    push_change(alloc, &mut changes, NAMES, names_text(alloc, list)?)?;
-    push_change(alloc, &mut changes, FILES, files_text(alloc, list)?)?;
-    push_needed(
-        alloc,
-        &mut changes,
-        env,
-        CONFLICTS,
-        conflicts_text(alloc, list)?,
-    )?;
-    push_needed(
-        alloc,
-        &mut changes,
-        env,
-        PREREQS,
-        prereqs_text(alloc, list)?,
-    )?;
-    Ok(changes)
 }
 
 /// Whether the path can be written in `_LMFILES_`: it isn't empty and has no colon.

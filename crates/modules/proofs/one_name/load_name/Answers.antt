@@ -16,9 +16,9 @@ pub returns-then-is_loaded-clause-loaded : goal.returns-then-is_loaded-clause-lo
 returns-then-is_loaded-clause-loaded g c =
     let a = c.args.name_request in
     let d = done_view c.args.progress.now.done (g.V.Vars.vars c.args.env.now) in
-    let items = c.args.progress.now.entries.items in
+    let items = c.args.progress.now.list.entries.items in
     let yes : has a.typed.now (names_of (map entry_view items)) ≡ true = ap
-    (λ (es : List Loaded). has a.typed.now (names_of (map entry_view es))) (sym c.as_slice.ensures.value)
+    (λ (es : List Loaded). has a.typed.now (names_of (map entry_view es))) (sym c.entries.ensures)
     ∙ (sym c.is_loaded.ensures ∙ c.if-is_loaded.true) in
     answers_now c.args.tree.now (λ (u : Unit {0}). d) tt
     (λ files listings. LoadsName (request_context_of a.settings files listings) a.in_switch a.typed.now d)
@@ -30,9 +30,9 @@ returns-in_err-found-clause-loaded g c =
     let a = c.args.name_request in
     let e = g.V.Vars.vars c.args.env.now in
     let d = done_view c.args.progress.now.done e in
-    let items = c.args.progress.now.entries.items in
+    let items = c.args.progress.now.list.entries.items in
     let no : has a.typed.now (names_of (map entry_view items)) ≡ false = ap
-    (λ (es : List Loaded). has a.typed.now (names_of (map entry_view es))) (sym c.as_slice.ensures.value)
+    (λ (es : List Loaded). has a.typed.now (names_of (map entry_view es))) (sym c.entries.ensures)
     ∙ (sym c.is_loaded.ensures ∙ c.if-is_loaded.false) in
     refused found_view c.in_err-found.field-0.0 (λ files listings. Finds (request_context_of a.settings files listings)
     e a.typed.now) (λ files listings. SearchLooksAt (request_context_of a.settings files listings) e a.typed.now)
@@ -48,10 +48,10 @@ returns-clause-loaded g c =
     let a = c.args.name_request in
     let e = g.V.Vars.vars c.args.env.now in
     let d = done_view c.args.progress.now.done e in
-    let items = c.args.progress.now.entries.items in
+    let items = c.args.progress.now.list.entries.items in
     let m = found_view c.in_ok-found.found in
     let no : has a.typed.now (names_of (map entry_view items)) ≡ false = ap
-    (λ (es : List Loaded). has a.typed.now (names_of (map entry_view es))) (sym c.as_slice.ensures.value)
+    (λ (es : List Loaded). has a.typed.now (names_of (map entry_view es))) (sym c.entries.ensures)
     ∙ (sym c.is_loaded.ensures ∙ c.if-is_loaded.false) in
     then_given found_view c.in_ok-found.found (λ files listings. Finds (request_context_of a.settings files listings) e
     a.typed.now) (λ files listings. SearchLooksAt (request_context_of a.settings files listings) e a.typed.now)
@@ -61,8 +61,13 @@ returns-clause-loaded g c =
     c.in_ok-found.ensures c.load_found.ensures.given
     (λ files listings h o k. loads_found (request_context_of a.settings files listings) a.in_switch a.typed.now d (map entry_view items) c.requires no m h o k)
 
-pub load_found-requires : goal.load_found-requires
-load_found-requires g c = c.requires
+pub load_found-requires-clause-listed : goal.load_found-requires-clause-listed
+load_found-requires-clause-listed g c = c.requires
+
+pub load_found-requires-clause-unloaded : goal.load_found-requires-clause-unloaded
+load_found-requires-clause-unloaded g c =
+    ap (λ (es : List Loaded). has c.args.name_request.typed.now (names_of (map entry_view es))) (sym c.entries.ensures)
+    ∙ (sym c.is_loaded.ensures ∙ c.if-is_loaded.false)
 
 pub returns-clause-listed : goal.returns-clause-listed
 returns-clause-listed g c = c.load_found.ensures.listed

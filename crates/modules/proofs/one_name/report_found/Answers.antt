@@ -21,8 +21,8 @@ returns-in_err-ran-clause-given g c =
     let a = c.args.name_request in
     let m = found_view c.args.found.now in
     let d = done_view c.args.progress.now.done (g.V.Vars.vars c.args.env.now) in
-    let xs = map entry_view c.args.progress.now.entries.items in
-    let given = rw (c.mode_of_report.ensures, c.of-file.ensures.name, c.of-file.ensures.path, c.of-file.ensures.text, c.as_slice.ensures.value) at c.in_err-ran.ensures.given in
+    let xs = map entry_view c.args.progress.now.list.entries.items in
+    let given = rw (c.mode_of_report.ensures, c.of-file.ensures.name, c.of-file.ensures.path, c.of-file.ensures.text) at c.in_err-ran.ensures.given in
     rw (p.1, p.2) (stands_as (cause_of c.in_err-ran.field-0.0) ⊥ ⊥
     (λ r. RefusedAs file_refused (RunsFile a.settings.limits
     (file_context a (report_mode c.args.report_kind) m.name m.path xs d.env) m.text) (Err r))
@@ -34,10 +34,10 @@ returns-clause-given g c =
     let m = found_view c.args.found.now in
     let e = g.V.Vars.vars c.args.env.now in
     let d = done_view c.args.progress.now.done e in
-    let xs = map entry_view c.args.progress.now.entries.items in
+    let xs = map entry_view c.args.progress.now.list.entries.items in
     let last = g.V.Vars.vars c.evaluate.new.env in
     let ran = ran_view c.in_ok-ran.ran last in
-    let given = rw (c.mode_of_report.ensures, c.of-file.ensures.name, c.of-file.ensures.path, c.of-file.ensures.text, c.as_slice.ensures.value) at c.in_ok-ran.ensures.given in
+    let given = rw (c.mode_of_report.ensures, c.of-file.ensures.name, c.of-file.ensures.path, c.of-file.ensures.text) at c.in_ok-ran.ensures.given in
     let made = run_made a.settings.limits (file_context a (report_mode c.args.report_kind) m.name m.path xs d.env) m.text ran given in
     let same : last ≡ e = report_same c.args.report_kind m.name ran.records e last made in
     let said : c.as_str.result.now ≡ report_text c.args.report_kind m ran.records = c.as_str.ensures.value ∙ c.in_ok-text.ensures in (

@@ -13,7 +13,7 @@ pub returns-in_err-found-clause-reported : goal.returns-in_err-found-clause-repo
 returns-in_err-found-clause-reported g c =
     let e = g.V.Vars.vars c.args.env.now in
     let d = done_view c.args.progress.now.done e in
-    let xs = map entry_view c.args.progress.now.entries.items in
+    let xs = map entry_view c.args.progress.now.list.entries.items in
     let kind = c.args.report_kind in
     let typed = c.args.typed.now in
     refused found_view c.in_err-found.field-0.0 (λ files listings. Finds
@@ -30,7 +30,7 @@ pub returns-clause-reported : goal.returns-clause-reported
 returns-clause-reported g c =
     let e = g.V.Vars.vars c.args.env.now in
     let d = done_view c.args.progress.now.done e in
-    let xs = map entry_view c.args.progress.now.entries.items in
+    let xs = map entry_view c.args.progress.now.list.entries.items in
     let kind = c.args.report_kind in
     let typed = c.args.typed.now in
     let m = found_view c.in_ok-found.found in

@@ -25,8 +25,8 @@ returns-in_err-ran-clause-given g c =
     let a = c.args.name_request in
     let found = found_view c.args.found in
     let d = done_view c.args.progress.now.done (g.V.Vars.vars c.args.env.now) in
-    let xs = map entry_view c.args.progress.now.entries.items in
-    let given = rw (c.of-file.ensures.name, c.of-file.ensures.path, c.of-file.ensures.text, c.as_slice.ensures.value) at c.in_err-ran.ensures.given in
+    let xs = map entry_view c.args.progress.now.list.entries.items in
+    let given = rw (c.of-file.ensures.name, c.of-file.ensures.path, c.of-file.ensures.text) at c.in_err-ran.ensures.given in
     rw (p.1, p.2) (stands_as (cause_of c.in_err-ran.field-0.0) ⊥ ⊥
     (λ r. RefusedAs file_refused (RunsFile a.settings.limits
     (file_context a modes.unload found.name found.path xs d.env) found.text) (Err r))
@@ -38,10 +38,10 @@ returns-in_err-drop_from_list-clause-given g c =
     let a = c.args.name_request in
     let found = found_view c.args.found in
     let d = done_view c.args.progress.now.done (g.V.Vars.vars c.args.env.now) in
-    let xs = map entry_view c.args.progress.now.entries.items in
+    let xs = map entry_view c.args.progress.now.list.entries.items in
     let mid = g.V.Vars.vars c.evaluate.new.env in
     let ran = ran_view c.in_ok-ran.ran mid in
-    let given = rw (c.of-file.ensures.name, c.of-file.ensures.path, c.of-file.ensures.text, c.as_slice.ensures.value) at c.in_ok-ran.ensures.given in
+    let given = rw (c.of-file.ensures.name, c.of-file.ensures.path, c.of-file.ensures.text) at c.in_ok-ran.ensures.given in
     let listed : AreEntriesOf xs mid = c.requires ∙ sym c.in_ok-ran.ensures.listed in
     let edits = rw c.as_str.ensures.value at c.in_err-drop_from_list.ensures.edits in
     let made = run_made a.settings.limits (file_context a modes.unload found.name found.path xs d.env) found.text ran given in
@@ -55,11 +55,11 @@ returns-clause-given g c =
     let a = c.args.name_request in
     let found = found_view c.args.found in
     let d = done_view c.args.progress.now.done (g.V.Vars.vars c.args.env.now) in
-    let xs = map entry_view c.args.progress.now.entries.items in
+    let xs = map entry_view c.args.progress.now.list.entries.items in
     let mid = g.V.Vars.vars c.evaluate.new.env in
     let last = g.V.Vars.vars c.drop_from_list.new.env in
     let ran = ran_view c.in_ok-ran.ran mid in
-    let given = rw (c.of-file.ensures.name, c.of-file.ensures.path, c.of-file.ensures.text, c.as_slice.ensures.value) at c.in_ok-ran.ensures.given in
+    let given = rw (c.of-file.ensures.name, c.of-file.ensures.path, c.of-file.ensures.text) at c.in_ok-ran.ensures.given in
     let listed : AreEntriesOf xs mid = c.requires ∙ sym c.in_ok-ran.ensures.listed in
     let edits = rw c.as_str.ensures.value at c.in_ok-drop_from_list.ensures.edits in
     let made = run_made a.settings.limits (file_context a modes.unload found.name found.path xs d.env) found.text ran given in
@@ -72,17 +72,17 @@ returns-clause-given g c =
 pub returns-clause-listed : goal.returns-clause-listed
 returns-clause-listed g c =
     let name = string_bytes c.args.found.name in
-    let xs = map entry_view c.args.progress.now.entries.items in
+    let xs = map entry_view c.args.progress.now.list.entries.items in
     let mid = g.V.Vars.vars c.evaluate.new.env in
     let last = g.V.Vars.vars c.drop_from_list.new.env in
     let listed : AreEntriesOf xs mid = c.requires ∙ sym c.in_ok-ran.ensures.listed in
     let edits = rw c.as_str.ensures.value at c.in_ok-drop_from_list.ensures.edits in
     let left = rw c.as_str.ensures.value at c.in_ok-drop_from_list.ensures.list in
-    listed_dropped mid last name xs (map entry_view c.drop_from_list.new.list.items) listed (drop_read mid name xs listed (Ok last) edits) left
+    listed_dropped mid last name xs (map entry_view c.drop_from_list.new.list.entries.items) listed (drop_read mid name xs listed (Ok last) edits) left
 
 pub returns-clause-free : goal.returns-clause-free
 returns-clause-free g c h =
     let name = string_bytes c.args.found.name in
-    let xs = map entry_view c.args.progress.now.entries.items in
+    let xs = map entry_view c.args.progress.now.list.entries.items in
     let left = rw c.as_str.ensures.value at c.in_ok-drop_from_list.ensures.list in
     subst (λ (ys : List Entry). any_needs ys ≡ false) (sym left) (none_needs (λ x. not (bytes_eq name x.name)) xs h)

@@ -15,12 +15,12 @@ pub returns-in_err-meant-clause-unloaded : goal.returns-in_err-meant-clause-unlo
 returns-in_err-meant-clause-unloaded g c =
     let a = c.args.name_request in
     let d = done_view c.args.progress.now.done (g.V.Vars.vars c.args.env.now) in
-    let xs = map entry_view c.args.progress.now.entries.items in
+    let xs = map entry_view c.args.progress.now.list.entries.items in
     refused (option_map found_view) c.in_err-meant.field-0.0 (λ files listings. FindsLoaded files a.typed.now xs) (λ files listings. LoadedLooksAt a.typed.now xs)
     (λ (u : Unit {0}). d) c.from_residual.result (λ files listings. UnloadsName
     (request_context_of a.settings files listings) a.in_switch a.typed.now d)
     (λ files listings. UnloadLooksAt a.typed.now d)
-    (err_from_is_err_and c.from_residual.result c.from_residual.ensures.1) (rw c.as_slice.ensures.value at c.in_err-meant.ensures)
+    (err_from_is_err_and c.from_residual.result c.from_residual.ensures.1) (rw c.entries.ensures at c.in_err-meant.ensures)
     (λ files listings r h. unloads_loaded (request_context_of a.settings files listings) a.in_switch a.typed.now d xs c.requires (Err r) (Err r) h refl)
     (λ files listings at h. unloads_at (request_context_of a.settings files listings) a.in_switch a.typed.now d xs c.requires at h)
 
@@ -28,23 +28,23 @@ pub returns-in-None-clause-unloaded : goal.returns-in-None-clause-unloaded
 returns-in-None-clause-unloaded g c =
     let a = c.args.name_request in
     let d = done_view c.args.progress.now.done (g.V.Vars.vars c.args.env.now) in
-    let xs = map entry_view c.args.progress.now.entries.items in
+    let xs = map entry_view c.args.progress.now.list.entries.items in
     then_answers (option_map found_view) None (λ files listings. FindsLoaded files a.typed.now xs) (λ files listings. LoadedLooksAt a.typed.now xs)
     (λ (u : Unit {0}). d) tt (λ files listings. UnloadsName (request_context_of a.settings files listings) a.in_switch a.typed.now d) (λ files listings. UnloadLooksAt a.typed.now d)
-    (rw (c.as_slice.ensures.value, c.in-None.is) at c.in_ok-meant.ensures)
+    (rw (c.entries.ensures, c.in-None.is) at c.in_ok-meant.ensures)
     (λ files listings h. unloads_loaded (request_context_of a.settings files listings) a.in_switch a.typed.now d xs c.requires (Ok None) (Ok d) h refl)
 
 pub returns-in-Some-clause-unloaded : goal.returns-in-Some-clause-unloaded
 returns-in-Some-clause-unloaded g c =
     let a = c.args.name_request in
     let d = done_view c.args.progress.now.done (g.V.Vars.vars c.args.env.now) in
-    let xs = map entry_view c.args.progress.now.entries.items in
+    let xs = map entry_view c.args.progress.now.list.entries.items in
     let found = c.in-Some.found in
     then_given (option_map found_view) (Some found) (λ files listings. FindsLoaded files a.typed.now xs) (λ files listings. LoadedLooksAt a.typed.now xs)
     (λ (u : Unit {0}). done_view c.unload_found.new.progress.done (g.V.Vars.vars c.unload_found.new.env)) c.unload_found.result
     (λ files listings. UnloadsFound a (found_view found) xs d)
     (λ files listings. UnloadsName (request_context_of a.settings files listings) a.in_switch a.typed.now d) (λ files listings. UnloadLooksAt a.typed.now d)
-    (rw (c.as_slice.ensures.value, c.in-Some.is) at c.in_ok-meant.ensures) (λ files listings. c.unload_found.ensures.given)
+    (rw (c.entries.ensures, c.in-Some.is) at c.in_ok-meant.ensures) (λ files listings. c.unload_found.ensures.given)
     (λ files listings h o k. unloads_loaded (request_context_of a.settings files listings) a.in_switch a.typed.now d xs c.requires (Ok (Some (found_view found))) o h k)
 
 pub unload_found-requires : goal.unload_found-requires

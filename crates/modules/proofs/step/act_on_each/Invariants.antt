@@ -16,6 +16,6 @@ invariant-loop-name g l = record {
       (map string_bytes (drop l.name-index l.names)) (done_view l.progress.done (g.V.Vars.vars l.env)))
       (λ files listings. EachActionLooksAt l.name_action (request_context_of l.settings files listings) (map string_bytes l.names) (done_view l.initial.progress.done (g.V.Vars.vars l.initial.env)));
   listed : IsListedIn l.progress (g.V.Vars.vars l.env);
-  free : may_lose l.name_action (entries_view l.initial.progress.entries) ≡ false → may_lose l.name_action (entries_view l.progress.entries) ≡ false;
+  free : may_lose l.name_action (entries_view l.initial.progress.list.entries) ≡ false → may_lose l.name_action (entries_view l.progress.list.entries) ≡ false;
   base : g.V.Vars.base l.env ≡ g.V.Vars.base l.initial.env;
 }

@@ -51,16 +51,16 @@ returns-in-ReportOn-clause-listed g c = c.report_name.ensures.listed
 
 pub returns-in-Load-clause-free : goal.returns-in-Load-clause-free
 returns-in-Load-clause-free g c =
-    loses_otherwise c.load_name.result c.args.name_action Load (map entry_view c.args.progress.now.entries.items)
-    (map entry_view c.load_name.new.progress.entries.items) c.in-Load.is refl
+    loses_otherwise c.load_name.result c.args.name_action Load (map entry_view c.args.progress.now.list.entries.items)
+    (map entry_view c.load_name.new.progress.list.entries.items) c.in-Load.is refl
 
 pub returns-in-Unload-clause-free : goal.returns-in-Unload-clause-free
 returns-in-Unload-clause-free g c =
-    let xs = map entry_view c.args.progress.now.entries.items in
-    let ys = map entry_view c.unload_name.new.progress.entries.items in
+    let xs = map entry_view c.args.progress.now.list.entries.items in
+    let ys = map entry_view c.unload_name.new.progress.list.entries.items in
     subst (λ (a : NameAction). OnOk c.unload_name.result (may_lose a xs ≡ false → may_lose a ys ≡ false)) (sym c.in-Unload.is) c.unload_name.ensures.free
 
 pub returns-in-ReportOn-clause-free : goal.returns-in-ReportOn-clause-free
 returns-in-ReportOn-clause-free g c =
-    loses_otherwise c.report_name.result c.args.name_action (ReportOn c.in-ReportOn.report_kind) (map entry_view c.args.progress.now.entries.items)
-    (map entry_view c.report_name.new.progress.entries.items) c.in-ReportOn.is refl
+    loses_otherwise c.report_name.result c.args.name_action (ReportOn c.in-ReportOn.report_kind) (map entry_view c.args.progress.now.list.entries.items)
+    (map entry_view c.report_name.new.progress.list.entries.items) c.in-ReportOn.is refl

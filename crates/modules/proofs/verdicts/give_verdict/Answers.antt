@@ -1,7 +1,6 @@
-use Rattle.std.proofs.Common.{◌≡◌, List, false, map, Ok, Err, refl, ap, ◌∙◌}
+use Rattle.std.proofs.Common.{◌≡◌, false, map, Ok, Err, refl}
 use Rattle.std.proofs.lemmas.Result.{err_from_is_err_and}
 use Rattle.envstate.specs.loaded_list.LoadedEntries.{entry_view}
-use Rattle.envstate.specs.declared.loaded_list.entry.Loaded.{Loaded}
 use Rattle.shelltext.specs.declared.shell.Shell.TheVariants.{Sh}
 use Rattle.search.specs.Answers.{found_view}
 use Rattle.requests.specs.Looked.{SearchLooksAt}
@@ -9,7 +8,6 @@ use Rattle.requests.specs.Steps.{Finds, entries_of}
 use Rattle.requests.specs.Verdicts.{HasVerdict}
 use Rattle.modules.specs.Parts.{JudgesFound}
 use Rattle.modules.specs.Verdicts.{verdict_view, in_sh}
-use Rattle.modules.proofs.ListedLemmas.{listing}
 use Rattle.modules.proofs.TreeAnswers.{refused_now, refused, then_given}
 use Rattle.modules.proofs.verdicts.give_verdict.Goals as goal
 
@@ -37,12 +35,11 @@ pub returns : goal.returns
 returns g c =
     let e = g.V.Vars.vars c.args.env.now in
     let m = found_view c.in_ok-found.found in
-    let xs = map entry_view c.as_slice.result.now in
-    let read : Ok xs ≡ entries_of e = ap (λ (es : List Loaded). listing (map entry_view es)) c.as_slice.ensures.value ∙ c.in_ok-entries.ensures.given in
+    let xs = map entry_view c.in_ok-entries.entries.items in
     then_given found_view c.in_ok-found.found (λ files listings. Finds (in_sh c.args.limits files listings) e
     c.args.typed.now) (λ files listings. SearchLooksAt (in_sh c.args.limits files listings) e c.args.typed.now)
     verdict_view c.judge_found.result
     (λ files listings. JudgesFound (record { settings = record { limits = c.args.limits; shell = Sh }; in_switch = false; typed = c.args.typed }) m xs e)
     (λ files listings. HasVerdict (in_sh c.args.limits files listings) e c.args.typed.now) (λ files listings. SearchLooksAt (in_sh c.args.limits files listings) e c.args.typed.now)
     c.in_ok-found.ensures (λ files listings. c.judge_found.ensures)
-    (λ files listings h o k. (Ok xs, read, (Ok m, h, k)))
+    (λ files listings h o k. (Ok xs, c.in_ok-entries.ensures.given, (Ok m, h, k)))

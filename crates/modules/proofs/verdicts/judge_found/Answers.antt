@@ -14,17 +14,17 @@ use Rattle.modules.proofs.verdicts.judge_found.Goals as goal
 
 pub returns-in_err-ran : goal.returns-in_err-ran
 returns-in_err-ran g c =
-    let p = err_from_is_err_and c.from_residual.result c.from_residual.ensures.1 in
+    let p = err_from_is_err_and c.from_residual-in_err-ran.result c.from_residual-in_err-ran.ensures.1 in
     let a = c.args.name_request in
     let e = g.V.Vars.vars c.args.env.now in
     let m = found_view c.args.found.now in
-    let xs = map entry_view c.args.entries.now in
-    let given = rw (c.of-file.ensures.name, c.of-file.ensures.path, c.of-file.ensures.text) at c.in_err-ran.ensures.given in
+    let xs = map entry_view c.args.entries.items in
+    let given = rw (c.of-file.ensures.name, c.of-file.ensures.path, c.of-file.ensures.text, c.in_ok-list.ensures) at c.in_err-ran.ensures.given in
     rw (p.1, p.2) (stands_as (cause_of c.in_err-ran.field-0.0) ⊥ ⊥ (λ r. RefusedAs file_refused (RunsFile a.settings.limits (file_context a modes.load m.name m.path xs e) m.text) (Err r))
     (λ r. JudgesFound a m xs e (Err r)) (λ q. q) (λ r h. (Err r, h, refl)) given)
 
 pub returns : goal.returns
 returns g c =
     let last = g.V.Vars.vars c.evaluate.new.env in
-    let given = rw (c.of-file.ensures.name, c.of-file.ensures.path, c.of-file.ensures.text) at c.in_ok-ran.ensures.given in
+    let given = rw (c.of-file.ensures.name, c.of-file.ensures.path, c.of-file.ensures.text, c.in_ok-list.ensures) at c.in_ok-ran.ensures.given in
     (Ok (ran_view c.in_ok-ran.ran last), given, ap Ok (c.verdict_on.ensures last))

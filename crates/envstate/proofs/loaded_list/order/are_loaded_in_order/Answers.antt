@@ -17,6 +17,6 @@ returns-in_default c =
 pub returns : goal.returns
 returns c =
     order_decided c.args.env.now (map entry_view c.in-Some.list.items) c.are_made.result (sym c.in_ok-list.ensures ∙ ap (option_map (λ (v : Vec Loaded Global). map entry_view v.items)) c.in-Some.is)
-    (c.are_made.ensures ∙ ap (λ l. list_all (λ (d : NewValue). same_value (lookup c.args.env.now d.0) d.1) (map new_value_of l)) c.as_slice-2.ensures.value
-    ∙ ap (list_all (λ (d : NewValue). same_value (lookup c.args.env.now d.0) d.1)) (c.in_ok-changes.ensures ∙ ap (λ l. needed_changes c.args.env.now (map entry_view l)) c.as_slice.ensures.value)
+    (c.are_made.ensures ∙ ap (λ l. list_all (λ (d : NewValue). same_value (lookup c.args.env.now d.0) d.1) (map new_value_of l)) c.as_slice.ensures.value
+    ∙ ap (list_all (λ (d : NewValue). same_value (lookup c.args.env.now d.0) d.1)) (c.in_ok-changes.ensures ∙ ap (λ v. needed_changes c.args.env.now (map entry_view v.items)) (c.in_ok-written.ensures.0 ∙ c.in_ok-of.ensures))
     ∙ needed_made c.args.env.now (map entry_view c.in-Some.list.items))

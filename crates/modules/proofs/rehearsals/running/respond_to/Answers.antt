@@ -2,7 +2,6 @@ use Rattle.std.proofs.Common.{map, string_bytes, String}
 use Rattle.std.specs.declared.alloc.Global.{Global}
 use Rattle.filetree.proofs.FailedPaths.{only_if, only_wider_in_each}
 use Rattle.requests.specs.RequestViews.{action_view}
-use Rattle.requests.specs.Steps.{request_context_in}
 use Rattle.modules.proofs.rehearsals.RunLemmas.{looks_by_request}
 use Rattle.modules.proofs.rehearsals.running.respond_to.Goals as goal
 
