@@ -81,10 +81,10 @@ impl PortOptions {
         }
     }
 
-    /// Adds an option, or gives the one behind which a word is to follow.
+    /// Adds an option; true where a word is to follow.
     ///
     /// The error: there is no such option.
-    fn add(&mut self, word: &str) -> Result<Option<&'static str>, PortFault> {
+    fn add(&mut self, word: &str) -> Result<bool, PortFault> {
         match word {
             "--help" => self.help = true,
             "--stdin" => self.stdin = true,
@@ -94,13 +94,10 @@ impl PortOptions {
             "--alias-scripts" => self.alias_scripts = true,
             "--drop-unread" => self.drop_unread = true,
             "--strict" => self.strict = true,
-            "--host" => return Ok(Some("--host")),
-            "--kept" => return Ok(Some("--kept")),
-            "--flatten" => return Ok(Some("--flatten")),
-            "--defaults" => return Ok(Some("--defaults")),
+            "--host" | "--kept" | "--flatten" | "--defaults" => return Ok(true),
             _ => return Err(PortFault::Usage),
         }
-        Ok(None)
+        Ok(false)
     }
 
     /// Adds the word behind an option.
@@ -163,18 +160,17 @@ pub(crate) fn asked_for(
 ) -> Result<(PortTarget, PortOptions), PortFault> {
     let mut options = PortOptions::new(alloc);
     let mut paths = Vec::new(alloc);
-    let mut telling = None;
+    let mut telling: Option<String> = None;
     let mut has_ended = false;
     for word in words {
-        if let Some(option) = telling {
-            options.add_word(alloc, option, word)?;
-            telling = None;
+        if let Some(option) = telling.take() {
+            options.add_word(alloc, option.as_str(), word)?;
         } else if has_ended || !word.starts_with('-') {
             paths.push(word)?;
         } else if word.as_str() == "--" {
             has_ended = true;
-        } else {
-            telling = options.add(word.as_str())?;
+        } else if options.add(word.as_str())? {
+            telling = Some(word);
         }
     }
     if telling.is_some() {

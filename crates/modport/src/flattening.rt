@@ -118,10 +118,8 @@ fn flattened_by(
         let why = "it removes elements of a path, or loads modules";
         return Ok(Err(unserving(alloc, why)?));
     }
-    let end = match script.commands.as_slice() {
-        [command, ..] => command.offset,
-        [] => text.len(),
-    };
+    let first = script.commands.as_slice().first();
+    let end = first.map_or(text.len(), |command| command.offset);
     let head = ByteRange { start: 0, end };
     let flat = written_records(alloc, head.of(text), person, records)?;
     let translation = translate(alloc, given, flat.as_str())?;

@@ -51,11 +51,9 @@ fn notes_on(alloc: Global, source: SourceEncoding) -> Result<Vec<Note>, AllocErr
     let mut notes = Vec::new(alloc);
     for (is_so, what, outcome) in seen {
         if is_so {
-            let what = String::from_str(alloc, what)?;
-            let line = Some(1);
             notes.push(Note {
-                line,
-                what,
+                line: Some(1),
+                what: String::from_str(alloc, what)?,
                 outcome,
             })?;
         }

@@ -1,7 +1,7 @@
 //! What the files below directories say of their modules: names, version symbols and families.
 
 use crate::fault::PortFault;
-use crate::tree::{Found, TreeEntry};
+use crate::tree::TreeEntry;
 use port_constants::KnownFile;
 use port_rewriting::{
     FileKind, Given, Member, NamedFamily, Site, folder_of, symbols_said, translate,
@@ -64,13 +64,8 @@ pub(crate) fn add_tree(
     entries: &[TreeEntry],
 ) -> Result<(), PortFault> {
     for entry in entries {
-        let Ok(
-            Found {
-                file: Some(file),
-                ..
-            },
-        ) = &entry.found
-        else {
+        let found = entry.found.as_ref().ok();
+        let Some(file) = found.and_then(|found| found.file.as_ref()) else {
             continue;
         };
         match add_file(alloc, site, file.text.as_str(), entry.below.as_str()) {

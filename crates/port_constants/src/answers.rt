@@ -7,25 +7,25 @@ use tclvalue::operators::ValueFault;
 use tclvalue::value_command;
 
 /// The most bytes of a value.
-const MOST_BYTES: usize = 65_536;
+pub const MOST_BYTES: usize = 65_536;
 
 /// A copy of a text, where there is one.
 pub fn copied(alloc: Global, text: Option<&str>) -> Result<Option<String>, AllocError> {
-    match text {
-        Some(text) => Ok(Some(String::from_str(alloc, text)?)),
-        None => Ok(None),
-    }
+    text.map(|text| String::from_str(alloc, text)).transpose()
 }
 
-/// The answer of `file` to its words.
+/// The answer of `file` to its words; none where a home would be looked up.
 fn file_answer(alloc: Global, words: &[String]) -> Result<Option<String>, AllocError> {
     let [word, names @ ..] = words else {
         return Ok(None);
     };
+    if names.iter().any(|name| name.contains('~')) {
+        return Ok(None);
+    }
     match (word.as_str(), names) {
-        ("join", _) => joined(alloc, names),
-        ("tail", [path]) => tail_of(alloc, path.as_str()),
-        ("dirname", [path]) => directory_of(alloc, path.as_str()),
+        ("join", [_, ..]) => Ok(Some(joined(alloc, names)?)),
+        ("tail", [path]) => Ok(Some(tail_of(alloc, path.as_str())?)),
+        ("dirname", [path]) => Ok(Some(directory_of(alloc, path.as_str())?)),
         _ => Ok(None),
     }
 }
@@ -49,7 +49,7 @@ impl Knowledge<'_> {
         let [name, others @ ..] = words else {
             return Ok(None);
         };
-        if !self.is_as_it_was() {
+        if self.is_overridden {
             return Ok(None);
         }
         match (name.as_str(), others) {
@@ -58,14 +58,16 @@ impl Knowledge<'_> {
             ("info", [word]) if word.as_str() == "hostname" => {
                 copied(alloc, self.host("nodename"))
             }
-            ("module-info", [word]) if word.as_str() == "name" => copied(alloc, self.name()),
+            ("module-info", [word]) if word.as_str() == "name" => {
+                copied(alloc, self.file.map(|file| file.name))
+            }
             _ => value_answer(alloc, words),
         }
     }
 
     /// What Tcl knows of the host, by the name of an element of `tcl_platform`.
     pub(crate) fn platform(&self, element: &str) -> Option<&str> {
-        if !self.is_as_it_was() {
+        if self.is_overridden {
             return None;
         }
         match element {

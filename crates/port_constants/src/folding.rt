@@ -44,7 +44,7 @@ struct Folding<'k, 't> {
 }
 
 /// Whether each byte stands for itself in a script, and there is one.
-fn is_plain(text: &str) -> bool {
+pub fn is_bare(text: &str) -> bool {
     !text.is_empty() && text.bytes().all(|byte| !is_gap(byte) && !is_special(byte))
 }
 
@@ -56,7 +56,7 @@ fn fits_in_braces(text: &str) -> bool {
 
 /// How a text is spelled in place of a part of a word.
 fn spelled(alloc: Global, text: &str, is_word: bool) -> Result<Option<String>, AllocError> {
-    if is_plain(text) {
+    if is_bare(text) {
         return Ok(Some(String::from_str(alloc, text)?));
     }
     if is_word && fits_in_braces(text) {

@@ -26,13 +26,13 @@ pub struct Knowledge<'k> {
     /// What `uname` says, by its words.
     host: &'k [KnownVariable],
     /// The file, where it is one of a tree.
-    file: Option<KnownFile<'k>>,
+    pub(crate) file: Option<KnownFile<'k>>,
     /// Variables of the file.
     variables: Vec<KnownVariable>,
     /// Variables of the environment that the file has set.
-    environment: Vec<KnownVariable>,
+    pub(crate) environment: Vec<KnownVariable>,
     /// Whether the file defines a procedure of the name of a command, or sets what Tcl knows of the host.
-    is_overridden: bool,
+    pub(crate) is_overridden: bool,
 }
 
 /// The name of a variable without the colons of the global namespace.
@@ -92,11 +92,6 @@ impl<'k> Knowledge<'k> {
         }
     }
 
-    /// The value of a variable of the environment.
-    pub(crate) fn environment(&self, name: &str) -> Option<&str> {
-        value_among(self.environment.as_slice(), name)
-    }
-
     /// What `uname` says by a word.
     pub(crate) fn host(&self, word: &str) -> Option<&str> {
         let word = if word == "node" { "nodename" } else { word };
@@ -106,16 +101,6 @@ impl<'k> Knowledge<'k> {
     /// The path of the file.
     fn path(&self) -> Option<&str> {
         self.file.map(|file| file.path)
-    }
-
-    /// The name of the module of the file.
-    pub(crate) fn name(&self) -> Option<&str> {
-        self.file.map(|file| file.name)
-    }
-
-    /// Whether commands and what Tcl knows of the host are as they were.
-    pub(crate) fn is_as_it_was(&self) -> bool {
-        !self.is_overridden
     }
 
     /// A variable of the file is set to a value, which is known or not.

@@ -8,6 +8,6 @@ mod knowledge;
 mod paths;
 mod values;
 
-pub use answers::copied;
-pub use folding::{Edit, computed_in};
+pub use answers::{MOST_BYTES, copied};
+pub use folding::{Edit, computed_in, is_bare};
 pub use knowledge::{Knowledge, KnownFile, KnownVariable, plain_name, value_among};

@@ -1,4 +1,4 @@
-//! Names of files as Tcl joins and takes them apart (file(n)), where no file is looked up.
+//! Names of files as Tcl joins and takes them apart (file(n)), where none is a home and no file is looked up.
 
 use std::alloc::{AllocError, Global};
 
@@ -18,12 +18,8 @@ fn path_of(alloc: Global, is_absolute: bool, parts: &[&str]) -> Result<String, A
     Ok(names)
 }
 
-/// The names joined, as by `file join`: those before the last that is absolute don't count. None where there is no name, or
-/// where a home would be looked up.
-pub(crate) fn joined(alloc: Global, names: &[String]) -> Result<Option<String>, AllocError> {
-    if names.is_empty() || names.iter().any(|name| name.contains('~')) {
-        return Ok(None);
-    }
+/// The names joined, as by `file join`: those before the last that is absolute don't count.
+pub(crate) fn joined(alloc: Global, names: &[String]) -> Result<String, AllocError> {
     let mut parts = Vec::new(alloc);
     let mut is_absolute = false;
     for name in names {
@@ -33,29 +29,22 @@ pub(crate) fn joined(alloc: Global, names: &[String]) -> Result<Option<String>, 
         }
         parts.append(&mut parts_of(alloc, name.as_str())?)?;
     }
-    Ok(Some(path_of(alloc, is_absolute, parts.as_slice())?))
+    path_of(alloc, is_absolute, parts.as_slice())
 }
 
-/// The last part of a path, as by `file tail`; none where a home would be looked up.
-pub(crate) fn tail_of(alloc: Global, path: &str) -> Result<Option<String>, AllocError> {
-    if path.contains('~') {
-        return Ok(None);
-    }
-    let last = parts_of(alloc, path)?.pop().unwrap_or("");
-    Ok(Some(String::from_str(alloc, last)?))
+/// The last part of a path, as by `file tail`.
+pub(crate) fn tail_of(alloc: Global, path: &str) -> Result<String, AllocError> {
+    String::from_str(alloc, parts_of(alloc, path)?.pop().unwrap_or(""))
 }
 
-/// The path without its last part, as by `file dirname`; none where a home would be looked up.
-pub(crate) fn directory_of(alloc: Global, path: &str) -> Result<Option<String>, AllocError> {
-    if path.contains('~') {
-        return Ok(None);
-    }
+/// The path without its last part, as by `file dirname`.
+pub(crate) fn directory_of(alloc: Global, path: &str) -> Result<String, AllocError> {
     let mut parts = parts_of(alloc, path)?;
     let _ = parts.pop();
     let directory = path_of(alloc, path.starts_with('/'), parts.as_slice())?;
     if directory.is_empty() {
-        Ok(Some(String::from_str(alloc, ".")?))
+        String::from_str(alloc, ".")
     } else {
-        Ok(Some(directory))
+        Ok(directory)
     }
 }

@@ -1,7 +1,7 @@
 //! The values of words of which all is known.
 
 use crate::answers::copied;
-use crate::knowledge::{Knowledge, plain_name};
+use crate::knowledge::{Knowledge, plain_name, value_among};
 use std::alloc::{AllocError, Global};
 use tcltext::script::{ByteRange, Command, Part, Word, WordContent};
 
@@ -14,7 +14,7 @@ impl Knowledge<'_> {
         index: &str,
     ) -> Result<Option<String>, AllocError> {
         match plain_name(array) {
-            "env" => copied(alloc, self.environment(index)),
+            "env" => copied(alloc, value_among(self.environment.as_slice(), index)),
             "tcl_platform" => copied(alloc, self.platform(index)),
             _ => Ok(None),
         }

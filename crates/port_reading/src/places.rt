@@ -39,11 +39,10 @@ pub fn words_of<'t>(
     text: &'t str,
     command: &Command<ByteRange>,
 ) -> Result<Vec<Option<&'t str>>, AllocError> {
-    let mut words = Vec::new(alloc);
-    for word in &command.words {
-        words.push(constant(text, word).map(|word| word.value))?;
-    }
-    Ok(words)
+    let words = command.words.iter();
+    words
+        .map(|word| constant(text, word).map(|word| word.value))
+        .collect(alloc)
 }
 
 /// Where the words of a command stand, with their braces and quotes; none where one stands elsewhere than the tree has it.
@@ -68,10 +67,7 @@ pub fn places_of_words(
 /// What stands in a text from a place on, up to a newline or a semicolon.
 pub fn first_line(text: &str, at: usize) -> &str {
     let rest = rest_at(text, at);
-    match rest.split_once(['\n', ';']) {
-        Some((line, _)) => line,
-        None => rest,
-    }
+    rest.split_once(['\n', ';']).map_or(rest, |parts| parts.0)
 }
 
 /// How many lines end in a text.

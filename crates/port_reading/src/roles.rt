@@ -19,15 +19,6 @@ pub enum Role {
     Patterns,
 }
 
-/// Adds the roles of words, of which the last is a script with this role and the others are values.
-fn last_is(roles: &mut Vec<Role>, words: &[Option<&str>], role: Role) -> Result<(), AllocError> {
-    let last = words.len().saturating_sub(1);
-    for (place, _) in words.iter().enumerate() {
-        roles.push(if place == last { role } else { Role::Value })?;
-    }
-    Ok(())
-}
-
 /// The role of a word of if(n), which is a condition or stands behind one.
 fn role_in_if(word: Option<&str>, is_condition: bool) -> Role {
     if is_condition {
@@ -89,19 +80,7 @@ fn roles_in_switch(roles: &mut Vec<Role>, words: &[Option<&str>]) -> Result<(), 
     Ok(())
 }
 
-/// Gives each word the role of the same place, and those behind the last one the role of a value.
-fn roles_in_order(
-    roles: &mut Vec<Role>,
-    words: &[Option<&str>],
-    those: &[Role],
-) -> Result<(), AllocError> {
-    for (place, _) in words.iter().enumerate() {
-        roles.push(those.get(place).copied().unwrap_or(Role::Value))?;
-    }
-    Ok(())
-}
-
-/// Adds the roles of the words behind the name of a command.
+/// Adds the roles of the words behind the name of a command, as far as some of these aren't values.
 fn roles_behind(
     roles: &mut Vec<Role>,
     name: &str,
@@ -109,25 +88,17 @@ fn roles_behind(
 ) -> Result<(), AllocError> {
     match name {
         "if" => roles_in_if(roles, words),
-        "expr" => {
-            for _ in words {
-                roles.push(Role::Expression)?;
-            }
-            Ok(())
+        "expr" => roles.resize(words.len().saturating_add(1), Role::Expression),
+        "while" => roles.extend_from_slice(&[Role::Expression, Role::Body]),
+        "for" => roles.extend_from_slice(&[Role::Body, Role::Expression, Role::Body, Role::Body]),
+        "foreach" => {
+            roles.resize(words.len().max(1), Role::Value)?;
+            roles.extend_from_slice(&[Role::Body])
         }
-        "while" => roles_in_order(roles, words, &[Role::Expression, Role::Body]),
-        "for" => {
-            roles_in_order(
-                roles,
-                words,
-                &[Role::Body, Role::Expression, Role::Body, Role::Body],
-            )
-        }
-        "foreach" => last_is(roles, words, Role::Body),
-        "catch" => roles_in_order(roles, words, &[Role::Caught]),
-        "proc" => roles_in_order(roles, words, &[Role::Value, Role::Value, Role::Procedure]),
+        "catch" => roles.extend_from_slice(&[Role::Caught]),
+        "proc" => roles.extend_from_slice(&[Role::Value, Role::Value, Role::Procedure]),
         "switch" => roles_in_switch(roles, words),
-        _ => roles_in_order(roles, words, &[]),
+        _ => Ok(()),
     }
 }
 
@@ -137,6 +108,7 @@ pub fn roles_of(alloc: Global, words: &[Option<&str>]) -> Result<Vec<Role>, Allo
     if let [first, others @ ..] = words {
         roles.push(Role::Value)?;
         roles_behind(&mut roles, first.unwrap_or(""), others)?;
+        roles.resize(words.len(), Role::Value)?;
     }
     Ok(roles)
 }

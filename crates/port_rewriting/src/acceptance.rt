@@ -2,13 +2,11 @@
 
 use crate::scopes::FileKind;
 use modulefile::{CallFault, call_of, command_names, is_unsupported_command};
+use port_constants::MOST_BYTES;
 use std::alloc::{AllocError, Global};
 use tclforms::{Form, SimpleForm, core_form, is_reserved, is_unsupported};
 use tclvalue::operators::ValueFault;
 use tclvalue::{is_value_command, value_command};
-
-/// The most bytes of a value.
-const MOST_BYTES: usize = 65_536;
 
 /// What stands for a word that is computed: a number, a list and a name.
 const SOME_WORD: &str = "0";

@@ -63,11 +63,9 @@ impl PieceFindings {
 
     /// Notes that it is written in another way; the worse of two outcomes counts.
     pub(crate) fn rewrite(&mut self, outcome: Outcome) {
-        let is_worse = match &self.outcome {
-            Some(other) => other.class() == Class::Exact && outcome.class() == Class::Changed,
-            None => true,
-        };
-        if is_worse {
+        let class = outcome.class();
+        let other = self.outcome.as_ref();
+        if other.is_none_or(|it| it.class() == Class::Exact && class == Class::Changed) {
             self.outcome = Some(outcome);
         }
     }
@@ -76,11 +74,7 @@ impl PieceFindings {
     pub(crate) fn leave(&mut self, place: usize, said: String)
         ensures { IsSome self.new.left }
     {
-        let is_first = match &self.left {
-            Some(left) => place < left.place,
-            None => true,
-        };
-        if is_first {
+        if self.left.as_ref().is_none_or(|left| place < left.place) {
             self.left = Some(LeftPart { place, said });
         }
     }
@@ -89,10 +83,7 @@ impl PieceFindings {
 /// What stands at a place, up to a newline.
 fn line_at(text: &str, place: ByteRange) -> &str {
     let part = place.of(text);
-    match part.split_once('\n') {
-        Some((line, _)) => line,
-        None => part,
-    }
+    part.split_once('\n').map_or(part, |parts| parts.0)
 }
 
 /// A part of a text, and the line where it begins.

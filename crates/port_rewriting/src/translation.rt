@@ -85,10 +85,9 @@ fn split_within(text: &str, length: usize) -> (&str, &str)
 
 /// Where the command of this number begins, or the end of the text behind the last.
 fn start_of(text: &str, commands: &[Command<ByteRange>], number: usize) -> usize {
-    match commands.get(number) {
-        Some(command) => command.offset,
-        None => text.len(),
-    }
+    commands
+        .get(number)
+        .map_or(text.len(), |command| command.offset)
 }
 
 impl<'f> Reader<'f> {
