@@ -1,5 +1,6 @@
 -- Names that exclude modules.
-use Rattle.std.proofs.Common.{◌≡◌, ◌≢◌, ◌||◌, ◌<◌, ◌+◌, ℕ, Bool, true, false, List, [], ◌∷◌, ◌++◌, get_or, length, map, take, refl, sym, ap, subst, ◌∙◌, inl, inr, string_bytes}
+use Rattle.std.proofs.Common.{◌≡◌, ◌≢◌, ◌||◌, ◌&&◌, ◌==◌, ◌<◌, ◌+◌, ℕ, Bool, true, false, List, [], ◌∷◌, ◌++◌, get_or, length, map, take, refl, sym, ap, subst, ◌∙◌, inl, inr, string_bytes}
+use Rattle.std.proofs.Math.Dec.{T, eqb_refl}
 use Rattle.std.proofs.lemmas.Bool.{cases_Bool}
 use Rattle.std.proofs.lemmas.List.{map-append, take_more}
 use Rattle.std.proofs.lemmas.List.Folds.{list_any-append}
@@ -26,7 +27,20 @@ still names n x h = pushed names n x ∙ ap (λ b. b || (means (string_bytes n) 
 pub by_last : (names : List (String Global)) (n : String Global) (x : Text) → means (string_bytes n) x ≡ true → is_excluded (names ++ n ∷ []) x ≡ true
 by_last names n x h = pushed names n x ∙ (ap (λ b. is_excluded names x || (b || false)) h ∙ or_true (is_excluded names x))
 
-found_last : (a b : Bool) → a ≡ false → (a || (b || false)) ≡ true → b ≡ true
+from_T : (b : Bool) → T b → b ≡ true
+from_T true h = refl
+from_T false h = absurd h
+
+-- a name means the module of this name
+means_itself : (x : Text) → means x x ≡ true
+means_itself [] = refl
+means_itself (c ∷ cs) = ap (λ b. b && means cs cs) (from_T (c == c) (eqb_refl c)) ∙ means_itself cs
+
+-- the last name excludes the module of its name
+pub by_itself : (names : List (String Global)) (n : String Global) (x : Text) → string_bytes n ≡ x → is_excluded (names ++ n ∷ []) x ≡ true
+by_itself names n x e = by_last names n x (ap (λ (t : Text). means t x) e ∙ means_itself x)
+
+pub found_last : (a b : Bool) → a ≡ false → (a || (b || false)) ≡ true → b ≡ true
 found_last true b f h = let never : true ≡ false = f in cc
 found_last false true f h = refl
 found_last false false f h = h
@@ -45,7 +59,7 @@ one_more is_member modules m own old new h keep here = λ other among ne member.
           subst (λ (o : Text). is_excluded new o ≡ true) e (here (λ k. ne (sym e ∙ k)) (ap is_member e ∙ member))
     ]
 
-next_text : (ms : List (String Global)) (i : ℕ) (m : String Global) → i < length ms → m ≡ get_or ms i m
+pub next_text : (ms : List (String Global)) (i : ℕ) (m : String Global) → i < length ms → m ≡ get_or ms i m
     → map string_bytes (take (i + 1) ms) ≡ map string_bytes (take i ms) ++ string_bytes m ∷ []
 next_text ms i m below is =
     ap (map string_bytes) (take_more ms i m below) ∙ (map-append string_bytes (take i ms) (get_or ms i m ∷ [])

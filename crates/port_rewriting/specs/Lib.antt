@@ -1,5 +1,7 @@
 pub mod AccountViews
 pub mod Accounts
+pub mod Asking
+pub mod AskingViews
 pub mod Classes
 pub mod Families
 pub mod FamilyViews

@@ -1,4 +1,10 @@
 //! The classes of commands: what is written for each, by its words and what is known of the site.
+ghost use Rattle.std.specs.Prelude.{◌≡◌, IfOk, IfSome, IsTrue, ◌∷◌, codes, map};
+ghost use Rattle.port_rewriting.specs.Asking.{AreAdded, AreNeeded, AreSomeNeeded, AreUsed, EachStands};
+ghost use Rattle.port_rewriting.specs.Asking.{IsAbsolute, IsFolder, IsOneNeeded};
+ghost use Rattle.port_rewriting.specs.AskingViews.{AreAskedFor, Asks, AsksNothing, IsAskedBy};
+ghost use Rattle.port_rewriting.specs.AskingViews.{IsOfFamily, MayAsk, StandsFor};
+ghost use Rattle.port_rewriting.specs.RecordViews.{lists_view, records_view, shown, texts_in};
 
 use crate::acceptance::{filled, is_name_read, is_read};
 use crate::aliases::{is_folder, script_of};
@@ -7,32 +13,23 @@ use crate::guards::guard_of;
 use crate::meanings::{added, any_needed, each_needed, in_family};
 use crate::names::{Meaning, Site, folder_of, is_plain, meaning_in};
 use crate::reader::Reader;
+use crate::records::written;
 use crate::rewrite::{Case, Rewrite};
 use crate::scopes::{FileKind, Scope};
-use crate::symbols::{full_name, in_place};
-use modulefile::PathEdit;
+use crate::symbols::{all_known, full_name, in_place};
+use modulefile::{PathEdit, Record};
 use std::alloc::AllocError;
 use tcltext::chars::is_name;
 
 /// How modules are asked for.
 #[derive(Clone, Copy, PartialEq, Eq)]
-pub(crate) enum Ask {
+enum Ask {
     /// They are loaded in this place.
     Load,
     /// They are loaded, if they are there.
     Try,
     /// They have to be loaded.
     Need,
-}
-
-/// How a command of these first words asks for modules, where it does, and how many words stand before their names.
-pub(crate) fn ask_of(name: &str, word: Option<&str>) -> Option<(Ask, usize)> {
-    match (name, word) {
-        ("module", Some("load" | "add")) => Some((Ask::Load, 2)),
-        ("module", Some("try-load")) => Some((Ask::Try, 2)),
-        ("depends-on" | "prereq-all", _) => Some((Ask::Need, 1)),
-        _ => None,
-    }
 }
 
 /// Whether a part of a path can be written as it is.
@@ -44,7 +41,9 @@ fn is_plain_part(part: &str) -> bool {
 }
 
 /// Whether a directory can be written as a word of a script, and is the same wherever a shell is.
-fn is_directory(word: &str) -> bool {
+fn is_directory(word: &str) -> bool
+    ensures { IsTrue result → IsAbsolute word.now }
+{
     word.starts_with('/') && word.split('/').all(|part| is_plain_part(part))
 }
 
@@ -61,6 +60,13 @@ fn is_of_default_files(name: &str) -> bool {
     )
 }
 
+/// Whether one of the records adds a directory that modules are searched in.
+fn adds_search(records: &[Record]) -> bool {
+    records.iter().any(|record| record
+        .added_elements()
+        .is_some_and(|added| added.0 == "MODULEPATH"))
+}
+
 /// Whether a shell takes something in a value for a home.
 fn has_tilde(word: Option<&str>) -> bool {
     word.is_some_and(|value| value.starts_with('~') || value.contains(":~"))
@@ -68,12 +74,16 @@ fn has_tilde(word: Option<&str>) -> bool {
 
 impl<'f> Reader<'f> {
     /// The command as it is, which isn't read as it was meant, by what is said.
-    fn left(&self, said: &str) -> Result<Rewrite, AllocError> {
+    fn left(&self, said: &str) -> Result<Rewrite, AllocError>
+        ensures { IfOk result AsksNothing }
+    {
         Ok(Rewrite::Left(String::from_str(self.alloc, said)?))
     }
 
     /// The modules of which one is meant by a name that is asked for; none where that can't be written.
-    fn asked(&self, name: &str) -> Result<Option<Vec<String>>, AllocError> {
+    fn asked(&self, name: &str) -> Result<Option<Vec<String>>, AllocError>
+        ensures { IfOk result (λ found. IfSome found (λ v. StandsFor self.now.given.site name.now (texts_in v))) }
+    {
         match meaning_in(self.alloc, self.given.site, name)? {
             Meaning::Modules(modules) => Ok(Some(modules)),
             Meaning::Same if is_plain(name) => {
@@ -93,13 +103,11 @@ impl<'f> Reader<'f> {
 
     /// Whether a module that is asked for may be missing, or there only for this file.
     fn is_missing(&self, ask: Ask, name: &str) -> Result<bool, AllocError> {
-        match ask {
-            Ask::Need => Ok(false),
-            Ask::Try => match self.given.site {
-                Some(site) => Ok(site.is_family(name) || !self.is_there(name)?),
-                None => Ok(self.has_search),
-            },
-            Ask::Load => Ok(self.has_search && !self.is_there(name)?),
+        match (ask, self.given.site) {
+            (Ask::Need, _) => Ok(false),
+            (Ask::Try, Some(site)) => Ok(site.is_family(name) || !self.is_there(name)?),
+            (Ask::Try, None) => Ok(self.has_search),
+            (Ask::Load, _) => Ok(self.has_search && !self.is_there(name)?),
         }
     }
 
@@ -117,16 +125,12 @@ impl<'f> Reader<'f> {
     }
 
     /// For each of some names the modules of which one is asked for; none where that can't be written.
-    fn all_asked(
-        &self,
-        ask: Ask,
-        names: &[Option<&str>],
-    ) -> Result<Option<Vec<Vec<String>>>, AllocError> {
+    fn all_asked(&self, ask: Ask, names: &[&str]) -> Result<Option<Vec<Vec<String>>>, AllocError>
+        ensures { IfOk result (λ found. IfSome found (λ lists.
+            EachStands (StandsFor self.now.given.site) (map shown names.now) (lists_view lists.items))) }
+    {
         let mut lists = Vec::new(self.alloc);
         for name in names {
-            let Some(name) = *name else {
-                return Ok(None);
-            };
             match self.asked(name)? {
                 Some(modules) if !self.is_missing(ask, name)? => lists.push(modules)?,
                 _ => return Ok(None),
@@ -135,61 +139,91 @@ impl<'f> Reader<'f> {
         Ok(if lists.is_empty() { None } else { Some(lists) })
     }
 
+    /// Commands that leave these records; none where their text would be read in another way.
+    fn spell(&self, records: &[Record], case: Option<Case>) -> Result<Option<Rewrite>, AllocError>
+        ensures { MayAsk result (λ rs. rs ≡ records_view records.now) }
+    {
+        let searches = adds_search(records);
+        match written(self.alloc, records)? {
+            Some(text) => Ok(Some(Rewrite::Commands(text, searches, case))),
+            None => Ok(None),
+        }
+    }
+
     /// What is written where each of some modules is asked for.
-    fn asking(&self, ask: Ask, names: &[Option<&str>]) -> Result<Option<Rewrite>, AllocError> {
+    fn asking(&self, ask: Ask, names: &[&str]) -> Result<Option<Rewrite>, AllocError>
+        ensures { MayAsk result (AreNeeded (StandsFor self.now.given.site) (map shown names.now)) }
+    {
         let Some(lists) = self.all_asked(ask, names)? else {
             return Ok(None);
         };
         let records = each_needed(self.alloc, lists.as_slice())?;
-        Ok(Some(Rewrite::Records(records, self.case_of(ask))))
+        self.spell(records.as_slice(), self.case_of(ask))
     }
 
     /// What is written where one of some modules is asked for.
-    fn asking_one(&self, names: &[Option<&str>]) -> Result<Option<Rewrite>, AllocError> {
+    fn asking_one(&self, names: &[&str]) -> Result<Option<Rewrite>, AllocError>
+        ensures { MayAsk result (IsOneNeeded (StandsFor self.now.given.site) (map shown names.now)) }
+    {
         let Some(lists) = self.all_asked(Ask::Need, names)? else {
             return Ok(None);
         };
         let records = any_needed(self.alloc, lists.as_slice())?;
-        Ok(Some(Rewrite::Records(records, None)))
+        self.spell(records.as_slice(), None)
     }
 
     /// What is written where directories are searched.
-    fn searching(
-        &self,
-        edit: PathEdit,
-        words: &[Option<&str>],
-    ) -> Result<Option<Rewrite>, AllocError> {
+    fn searching(&self, edit: PathEdit, words: &[&str]) -> Result<Option<Rewrite>, AllocError>
+        ensures { MayAsk result (AreAdded edit (map shown words.now)) }
+    {
         let mut directories = Vec::new(self.alloc);
         for word in words {
-            match *word {
-                Some(word) if is_directory(word) => {
-                    directories.push(String::from_str(self.alloc, word)?)?;
-                }
-                _ => return Ok(None),
+            if !is_directory(word) {
+                return Ok(None);
             }
+            directories.push(String::from_str(self.alloc, word)?)?;
         }
         if directories.is_empty() {
             return Ok(None);
         }
         let records = added(self.alloc, edit, "MODULEPATH", directories)?;
-        Ok(Some(Rewrite::Records(records, None)))
+        self.spell(records.as_slice(), None)
     }
 
     /// What is written for `module use` with these words.
-    fn module_use(&self, words: &[Option<&str>]) -> Result<Option<Rewrite>, AllocError> {
-        match words {
-            [Some("-a" | "--append" | "-append"), those @ ..] => {
-                self.searching(PathEdit::Back, those)
-            }
-            [Some("-p" | "--prepend" | "-prepend"), those @ ..] | those => {
-                self.searching(PathEdit::Front, those)
-            }
+    fn module_use(&self, words: &[&str]) -> Result<Option<Rewrite>, AllocError>
+        ensures { MayAsk result (AreUsed (map shown words.now)) }
+    {
+        let [option, those @ ..] = words else {
+            return Ok(None);
+        };
+        match *option {
+            "-a" | "--append" | "-append" => self.searching(PathEdit::Back, those),
+            "-p" | "--prepend" | "-prepend" => self.searching(PathEdit::Front, those),
+            _ => self.searching(PathEdit::Front, words),
         }
     }
 
-    /// What is written for a family.
-    fn family(&self, name: &str) -> Result<Option<Rewrite>, AllocError> {
-        let (Some(site), Some(file)) = (self.given.site, self.given.file) else {
+    /// What is written for the command `module` with these words, which stands at the top or not.
+    fn by_module(&self, is_top: bool, words: &[&str]) -> Result<Option<Rewrite>, AllocError>
+        ensures { MayAsk result (Asks self.now.given (codes "module" ∷ map shown words.now)) }
+    {
+        let [name, others @ ..] = words else {
+            return Ok(None);
+        };
+        match *name {
+            "load" | "add" if is_top => self.asking(Ask::Load, others),
+            "try-load" if is_top => self.asking(Ask::Try, others),
+            "use" => self.module_use(others),
+            _ => Ok(None),
+        }
+    }
+
+    /// What is written for a family with these words.
+    fn family(&self, words: &[&str]) -> Result<Option<Rewrite>, AllocError>
+        ensures { MayAsk result (IsOfFamily self.now.given.site self.now.given.file (map shown words.now)) }
+    {
+        let (Some(site), Some(file), [name]) = (self.given.site, self.given.file, words) else {
             return Ok(None);
         };
         let module = match folder_of(file.name) {
@@ -200,15 +234,17 @@ impl<'f> Reader<'f> {
         match site.conflicts_of(self.alloc, name, file.name)? {
             Some(conflicts) if is_family && is_plain(module) => {
                 let records = in_family(self.alloc, name, module, conflicts)?;
-                Ok(Some(Rewrite::Records(records, None)))
+                self.spell(records.as_slice(), None)
             }
             _ => Ok(None),
         }
     }
 
-    /// What is written for an alias, where a folder for its script is given; the script is kept.
-    fn alias(&mut self, name: &str, text: &str) -> Result<Option<Rewrite>, AllocError> {
-        let Some(folder) = self.given.scripts_folder else {
+    /// What is written for an alias with these words, where a folder for its script is given; the script is kept.
+    fn alias(&mut self, words: &[&str]) -> Result<Option<Rewrite>, AllocError>
+        ensures { MayAsk result IsFolder }
+    {
+        let (Some(folder), [name, text]) = (self.given.scripts_folder, words) else {
             return Ok(None);
         };
         match script_of(self.alloc, name, text)? {
@@ -216,14 +252,16 @@ impl<'f> Reader<'f> {
                 self.scripts.push(script)?;
                 let folders = vec![in self.alloc; String::from_str(self.alloc, folder)?]?;
                 let records = added(self.alloc, PathEdit::Front, "PATH", folders)?;
-                Ok(Some(Rewrite::Records(records, Some(Case::Script))))
+                self.spell(records.as_slice(), Some(Case::Script))
             }
             _ => Ok(None),
         }
     }
 
     /// What is written for a command of these words, of which the first is this name and the others name modules.
-    fn naming(&self, name: &str, words: &[Option<&str>]) -> Result<Rewrite, AllocError> {
+    fn naming(&self, name: &str, words: &[Option<&str>]) -> Result<Rewrite, AllocError>
+        ensures { IfOk result AsksNothing }
+    {
         let mut texts = Vec::new(self.alloc);
         for (number, word) in words.iter().enumerate() {
             let meaning = match *word {
@@ -245,43 +283,47 @@ impl<'f> Reader<'f> {
     }
 
     /// What is written for an `if` that only loads modules.
-    fn guard(&self, words: &[Option<&str>]) -> Result<Option<Rewrite>, AllocError> {
-        let Some(loads) = guard_of(self.alloc, words)? else {
-            return Ok(None);
-        };
-        let names: Vec<_> = loads.iter().map(|load| Some(*load)).collect(self.alloc)?;
-        self.asking(Ask::Load, names.as_slice())
+    fn guard(&self, words: &[&str]) -> Result<Option<Rewrite>, AllocError>
+        ensures { MayAsk result (AreSomeNeeded (StandsFor self.now.given.site)) }
+    {
+        match guard_of(self.alloc, words)? {
+            Some(loads) => self.asking(Ask::Load, loads.as_slice()),
+            None => Ok(None),
+        }
     }
 
     /// What is written for a command that asks for something that other commands say here.
-    fn form(
-        &mut self,
-        scope: Scope,
-        words: &[Option<&str>],
-    ) -> Result<Option<Rewrite>, AllocError> {
-        if !scope.is_statement() {
+    fn form(&mut self, is_top: bool, words: &[&str]) -> Result<Option<Rewrite>, AllocError>
+        ensures { MayAsk result (Asks self.old.given (map shown words.now)) }
+    {
+        let [name, others @ ..] = words else {
             return Ok(None);
+        };
+        match *name {
+            "depends-on" | "prereq-all" => self.asking(Ask::Need, others),
+            "prereq-any" => self.asking_one(others),
+            "module" => self.by_module(is_top, others),
+            "family" if is_top => self.family(others),
+            "set-alias" if is_top => self.alias(others),
+            "if" if is_top => self.guard(others),
+            _ => Ok(None),
         }
-        if let [Some(name), others @ ..] = words {
-            match ask_of(name, others.first().copied().flatten()) {
-                Some((ask, front)) if scope.is_top || ask == Ask::Need => {
-                    return self.asking(ask, words.get(front..).unwrap_or(&[]));
-                }
-                _ => {}
-            }
-        }
-        match words {
-            [Some("module"), Some("use"), those @ ..] => self.module_use(those),
-            [Some("prereq-any"), names @ ..] => self.asking_one(names),
-            [Some("family"), Some(name)] if scope.is_top => self.family(name),
-            [Some("set-alias"), Some(name), Some(text)] if scope.is_top => self.alias(name, text),
-            [Some("if"), ..] if scope.is_top => self.guard(words),
+    }
+
+    /// What is written for a command whose words are all known, where it asks for something that other commands say here.
+    fn meant(&mut self, scope: Scope, words: &[Option<&str>]) -> Result<Option<Rewrite>, AllocError>
+        ensures { MayAsk result (AreAskedFor self.old.given words.now) }
+    {
+        match all_known(self.alloc, words)? {
+            Some(known) if scope.is_statement() => self.form(scope.is_top, known.as_slice()),
             _ => Ok(None),
         }
     }
 
     /// What is written for a command with an option that isn't read here, where that is the command without it.
-    fn without_option(&self, words: &[Option<&str>]) -> Option<Rewrite> {
+    fn without_option(&self, words: &[Option<&str>]) -> Option<Rewrite>
+        ensures { IfSome result AsksNothing }
+    {
         match words {
             [
                 Some("prepend-path" | "append-path"),
@@ -326,7 +368,9 @@ impl<'f> Reader<'f> {
     }
 
     /// What is written for a symbol of a default file.
-    fn symbol(&self, name: &str, words: &[Option<&str>]) -> Result<Rewrite, AllocError> {
+    fn symbol(&self, name: &str, words: &[Option<&str>]) -> Result<Rewrite, AllocError>
+        ensures { IfOk result AsksNothing }
+    {
         match self.unread_symbol(name, words)? {
             Some(said) => self.left(said),
             None => Ok(Rewrite::Keep),
@@ -366,11 +410,13 @@ impl<'f> Reader<'f> {
 
     /// What is written for a command of these words that isn't read here: nothing, where it is to be dropped. Else its name is
     /// said, and the option that isn't read.
-    fn unread(&self, name: &str, words: &[Option<&str>]) -> Result<Rewrite, AllocError> {
+    fn unread(&self, name: &str, words: &[Option<&str>]) -> Result<Rewrite, AllocError>
+        ensures { IfOk result AsksNothing }
+    {
         let is_droppable = self.given.kind == FileKind::Defaults && is_of_default_files(name);
         match words {
             _ if is_droppable && self.given.drops_unread => {
-                Ok(Rewrite::Records(Vec::new(self.alloc), Some(Case::Dropped)))
+                Ok(Rewrite::Commands(String::new(self.alloc), false, Some(Case::Dropped)))
             }
             [_, Some(option), ..]
                 if option.starts_with('-') && is_name_read(self.given.kind, name) => {
@@ -387,9 +433,11 @@ impl<'f> Reader<'f> {
         name: &str,
         words: &[Option<&str>],
         expands: bool,
-    ) -> Result<Rewrite, AllocError> {
+    ) -> Result<Rewrite, AllocError>
+        ensures { IfOk result (IsAskedBy (AreAskedFor self.old.given words.now)) }
+    {
         if self.given.kind == FileKind::Modulefile && !expands {
-            if let Some(rewrite) = self.form(scope, words)? {
+            if let Some(rewrite) = self.meant(scope, words)? {
                 return Ok(rewrite);
             }
             if let Some(rewrite) = self.without_option(words) {
@@ -422,7 +470,10 @@ impl<'f> Reader<'f> {
         name: &str,
         words: &[Option<&str>],
         expands: bool,
-    ) -> Result<Rewrite, AllocError> {
+    ) -> Result<Rewrite, AllocError>
+        // Its commands leave records that the words ask for, unless the command is dropped.
+        ensures { IfOk result (IsAskedBy (AreAskedFor self.old.given words.now)) }
+    {
         let rewrite = self.rewrite_of(scope, name, words, expands)?;
         if self.given.is_strict && rewrite.class() == Class::Changed {
             return self.left(name);

@@ -2,7 +2,6 @@
 ghost use Rattle.std.specs.Prelude.{◌≡◌, IfSome, IsTrue, map};
 ghost use Rattle.port_rewriting.specs.RecordViews.{shown};
 
-use crate::classifying::{Ask, ask_of};
 use crate::conditions::{Condition, condition_of};
 use crate::symbols::constant_words;
 use std::alloc::{AllocError, Global};
@@ -18,14 +17,11 @@ fn loads_of_script<'t>(
     let mut loads = Vec::new(alloc);
     for command in &script.commands {
         let words = constant_words(alloc, body, command)?;
-        let [name, others @ ..] = words.as_slice() else {
-            return Ok(None);
-        };
-        match (ask_of(name, others.first().copied()), others) {
-            (Some((Ask::Load | Ask::Need, front)), _) => {
-                loads.extend_from_slice(words.get(front..).unwrap_or(&[]))?;
+        match words.as_slice() {
+            ["module", "load" | "add", names @ ..] | ["depends-on" | "prereq-all", names @ ..] => {
+                loads.extend_from_slice(names)?;
             }
-            (None, ["stderr", _] | ["-nonewline", "stderr", _]) if *name == "puts" => {}
+            ["puts", "stderr", _] | ["puts", "-nonewline", "stderr", _] => {}
             _ => return Ok(None),
         }
     }
@@ -83,20 +79,16 @@ fn guard_of_bodies<'t>(
     Ok(if is_guard { Some(loads) } else { None })
 }
 
-/// The modules that the command `if` of these words loads, where it does nothing else.
+/// The modules that the command `if` with these words loads, where it does nothing else.
 pub(crate) fn guard_of<'t>(
     alloc: Global,
-    words: &[Option<&'t str>],
+    words: &[&'t str],
 ) -> Result<Option<Vec<&'t str>>, AllocError> {
     match words {
-        [Some("if"), Some(condition), Some(body)] => guard_of_bodies(alloc, condition, body, None),
-        [
-            Some("if"),
-            Some(condition),
-            Some(body),
-            Some("else"),
-            Some(other),
-        ] => { guard_of_bodies(alloc, condition, body, Some(*other)) }
+        [condition, body] => guard_of_bodies(alloc, condition, body, None),
+        [condition, body, "else", other] => {
+            guard_of_bodies(alloc, condition, body, Some(*other))
+        }
         _ => Ok(None),
     }
 }

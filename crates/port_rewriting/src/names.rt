@@ -1,6 +1,9 @@
 //! What names mean among the modules of a site: there, by versions, symbols and families; and here.
 ghost use Rattle.std.specs.Prelude.{◌≡◌, ◌≢◌, IfOk, IfSome, IsTrue, OnOk, true, map, string_bytes};
 ghost use Rattle.tcltext.specs.chars.Runs.{Text};
+ghost use Rattle.modulename.specs.ModuleName as module_name;
+ghost use Rattle.port_rewriting.specs.AskingViews as views;
+ghost use Rattle.port_rewriting.specs.AskingViews.{IsMet, MeansIn, MeansSo};
 ghost use Rattle.port_rewriting.specs.Families as spec;
 ghost use Rattle.port_rewriting.specs.Families.{ExcludesOthers};
 ghost use Rattle.port_rewriting.specs.FamilyViews.{is_in_family};
@@ -8,8 +11,9 @@ ghost use Rattle.port_rewriting.specs.RecordViews.{texts_in};
 
 use crate::symbols::VersionSymbol;
 use modulename::means;
+use port_constants::is_bare;
 use std::alloc::{AllocError, Global};
-use tcltext::chars::{is_gap, is_name, is_special};
+use tcltext::chars::is_name;
 
 /// A module that is in a family.
 #[derive(Debug, Drop)]
@@ -46,17 +50,9 @@ pub(crate) enum Meaning {
     Unknown,
 }
 
-/// Whether a byte stands for itself in a script.
-fn is_literal(byte: u8) -> bool {
-    !is_gap(byte) && !is_special(byte)
-}
-
 /// Whether a name can be written as a word of a script.
 pub(crate) fn is_plain(name: &str) -> bool {
-    match name.as_bytes() {
-        [] => false,
-        [first, ..] => is_name(*first) && name.bytes().all(|byte| is_literal(byte)),
-    }
+    is_bare(name) && name.bytes().next().is_some_and(|first| is_name(first))
 }
 
 /// Whether a word is more than a name, as one with versions, ranges or variants.
@@ -79,7 +75,9 @@ fn is_part(name: &str, called: &str) -> bool {
 }
 
 /// Whether a name means there what is called so: it, what is below it, and the versions that it is a part of.
-fn means_there(name: &str, called: &str) -> bool {
+fn means_there(name: &str, called: &str) -> bool
+    ensures { module_name.means name.now called.now ≡ true → IsTrue result }
+{
     means(name, called) || is_part(name, called)
 }
 
@@ -100,9 +98,14 @@ fn is_excluded(names: &[String], own: &str) -> bool
     names.iter().any(|name| means(name.as_str(), own))
 }
 
-/// Adds a name, unless it is there.
-fn add_once(alloc: Global, names: &mut Vec<String>, name: &str) -> Result<(), AllocError> {
-    if !is_among(names.as_slice(), name) {
+/// Adds a name, unless one that is there means it.
+#[tactic(auto, using(crate::proofs::Excluding::still, crate::proofs::Excluding::by_itself))]
+fn add_once(alloc: Global, names: &mut Vec<String>, name: &str) -> Result<(), AllocError>
+    ensures kept { OnOk result ((x : Text) → spec.is_excluded names.old.items x ≡ true
+        → spec.is_excluded names.new.items x ≡ true) }
+    ensures there { OnOk result (spec.is_excluded names.new.items name.now ≡ true) }
+{
+    if !is_excluded(names.as_slice(), name) {
         names.push(String::from_str(alloc, name)?)?;
     }
     Ok(())
@@ -156,10 +159,10 @@ impl Site {
     }
 
     /// Whether a name means a module there.
-    fn is_meant(&self, name: &str, module: &str) -> bool {
-        means_there(name, module)
-            || self.is_symbol_for(name, module)
-            || self.is_family_of(name, module)
+    fn is_meant(&self, name: &str, own: &str) -> bool
+        ensures { views.is_meant self.now name.now own.now ≡ true → IsTrue result }
+    {
+        means_there(name, own) || self.is_symbol_for(name, own) || self.is_family_of(name, own)
     }
 
     /// Whether a module has this whole name.
@@ -202,11 +205,13 @@ impl Site {
     }
 
     /// The modules that a name means there, with those of other directories that symbols mean.
-    fn meant(&self, alloc: Global, name: &str) -> Result<Vec<String>, AllocError> {
+    fn meant(&self, alloc: Global, name: &str) -> Result<Vec<String>, AllocError>
+        ensures { IfOk result (λ v. IsMet self.now name.now (spec.is_excluded v.items)) }
+    {
         let mut meant = Vec::new(alloc);
-        for module in &self.modules {
-            if self.is_meant(name, module.as_str()) {
-                meant.push(module.clone()?)?;
+        for own in &self.modules {
+            if self.is_meant(name, own.as_str()) {
+                add_once(alloc, &mut meant, own.as_str())?;
             }
         }
         for symbol in &self.symbols {
@@ -218,27 +223,29 @@ impl Site {
     }
 
     /// Whether a name means the same modules here and there.
-    fn is_same(&self, name: &str) -> bool {
-        self.modules.iter().all(|module| self.is_meant(name, module.as_str())
-            == means(name, module.as_str()))
-            && self.symbols.iter().all(|symbol| {
-                let symbol = symbol.name.as_str();
-                !means_there(name, symbol) || means(name, self.version_of(symbol))
-            })
+    fn is_same(&self, name: &str) -> bool
+        ensures { IsTrue result → IsMet self.now name.now (module_name.means name.now) }
+    {
+        for own in &self.modules {
+            if self.is_meant(name, own.as_str()) && !means(name, own.as_str()) {
+                return false;
+            }
+        }
+        self.symbols.iter().all(|symbol| {
+            let symbol = symbol.name.as_str();
+            !means_there(name, symbol) || means(name, self.version_of(symbol))
+        })
     }
 
     /// What a word means that names modules.
-    pub(crate) fn meaning(&self, alloc: Global, word: &str) -> Result<Meaning, AllocError> {
+    pub(crate) fn meaning(&self, alloc: Global, word: &str) -> Result<Meaning, AllocError>
+        ensures { IfOk result (MeansSo self.now word.now) }
+    {
         if is_specification(word) || self.is_unsure(word) {
             return Ok(Meaning::Unknown);
         }
-        if self.is_same(word) {
-            let is_known = self.has(word) || !is_implicit(word);
-            return Ok(if is_known {
-                Meaning::Same
-            } else {
-                Meaning::Unknown
-            });
+        if self.is_same(word) && (self.has(word) || !is_implicit(word)) {
+            return Ok(Meaning::Same);
         }
         let meant = self.meant(alloc, word)?;
         if meant.iter().all(|module| is_plain(module.as_str())) && !meant.is_empty() {
@@ -330,7 +337,9 @@ pub(crate) fn meaning_in(
     alloc: Global,
     site: Option<&Site>,
     word: &str,
-) -> Result<Meaning, AllocError> {
+) -> Result<Meaning, AllocError>
+    ensures { IfOk result (MeansIn site.entry word.now) }
+{
     match site {
         Some(site) => site.meaning(alloc, word),
         None if is_specification(word) || is_implicit(word) => Ok(Meaning::Unknown),

@@ -6,7 +6,6 @@ use crate::aliases::ShellScript;
 use crate::pieces::PieceFindings;
 use crate::rewrite::Rewrite;
 use crate::scopes::{Given, Scope};
-use modulefile::Record;
 use port_constants::{Edit, Knowledge, computed_in, copied, plain_name};
 use port_reading::places::{ConstantWord, constant, first_line, places_of_words, words_of};
 use port_reading::roles::{Role, roles_of};
@@ -106,13 +105,6 @@ fn may_end(name: &str) -> bool {
 fn is_fraction(number: &str) -> bool {
     let is_hexadecimal = number.contains('x') || number.contains('X');
     number.contains('.') || !is_hexadecimal && (number.contains('e') || number.contains('E'))
-}
-
-/// Whether one of the records adds a directory that modules are searched in.
-fn adds_search(records: &[Record]) -> bool {
-    records.iter().any(|record| record
-        .added_elements()
-        .is_some_and(|added| added.0 == "MODULEPATH"))
 }
 
 /// Whether a place begins at a byte, or goes over it.
@@ -455,10 +447,10 @@ impl<'f> Reader<'f> {
                 self.leave(scope.place(command.source.start), said.as_str())?;
                 Ok(false)
             }
-            Rewrite::Records(records, _) => {
+            Rewrite::Commands(_, searches, _) => {
                 if self.put(scope, command, rewrite)? {
                     self.piece.is_replaced = scope.is_top;
-                    self.has_search = self.has_search || adds_search(records.as_slice());
+                    self.has_search = self.has_search || *searches;
                 }
                 Ok(false)
             }

@@ -1,8 +1,6 @@
 //! What is written for a command, and what is said of that.
 
 use crate::class::{Class, Outcome};
-use crate::records::written;
-use modulefile::Record;
 use port_constants::Edit;
 use std::alloc::{AllocError, Global};
 use tcltext::script::ByteRange;
@@ -42,8 +40,8 @@ impl Case {
 pub(crate) enum Rewrite {
     /// The command.
     Keep,
-    /// Commands that leave these records; and what differs.
-    Records(Vec<Record>, Option<Case>),
+    /// Commands of this text; whether they add a directory that modules are searched in; and what differs.
+    Commands(String, bool, Option<Case>),
     /// The command with a text in place of each word for which there is one.
     Words(Vec<Option<String>>),
     /// The command without the option that is its second word; and what differs.
@@ -56,20 +54,18 @@ impl Rewrite {
     /// What differs in what is written.
     fn case(&self) -> Option<Case> {
         match self {
-            Rewrite::Records(_, case) | Rewrite::WithoutOption(case) => *case,
+            Rewrite::Commands(_, _, case) | Rewrite::WithoutOption(case) => *case,
             _ => None,
         }
     }
 
     /// The class of the command.
     pub(crate) fn class(&self) -> Class {
-        match self {
-            Rewrite::Keep => Class::Same,
-            Rewrite::Left(_) => Class::Left,
-            _ => match self.case() {
-                Some(_) => Class::Changed,
-                None => Class::Exact,
-            },
+        match (self, self.case()) {
+            (Rewrite::Keep, _) => Class::Same,
+            (Rewrite::Left(_), _) => Class::Left,
+            (_, Some(_)) => Class::Changed,
+            (_, None) => Class::Exact,
         }
     }
 
@@ -89,11 +85,8 @@ impl Rewrite {
     ) -> Result<Option<Vec<Edit>>, AllocError> {
         let mut edits = Vec::new(alloc);
         match (self, places, places.last()) {
-            (Rewrite::Records(records, _), [first, ..], Some(last)) => {
-                let Some(text) = written(alloc, records.as_slice())? else {
-                    return Ok(None);
-                };
-                edits.push(Edit::between(first.start, last.end, text))?;
+            (Rewrite::Commands(text, _, _), [first, ..], Some(last)) => {
+                edits.push(Edit::between(first.start, last.end, text.clone()?))?;
             }
             (Rewrite::WithoutOption(_), [name, option, ..], _) => {
                 edits.push(Edit::between(name.end, option.end, String::new(alloc)))?;

@@ -1,8 +1,11 @@
 //! Version symbols: names that mean a module with a version, as a default file says.
+ghost use Rattle.std.specs.Prelude.{IfOk, IfSome, map};
+ghost use Rattle.port_rewriting.specs.AskingViews.{AreKnown};
+ghost use Rattle.port_rewriting.specs.RecordViews.{shown};
 
 use crate::translation::TranslationFault;
 use modulename::means;
-use port_reading::places::constant;
+use port_reading::places::words_of;
 use std::alloc::{AllocError, Global};
 use tcltext::script::{ByteRange, Command, parse_pieces};
 
@@ -38,20 +41,31 @@ pub(crate) fn in_place(alloc: Global, name: &str, word: &str) -> Result<String, 
     }
 }
 
+/// The words, where each is known.
+pub(crate) fn all_known<'w>(
+    alloc: Global,
+    words: &[Option<&'w str>],
+) -> Result<Option<Vec<&'w str>>, AllocError>
+    ensures { IfOk result (λ found. IfSome found (λ known. AreKnown words.now (map shown known.items))) }
+{
+    let mut known = Vec::new(alloc);
+    for word in words {
+        match *word {
+            Some(word) => known.push(word)?,
+            None => return Ok(None),
+        }
+    }
+    Ok(Some(known))
+}
+
 /// The words of a command of a text, where each is constant; else none.
 pub(crate) fn constant_words<'t>(
     alloc: Global,
     text: &'t str,
     command: &Command<ByteRange>,
 ) -> Result<Vec<&'t str>, AllocError> {
-    let mut words = Vec::new(alloc);
-    for word in &command.words {
-        match constant(text, word) {
-            Some(word) => words.push(word.value)?,
-            None => return Ok(Vec::new(alloc)),
-        }
-    }
-    Ok(words)
+    let words = words_of(alloc, text, command)?;
+    Ok(all_known(alloc, words.as_slice())?.unwrap_or(Vec::new(alloc)))
 }
 
 /// Adds the symbols of a command of these words in a default file of a folder.
