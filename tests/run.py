@@ -73,6 +73,7 @@ SUITES = (
     "port/modport.py",
     "port/meanings.py",
     "port/random_files.py",
+    "port/counts.py",
     "port/moved.py",
     "faults/failed_allocations.py",
     "faults/device.py",
