@@ -2,6 +2,7 @@
 //! Takes memory; reads the files and directories (`Tree`) that it is given. The environment doesn't change.
 #![tactic(auto)]
 
+mod ahead;
 mod all_names;
 mod calling;
 mod describing;

@@ -5,11 +5,13 @@ ghost use Rattle.filetree.specs.Causes.{Applies};
 ghost use Rattle.modules.specs.Answers.{cause_of};
 ghost use Rattle.module_reports.specs.descriptions.Readable.{IsReadableDescription, unreadable_line};
 
+use crate::descriptions::ahead::read_ahead;
 use crate::descriptions::describing::{Description, describe};
 use envvars::Env;
 use filetree::hiding::{HidingTree, MOST_HIDDEN};
 use filetree::{Tree, TreeFault};
 use modules::Refusal;
+use requests::modulepath;
 use search::FindFault;
 use shelltext::Shell;
 use std::alloc::{AllocError, Global};
@@ -65,6 +67,7 @@ pub fn describe_readable<T: Tree + Drop>(
     ensures fault { IfErr result (λ refusal. Applies (cause_of refusal)
         ((T.failures tree.old.tree < T.failures tree.new.tree) × (1000 ≤ T.failures tree.new.tree)) (λ reason. ⊥)) }
 {
+    read_ahead(alloc, &mut tree.tree, modulepath(env));
     for _ in 0..MOST_HIDDEN {
         match describe(alloc, shell, sought, env, tree, limits) {
             Ok(mut description) => {
