@@ -23,6 +23,7 @@ NO_CALL = re.compile(r"^\d+ +(\+\+\+|---|<\.\.\.)")
 # The calls that are slow, and by how many microseconds.
 SLOW = "%file,read,pread64,getdents64,close"
 DELAY = 500
+SLOW_FLAGS = ("-ttt", "--seccomp-bpf", "-e", f"trace={SLOW}", "-e", f"inject={SLOW}:delay_enter={DELAY}")
 
 # The runs of a slow command: the least time of them counts. One that takes some seconds runs once, and one that takes
 # as many as the limit is stopped.
@@ -33,22 +34,25 @@ LIMIT = 60
 MODULES = [f"m{number}/1.0" for number in range(10)]
 
 
-def run(command, env, out=os.devnull, limit=None):
-    """Whether a command ends with status 0. One that takes longer than a limit is stopped, with all it started."""
+def run(command, env, out=os.devnull, limit=None, typed=None, status=0):
+    """Whether a command ends with this status, with what is typed at its standard input. One that takes longer than a
+    limit is stopped, with all it started."""
     with open(out, "wb") as written:
-        streams = {"stdin": subprocess.DEVNULL, "stdout": written, "stderr": subprocess.DEVNULL}
+        keys = subprocess.PIPE if typed else subprocess.DEVNULL
+        streams = {"stdin": keys, "stdout": written, "stderr": subprocess.DEVNULL}
         with subprocess.Popen(command, env=env, start_new_session=True, **streams) as running:
             try:
-                return running.wait(limit) == 0
+                running.communicate(typed, timeout=limit)
+                return running.returncode == status
             except subprocess.TimeoutExpired:
                 os.killpg(running.pid, signal.SIGKILL)
                 raise
 
 
-def traced(folder, command, env, *flags, out=os.devnull, limit=None):
-    """The lines that strace writes of a command and its processes, or none where it fails."""
+def traced(folder, command, env, *flags, **of_run):
+    """The lines that strace writes of a command and its processes, or none where it ends otherwise than `run` is told."""
     lines = os.path.join(folder, "traced")
-    if not run(["strace", "-f", "-q", "-o", lines, *flags, *command], env, out, limit):
+    if not run(["strace", "-f", "-q", "-o", lines, *flags, *command], env, **of_run):
         return None
     with open(lines, encoding="utf-8", errors="replace") as file:
         return file.readlines()
@@ -58,9 +62,14 @@ def is_call(line):
     return not NO_CALL.match(line)
 
 
-def system_calls(folder, command, env):
-    """How many calls of the system a command makes, which has to end with status 0."""
-    lines = traced(folder, command, env)
+def seconds(lines):
+    """The seconds from the first line of strace to the last."""
+    return float(lines[-1].split()[1]) - float(lines[0].split()[1])
+
+
+def system_calls(folder, command, env, status=0):
+    """How many calls of the system a command makes, which has to end with this status."""
+    lines = traced(folder, command, env, status=status)
     return sum(map(is_call, lines)) if lines else sys.exit(f"{command} failed below strace")
 
 
@@ -113,16 +122,15 @@ def calls_of(folder, tool, row):
 def slow_time(folder, tool, row):
     """The least of some times between the first call of a tool and its end, in seconds, with a slow file system. None
     where it can't do it, and the limit where it is stopped."""
-    flags = ["-ttt", "--seccomp-bpf", "-e", f"trace={SLOW}", "-e", f"inject={SLOW}:delay_enter={DELAY}"]
     times = []
     while not times or (len(times) < ROUNDS and sum(times) < ENOUGH):
         try:
-            lines = lines_of(folder, tool, row, *flags, limit=LIMIT)
+            lines = lines_of(folder, tool, row, *SLOW_FLAGS, limit=LIMIT)
         except subprocess.TimeoutExpired:
             return LIMIT
         if lines is None:
             return None
-        times.append(float(lines[-1].split()[1]) - float(lines[0].split()[1]))
+        times.append(seconds(lines))
     return min(times)
 
 

@@ -43,6 +43,9 @@ CALL_BY_PATH = 4_111 + 420
 OPENING = 580
 KIT_OF_FILE = (2 + 1 / FILES_OF_FOLDER) * CALL_BY_PATH + OPENING
 
+# What the functions of shells ask where a word behind `load` is completed.
+COMPLETED = ["names", "at", "module", "load"]
+
 # What each case is beside, where something is by each.
 FIRST = "load 1"
 
@@ -70,10 +73,17 @@ setenv PACKAGE_{0} /opt/package_{0}/lib/long/path
 
 class Case:
     """A command in an environment: `more` are the files, entries or turns that it has beside a load of one module,
-    `least` the programs that it is timed beside, of which the first counts."""
+    `least` the programs that it is timed beside, of which the first counts. Where it is one of a function, `asker` says
+    which to the program that is behind it; `status` is the one that it ends with."""
 
-    def __init__(self, title, words, env, more=1, least=("null",)):
+    def __init__(self, title, words, env, more=1, least=("null",), asker=None, status=0):
         self.title, self.words, self.env, self.more, self.least = title, words, env, more, least
+        self.asker, self.status = asker, status
+
+    def command(self, program):
+        if self.asker is None:
+            return [program, "sh", *self.words]
+        return [os.path.join(os.path.dirname(program), "module"), self.asker, *self.words]
 
 
 class Goal:
@@ -106,6 +116,11 @@ GOALS = [
     of_calls("load 1", 25),
     of_calls("avail, 2,000 files", 3.8, by_each="file"),
     of_calls("avail TEXT, 20,000 files", 99),
+    of_calls("a mistyped name, 20,000 files", 120),
+    of_calls("a version that isn't there, 20,000 files", 120),
+    of_calls("completion of name7, 20,000 files", 120),
+    of_calls("completion of a letter, 2,000 files", 50),
+    of_calls("keyword, 2,000 files", 6.1, by_each="file"),
 ]
 
 
@@ -130,14 +145,19 @@ def write_files(folder, name, count):
     return os.path.join(folder, name)
 
 
-def cases_of_avail(env, folder):
-    """One folder of the last of these has a name that begins with the text, and one of its files."""
+def cases_of_files(env, folder):
+    """One folder of the larger site has a name that begins with the text of `avail`, and one of its files."""
     many = {**env, "MODULEPATH": write_files(folder, "many", FILES)}
     more = {**env, "MODULEPATH": write_files(folder, "more", MORE_FILES)}
     return [
         Case("avail, 2,000 files", ["avail"], many, FILES, ("floor of the kit", "floor")),
         Case("avail, 20,000 files", ["avail"], more, MORE_FILES),
         Case("avail TEXT, 20,000 files", ["avail", "name777/3"], more),
+        Case("a mistyped name, 20,000 files", ["load", "nope"], more, asker="sh:", status=1),
+        Case("a version that isn't there, 20,000 files", ["load", "name777/9"], more, asker="sh:", status=1),
+        Case("completion of name7, 20,000 files", [*COMPLETED, "name7"], more, asker="bash"),
+        Case("completion of a letter, 2,000 files", [*COMPLETED, "n"], many, asker="bash"),
+        Case("keyword, 2,000 files", ["keyword", "name"], many, FILES, asker="sh::"),
     ]
 
 
@@ -162,7 +182,7 @@ def cases(program, folder):
         Case("purge 20", ["purge"], tool.run(["load", *packages], env)),
         Case("load 1, PATH of 2,000 entries", ["load", "m/1.0"], {**env, "PATH": entries}, ENTRIES),
         Case("load 1, 5,000 variables", ["load", "m/1.0"], {**env, **variables}, VARIABLES),
-        *cases_of_avail(env, folder),
+        *cases_of_files(env, folder),
         Case("a loop of 33,000 turns", ["load", "loop/1.0"], env, TURNS),
         Case("parsing 200,000 bytes", ["load", f"parsed/{BYTES}"], env, BYTES),
         Case("parsing 1,000,000 bytes", ["load", f"parsed/{5 * BYTES}"], env, 5 * BYTES),
@@ -177,7 +197,7 @@ def counts(program, folder, titles):
     def counted(counter, title):
         if (counter, title) not in spent:
             case = made[title]
-            spent[counter, title] = counter(folder, [program, "sh", *case.words], case.env)
+            spent[counter, title] = counter(folder, case.command(program), case.env, status=case.status)
         return spent[counter, title]
 
     def found(goal):
@@ -225,7 +245,7 @@ def multiples(program, folder):
     times = {}
     for case in cases(program, folder):
         if case.title in timed:
-            spent = least_time([program, "sh", *case.words], case.env)
+            spent = least_time(case.command(program), case.env)
             times[case.title] = [spent / least_time(least[name], case.env) for name in case.least]
     return times
 

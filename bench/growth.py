@@ -53,15 +53,23 @@ def names_of_one_load(folder, size):
     return ["load", *names], environment(folder)
 
 
+def loaded(folder, names):
+    """The environment in which modules are loaded."""
+    files = [os.path.join(folder, "m", name) for name in names]
+    return {**environment(folder), "LOADEDMODULES": ":".join(names), "_LMFILES_": ":".join(files)}
+
+
 def beside_loaded_ones(folder, size):
     module(folder, "beside/1.0", "setenv BESIDE on\n")
-    names = [f"n{number:0{WIDTH}}/1.0" for number in range(size)]
-    files = [os.path.join(folder, "m", name) for name in names]
-    return ["load", "beside/1.0"], {
-        **environment(folder),
-        "LOADEDMODULES": ":".join(names),
-        "_LMFILES_": ":".join(files),
-    }
+    return ["load", "beside/1.0"], loaded(folder, [f"n{number:0{WIDTH}}/1.0" for number in range(size)])
+
+
+def purged(folder, size):
+    """Each has prepended to one variable."""
+    names = [f"p{number:0{WIDTH}}/1.0" for number in range(size)]
+    for name in names:
+        module(folder, name, f"prepend-path PURGED /opt/{name}\n")
+    return ["purge"], {**loaded(folder, names), "PURGED": ":".join(f"/opt/{name}" for name in reversed(names))}
 
 
 def directories(folder, size):
@@ -88,6 +96,7 @@ GROWING = [
     evaluated("prepend-path, each of another", SIZES, lambda size: each("prepend-path V{0} /opt/v/bin\n", size)),
     evaluated("setenv, each of another variable", SIZES, lambda size: each("setenv V{0} value\n", size)),
     Growing("names of one load", (2, 20, 200), names_of_one_load),
+    Growing("modules of one purge", (2, 20, 200), purged),
     Growing("modules loaded before", (2, 20, 200), beside_loaded_ones),
     Growing("directories of MODULEPATH", (10, 100, 200), directories),
     evaluated("lappend of an element", (100, 1_000, 10_000), turns("lappend all element")),

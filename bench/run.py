@@ -7,7 +7,7 @@ command takes. The commands of a row take turns, and the least time of each coun
 system that they make, the times of some where each call of a file system is slow, the instructions of a load, counted
 by callgrind, where something grows, what a further one costs, and what the start of the process is of them.
 
-    run.py PROGRAM times | calls | slow | instructions | growth | start
+    run.py PROGRAM times | calls | slow | lines | instructions | growth | start
 
 prints one of them. What is asked of some of these cases is in goals.py, and is printed last.
 """
@@ -22,6 +22,7 @@ from calls import Login, print_calls, print_slow
 from goals import print_goals
 from growth import print_growth
 from instructions import print_instructions
+from lines import print_lines
 from start import print_start
 from tools import HOW_TO_INSTALL, Null, find_tools
 
@@ -169,6 +170,9 @@ def main():
             print_traced(program, folder, "calls", print_calls)
         if part in ("", "slow"):
             print_traced(program, folder, "slow", print_slow)
+        if part in ("", "lines"):
+            rows(folder)
+            print_lines(folder, program)
         if part in ("", "instructions"):
             print_instructions(folder, null, program)
         if part in ("", "growth"):

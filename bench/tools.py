@@ -1,5 +1,6 @@
 """The programs that are compared: how each is called, and the environment in which modules are loaded by it."""
 
+import functools
 import glob
 import os
 import subprocess
@@ -73,17 +74,23 @@ class Tool:
         entries = [os.fsdecode(entry).split("=", 1) for entry in done.stdout.split(b"\0") if entry]
         return {entry[0]: entry[1] for entry in entries if entry[0] not in ("_", "PWD", "OLDPWD", "SHLVL")}
 
-    def init_file(self, folder):
-        """The init file for bash: our own as it is installed below the folder, that of another with the paths where
-        that stands. None where there is none."""
+    def init_folder(self, folder):
+        """The folder of the init files: our own as it is installed below the folder. None where there is none."""
         if self.init is None:
             return installed(self.words[0], os.path.join(folder, "product"))
-        top = self.words[0].partition("/usr/")[0]
-        if not os.path.isfile(top + self.init):
+        return self.words[0].partition("/usr/")[0] + self.init
+
+    def init_file(self, folder, shell="bash"):
+        """The init file for a shell, that of another tool with the paths where that stands. None where there is none."""
+        init = os.path.join(self.init_folder(folder) or folder, shell)
+        if not os.path.isfile(init):
             return None
-        with open(top + self.init, encoding="utf-8") as file:
+        if self.init is None:
+            return init
+        with open(init, encoding="utf-8") as file:
             text = file.read()
-        path = os.path.join(folder, self.title.replace(" ", "-"))
+        path = os.path.join(folder, f"{self.title.replace(' ', '-')}-{shell}")
+        top = self.words[0].partition("/usr/")[0]
         with open(path, "w", encoding="utf-8") as file:
             file.write(text.replace("/usr/share/", f"{top}/usr/share/").replace("/usr/lib/", f"{top}/usr/lib/"))
         return path
@@ -94,13 +101,14 @@ class Tool:
             return not file.read().rstrip().endswith(b"test 1;")
 
 
+@functools.cache
 def installed(program, prefix):
-    """The init file for bash of the product, laid out below a prefix. None where it can't be."""
+    """The folder of the init files of the product, laid out below a prefix. None where it can't be."""
     names = ("modulecmd", "module")
     programs = [os.path.join(os.path.dirname(program), name) for name in names]
     words = ["sh", os.path.join(os.path.dirname(HERE), "tools", "product.sh"), "install", "", prefix, *programs]
     done = subprocess.run(words, stdin=subprocess.DEVNULL, capture_output=True, check=False)
-    return os.path.join(prefix, "init", "bash") if done.returncode == 0 else None
+    return os.path.join(prefix, "init") if done.returncode == 0 else None
 
 
 def version(words, env=None):
@@ -130,12 +138,12 @@ def find_tools(program):
     )
     if modules:
         title = "Environment Modules" + version([modules, "bash", "--version"])
-        found.append(Tool(title, [modules, "bash"], "/usr/share/modules/init/bash"))
+        found.append(Tool(title, [modules, "bash"], "/usr/share/modules/init"))
     lmod = first(
         "/usr/share/lmod/*/libexec/lmod",
         os.path.join(UNPACKED, "lmod/usr/share/lmod/[0-9]*/libexec/lmod"),
     )
     if lmod:
         title = "Lmod" + version([lmod, "bash", "--version"], {"PATH": "/usr/bin:/bin"})
-        found.append(Tool(title, [lmod, "bash"], "/usr/share/lmod/lmod/init/bash"))
+        found.append(Tool(title, [lmod, "bash"], "/usr/share/lmod/lmod/init"))
     return found

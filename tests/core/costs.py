@@ -22,6 +22,10 @@ ABOVE = 1.1
 # How many times the instructions of `modulecmd` the program behind the function may take for the same load.
 ABOVE_MODULECMD = 1.15
 
+# The calls of the system that lines in tcsh make beyond the init file. The shell makes some twenty for each command of a
+# file that it sources.
+IN_TCSH = {"module load m": 686, "ml m": 686, "ml": 594, "module load nope": 554, "module avail >& /dev/null": 611}
+
 # What makes the counts of each function of bench/, and shows whether it can.
 COUNTERS = {
     goals.instructions: ["valgrind", "--version"],
@@ -102,3 +106,23 @@ def test_a_load_by_the_function(product, program, folder, note):
         )
     note(f"{behind:,} instructions, {alone:,} by modulecmd: {behind / alone:.3f} times as many")
     true(behind <= ABOVE_MODULECMD * alone, f"{behind / alone:.3f} times the instructions of modulecmd")
+
+
+def test_lines_in_tcsh(product, program, folder, note):
+    if not is_static(program) or not shutil.which("tcsh") or hindrance(COUNTERS[goals.system_calls]):
+        pytest.skip("the counts are those of a static link in tcsh, by strace")
+    folder.module("m/1.0", "setenv M on\nprepend-path PATH /opt/m/bin\n")
+    env = {"MODULEPATH": os.fsdecode(folder.modules), "PATH": "/usr/bin:/bin", "HOME": os.fsdecode(folder.path)}
+    with tempfile.TemporaryDirectory(prefix="modulecmd-costs-") as room:
+        script = os.path.join(room, "script")
+
+        def calls(line):
+            with open(script, "w", encoding="utf-8") as file:
+                file.write(f"source '{product}/init/tcsh'\n{line}\nexit 0\n")
+            return goals.system_calls(room, ["tcsh", "-f", script], env)
+
+        before = calls("")
+        found = {line: calls(line) - before for line in IN_TCSH}
+    note(", ".join(f"{line}: {count:,}" for line, count in found.items()))
+    above = {line: count for line, count in found.items() if count > ABOVE * IN_TCSH[line]}
+    true(not above, f"more than a tenth above: {above}")
