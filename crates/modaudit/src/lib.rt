@@ -5,6 +5,7 @@
 
 pub mod command;
 mod progress_line;
+mod whole_files;
 
 use crate::command::{AuditExit, Layout, run_audit};
 use filetree::hiding::HidingTree;
@@ -14,6 +15,7 @@ use modulecmd::{
 use progress_line::ProgressLine;
 use std::io::{IsTerminal, Stdout};
 use std::process::ExitCode;
+use whole_files::WholeFiles;
 
 /// Says why there is no audit, and with which status the program ends.
 fn refused(rt: &HostRuntime, fault: &CommandFault) -> ExitCode {
@@ -45,7 +47,7 @@ pub fn run(rt: HostRuntime) -> ExitCode {
         Ok(disk) => disk,
         Err(e) => return refused(&rt, &CommandFault::from(e)),
     };
-    let mut tree = HidingTree::new(alloc, DiskTree::new(disk));
+    let mut tree = HidingTree::new(alloc, WholeFiles::new(DiskTree::new(disk)));
     let exit = run_audit(
         alloc,
         arguments.as_slice(),
