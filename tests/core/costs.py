@@ -22,6 +22,9 @@ ABOVE = 1.1
 # How many times the instructions of `modulecmd` the program behind the function may take for the same load.
 ABOVE_MODULECMD = 1.15
 
+# How many times the instructions of a further name of one load where FEW_NAMES are loaded it may take where MANY_NAMES are.
+ABOVE_FEW, FEW_NAMES, MANY_NAMES = 1.3, 10, 200
+
 # The calls of the system that lines in tcsh make beyond the init file. The shell makes some twenty for each command of a
 # file that it sources.
 IN_TCSH = {"module load m": 686, "ml m": 686, "ml": 594, "module load nope": 554, "module avail >& /dev/null": 611}
@@ -106,6 +109,27 @@ def test_a_load_by_the_function(product, program, folder, note):
         )
     note(f"{behind:,} instructions, {alone:,} by modulecmd: {behind / alone:.3f} times as many")
     true(behind <= ABOVE_MODULECMD * alone, f"{behind / alone:.3f} times the instructions of modulecmd")
+
+
+def test_names_of_one_load(program, folder, note):
+    if not is_static(program) or hindrance(COUNTERS[goals.instructions]):
+        pytest.skip("the counts are those of a static link, by valgrind")
+    names = [f"n{number:05}/1.0" for number in range(MANY_NAMES + 1)]
+    for name in names:
+        folder.module(name, f"setenv {name[:6].upper()} on\n")
+    env = {"MODULEPATH": os.fsdecode(folder.modules), "PATH": "/usr/bin:/bin"}
+    with tempfile.TemporaryDirectory(prefix="modulecmd-costs-") as room:
+
+        def further(count):
+            """The instructions of the name behind so many."""
+            less, more = (
+                goals.instructions(room, [program, "sh", "load", *names[:size]], env) for size in (count, count + 1)
+            )
+            return more - less
+
+        few, many = further(FEW_NAMES), further(MANY_NAMES)
+    note(f"a further name: {few:,} instructions behind {FEW_NAMES}, {many:,} behind {MANY_NAMES}: {many / few:.3f} times as many")
+    true(many <= ABOVE_FEW * few, f"{many / few:.3f} times the instructions")
 
 
 def test_lines_in_tcsh(product, program, folder, note):
