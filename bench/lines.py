@@ -33,6 +33,9 @@ class Line:
         self.completes, self.at_terminal = completes, at_terminal
 
 
+# What an interactive shell sets of its terminal, and a script doesn't.
+AT_PROMPT = {"LINES": "24", "COLUMNS": "80"}
+
 LINES = [
     Line("a mistyped name, 20,000 files", "bash", "20000", "module load nope"),
     Line("a version that isn't there", "bash", "20000", "module load name3999/9"),
@@ -70,6 +73,7 @@ def traced_beyond(folder, tool, line, env, *flags):
         command = [*SHELLS[line.shell], script]
         if line.at_terminal:
             command = ["script", "-qec", shlex.join(command), os.devnull]
+            env = {**env, **AT_PROMPT}
         try:
             found.append(traced(folder, command, env, *flags, limit=LIMIT, typed=b"q" if line.at_terminal else None))
         except subprocess.TimeoutExpired:
