@@ -80,6 +80,8 @@ need_for() {
             need_for build
             need valgrind valgrind
             need strace strace
+            need tcsh tcsh
+            need less less
             need rustc rustc
             need tcl tclsh
             need lua5.3 lua5.3
