@@ -1,6 +1,6 @@
 """How many modulefiles of the site lists and of the generated trees load as they are, once modport has written them anew, and
 where it was told what a load did (--flatten); and how many of these make exactly the environment that Environment Modules
-makes of the files as they are.
+makes of the files as they are. A line says so where a translation makes another one.
 
 A module is loaded behind what it needs, as the lists say it. Environment Modules loads what else is needed by itself
 (MODULES_AUTO_HANDLING=1), and all that it loads is named to `modulecmd`, in its order. A name that stands in several
@@ -28,6 +28,7 @@ KEPT = ("--kept", "HOME=/home/me", "--kept", "USER=me")
 OWN = re.compile(rb"_LMFILES_|__MODULES_.*|SHLVL|_|PWD|OLDPWD")
 CHANGED = re.compile(rb"(?m)^([A-Za-z][A-Za-z0-9_]*)=.*; export ")
 LEFT = re.compile(r"(?m)^(.*?)(?::\d+)?: left out: ")
+TOLD = re.compile(r"(?m)^(.*?)(?::\d+)?: (?:left out|changed): ")
 
 # What a file of a tree names that it needs, and what some need by computed names.
 NEED = re.compile(rb"(?m)^\s*(?:prereq|depends-on|module load) (\S+)")
@@ -36,7 +37,7 @@ COMPUTED_NEEDS = {"openmpi/4.1.6": ["gcc"], "plugins/2.3": ["gcc"]}
 # How many modules there are, how many Environment Modules loads, and how many load here with how many of these the same: as
 # they are, translated, and translated by what a load did.
 COUNTS = {
-    "department.txt": (119, 111, 103, 103, 106, 106, 109, 108),
+    "department.txt": (119, 111, 103, 103, 106, 106, 108, 108),
     "laboratory.txt": (120, 119, 115, 115, 116, 116, 117, 117),
     "cluster.txt": (120, 117, 85, 85, 108, 108, 114, 114),
     "campus.txt": (118, 115, 67, 66, 80, 79, 90, 89),
@@ -167,8 +168,11 @@ def counts(folder, built, tool, modules):
     place, ported, flat, records = (os.fsdecode(folder.at(it)) for it in ("from", "ported", "flat", "records"))
     modules.lay(place)
     os.mkdir(records)
-    keep(tool, modules, place, ports(folder, modules, place, ported), records)
-    ports(folder, modules, place, flat, "--flatten", records, *KEPT)
+    report = ports(folder, modules, place, ported)
+    keep(tool, modules, place, report, records)
+    reports = ("", report, ports(folder, modules, place, flat, "--flatten", records, *KEPT))
+    told = [{os.path.relpath(path, place) for path in TOLD.findall(it)} & set(modules.files) for it in reports]
+    told = [set(map(modules.name, paths)) for paths in told]
     found = [len(modules.chains), *[0] * 7]
     for names in modules.chains.values():
         answer = made(tool, modules, place, names)
@@ -178,6 +182,9 @@ def counts(folder, built, tool, modules):
             here = made(built("modulecmd"), modules, top, names)
             found[2 + 2 * number] += here is not None
             found[3 + 2 * number] += here is not None and here == answer
+            is_other = None not in (here, answer) and here != answer
+            is_said = not (number and is_other) or told[number] & set(names)
+            true(is_said, f"a line says why {names} makes {here}, and not {answer}")
     return tuple(found)
 
 

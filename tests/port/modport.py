@@ -364,8 +364,24 @@ def test_what_is_read_is_not_flattened(folder):
 def test_what_asks_is_told_where_it_is_flattened(folder):
     given = COOKIE + "if {[is-loaded g]} {exec true}\n"
     found = flattened(folder, given, loaded_text(setting("A", "1")))
-    told = ": changed: is-loaded: what it answered in one load is written for good"
+    told = ": changed: is-loaded: what it did in one load is written for good"
     same(found, (COOKIE + "setenv A 1\n", [":2: flattened: if {[is-loaded g]} {exec true}", told], 1), "all")
+
+
+def test_an_option_by_which_values_before_count_is_told_where_it_is_flattened(folder):
+    given = COOKIE + "prepend-path --duplicates P /x[exec true]\n"
+    found = flattened(folder, given, loaded_text(setting("P", "/x:modport-mark")))
+    told = ": changed: --duplicates: what it did in one load is written for good"
+    same(found, (COOKIE + "prepend-path P /x\n", [f":2: flattened: {given.split(chr(10))[1]}", told], 1), "all")
+
+
+@pytest.mark.parametrize("line", ["remove-path P /x", "setenv --set-if-undef A 1", "module load b"])
+def test_what_a_load_with_marks_does_not_show(folder, line):
+    """An element that isn't there, a value that isn't set where a mark is, and what another module did."""
+    given = COOKIE + f"{line}\nexec true\n"
+    text, said, status = flattened(folder, given, loaded_text(setting("B", "1")))
+    why = "it removes elements of a path, sets what isn't set, or loads modules"
+    same((f": left out: not flattened, as {why}" in said, "setenv B" in text, status), (True, False, 1), f"of {said}")
 
 
 # Trees.

@@ -7,9 +7,9 @@ use port_rewriting::{Class, Given, Note, Outcome, TranslatedPiece, Translation, 
 use std::alloc::{AllocError, Global};
 use tcltext::script::{ByteRange, Script, parse_pieces};
 
-/// The words of a file that ask for what another load may answer otherwise.
+/// The words of a file that ask for what another load may answer otherwise, or do something else where a value is there.
 const ASKING_WORDS: &str =
-    "is-loaded is-avail module-info getenv env USER whoami id tcl_platform info";
+    "is-loaded is-avail module-info getenv env USER whoami id tcl_platform info --duplicates";
 
 /// A piece for which nothing is written, with a note on a line of the file, or on the whole of it.
 fn said_alone(
@@ -18,14 +18,13 @@ fn said_alone(
     what: String,
     outcome: Outcome,
 ) -> Result<TranslatedPiece, AllocError> {
+    let mut notes = Vec::new(alloc);
+    notes.push(Note {
+        line,
+        what,
+        outcome,
+    })?;
     let text = String::new(alloc);
-    let notes = vec![in alloc;
-        Note {
-            line,
-            what,
-            outcome
-        },
-    ]?;
     Ok(TranslatedPiece { text, notes })
 }
 
@@ -71,7 +70,7 @@ fn push_changes(
 ) -> Result<(), AllocError> {
     for word in ASKING_WORDS.split(' ') {
         if has_word(text, word) {
-            let case = String::from_str(alloc, "what it answered in one load is written for good")?;
+            let case = String::from_str(alloc, "what it did in one load is written for good")?;
             let what = String::from_str(alloc, word)?;
             pieces.push(said_alone(alloc, None, what, Outcome::Changed(case))?)?;
         }
@@ -114,8 +113,9 @@ fn flattened_by(
     given: Given,
     records: &LoadRecords,
 ) -> Result<Result<Translation, TranslatedPiece>, PortFault> {
-    if has_word(text, "remove-path") || has_command(text, script, "module") {
-        let why = "it removes elements of a path, or loads modules";
+    let mut unserving_words = "remove-path --set-if-undef".split(' ');
+    if unserving_words.any(|word| has_word(text, word)) || has_command(text, script, "module") {
+        let why = "it removes elements of a path, sets what isn't set, or loads modules";
         return Ok(Err(unserving(alloc, why)?));
     }
     let first = script.commands.as_slice().first();

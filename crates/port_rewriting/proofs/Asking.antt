@@ -1,10 +1,9 @@
 -- What words ask for.
-use Rattle.std.proofs.Common.{◌≡◌, ◌||◌, Bool, true, false, ◌<◌, ◌≤◌, ◌+◌, ◌-◌, ℕ, List, [], ◌∷◌, ◌++◌, get_or, length, map, take, drop, refl, sym, ap, subst, ◌∙◌, arith, Ok, Err, IfOk, IfSome, string_bytes}
+use Rattle.std.proofs.Common.{◌≡◌, ◌||◌, false, ◌<◌, ◌≤◌, ◌+◌, ◌-◌, ℕ, List, [], ◌∷◌, ◌++◌, get_or, length, map, take, drop, refl, sym, ap, subst, ◌∙◌, arith, Ok, Err, IfOk, IfSome, string_bytes}
 use Rattle.std.proofs.lemmas.List.{map-append, take_all, take_more}
 use Rattle.std.proofs.lemmas.List.Elements.{All-push}
-use Rattle.std.specs.Prelude.{Option, Some, None, Result, String, Vec, All, codes, bytes_eq}
+use Rattle.std.specs.Prelude.{Option, Some, None, Result, String, Vec, All}
 use Rattle.std.specs.Borrow.{Bor}
-use Rattle.std.specs.List.{list_any}
 use Rattle.std.specs.declared.alloc.AllocError.{AllocError}
 use Rattle.std.specs.declared.alloc.Global.{Global}
 use Rattle.tcltext.specs.chars.Runs.{Text}

@@ -45,28 +45,24 @@ pub data AreUsed : List Text → List Record → Type 0 where
   append : {words : List Text} {rs : List Record} → AreAdded Back words rs → AreUsed (codes "--append" ∷ words) rs
   old_append : {words : List Text} {rs : List Record} → AreAdded Back words rs → AreUsed (codes "-append" ∷ words) rs
 
--- a folder with the script of an alias is searched first
-abbrev pub IsFolder : List Record → Type 0
-IsFolder rs = (folder : Text) × (rs ≡ added Front (codes "PATH") (folder ∷ []))
-
--- The words of a command ask for records, where names stand for lists, and the words behind `family` ask for records so. What
--- `module load` asks for is that what it loads is there.
-pub data AsksFor (Stands : Text → List Text → Type 0) (Family : List Text → List Record → Type 0)
+-- The words of a command ask for records, where names stand for lists, the words behind `family` ask for records so, and scripts
+-- of aliases for these. What `module load` asks for is that what it loads is there.
+pub data AsksFor (Stands : Text → List Text → Type 0) (Family : List Text → List Record → Type 0) (Script : List Record → Type 0)
     : List Text → List Record → Type 0 where
   depends_on : {names : List Text} {rs : List Record} → AreNeeded Stands names rs
-      → AsksFor Stands Family (codes "depends-on" ∷ names) rs
+      → AsksFor Stands Family Script (codes "depends-on" ∷ names) rs
   prereq_all : {names : List Text} {rs : List Record} → AreNeeded Stands names rs
-      → AsksFor Stands Family (codes "prereq-all" ∷ names) rs
+      → AsksFor Stands Family Script (codes "prereq-all" ∷ names) rs
   prereq_any : {names : List Text} {rs : List Record} → IsOneNeeded Stands names rs
-      → AsksFor Stands Family (codes "prereq-any" ∷ names) rs
+      → AsksFor Stands Family Script (codes "prereq-any" ∷ names) rs
   load : {names : List Text} {rs : List Record} → AreNeeded Stands names rs
-      → AsksFor Stands Family (codes "module" ∷ (codes "load" ∷ names)) rs
+      → AsksFor Stands Family Script (codes "module" ∷ (codes "load" ∷ names)) rs
   add : {names : List Text} {rs : List Record} → AreNeeded Stands names rs
-      → AsksFor Stands Family (codes "module" ∷ (codes "add" ∷ names)) rs
+      → AsksFor Stands Family Script (codes "module" ∷ (codes "add" ∷ names)) rs
   try_load : {names : List Text} {rs : List Record} → AreNeeded Stands names rs
-      → AsksFor Stands Family (codes "module" ∷ (codes "try-load" ∷ names)) rs
+      → AsksFor Stands Family Script (codes "module" ∷ (codes "try-load" ∷ names)) rs
   using : {words : List Text} {rs : List Record} → AreUsed words rs
-      → AsksFor Stands Family (codes "module" ∷ (codes "use" ∷ words)) rs
-  family : {words : List Text} {rs : List Record} → Family words rs → AsksFor Stands Family (codes "family" ∷ words) rs
-  set_alias : {words : List Text} {rs : List Record} → IsFolder rs → AsksFor Stands Family (codes "set-alias" ∷ words) rs
-  guard : {words : List Text} {rs : List Record} → AreSomeNeeded Stands rs → AsksFor Stands Family (codes "if" ∷ words) rs
+      → AsksFor Stands Family Script (codes "module" ∷ (codes "use" ∷ words)) rs
+  family : {words : List Text} {rs : List Record} → Family words rs → AsksFor Stands Family Script (codes "family" ∷ words) rs
+  set_alias : {words : List Text} {rs : List Record} → Script rs → AsksFor Stands Family Script (codes "set-alias" ∷ words) rs
+  guard : {words : List Text} {rs : List Record} → AreSomeNeeded Stands rs → AsksFor Stands Family Script (codes "if" ∷ words) rs

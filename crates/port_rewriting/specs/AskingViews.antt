@@ -1,6 +1,6 @@
 -- What words, sites and rewritings of the code ask for and mean, as the definitions have it.
 use Rattle.std.specs.Prelude.{◌≡◌, ◌≢◌, List, [], ◌∷◌, Bool, true, ◌||◌, Option, Some, None, map, string_bytes, String}
-use Rattle.std.specs.Prelude.{IfOk, IfSome, Result}
+use Rattle.std.specs.Prelude.{IfOk, IfSome, Result, codes}
 use Rattle.std.specs.Borrow.{Bor}
 use Rattle.std.specs.List.{list_any}
 use Rattle.std.specs.Option.{option_map}
@@ -9,12 +9,13 @@ use Rattle.std.specs.declared.alloc.Global.{Global}
 use Rattle.tcltext.specs.chars.Runs.{Text}
 use Rattle.modulename.specs.ModuleName.{means}
 use Rattle.modulefile.specs.Records.{Record}
+use Rattle.modulefile.specs.declared.records.PathEdit.TheVariants.{Front}
 use Rattle.port_constants.specs.declared.knowledge.KnownFile.{KnownFile}
 use Rattle.port_rewriting.specs.Asking.{AsksFor}
 use Rattle.port_rewriting.specs.Families.{is_among, is_excluded, ExcludesOthers}
 use Rattle.port_rewriting.specs.FamilyViews.{is_in_family}
 use Rattle.port_rewriting.specs.Leaving.{Leaves}
-use Rattle.port_rewriting.specs.Meanings.{in_family}
+use Rattle.port_rewriting.specs.Meanings.{added, in_family}
 use Rattle.port_rewriting.specs.RecordViews.{shown, texts_in}
 use Rattle.port_rewriting.specs.declared.names.Meaning.{Meaning}
 use Rattle.port_rewriting.specs.declared.names.Meaning.TheVariants as meanings
@@ -69,9 +70,15 @@ IsOfFamily (Some site) (Some file) (name ∷ []) rs =
     × ExcludesOthers (is_in_family site.now.members.items name) (texts_in site.now.modules) file.name.now others
 IsOfFamily site file words rs = ⊥
 
+-- the folder with the script of an alias is searched first
+abbrev pub IsOfFolder : Option (Bor Text) → List Record → Type 0
+IsOfFolder None rs = ⊥
+IsOfFolder (Some folder) rs = rs ≡ added Front (codes "PATH") (folder.now ∷ [])
+
 -- the words ask for records, by what is known
 abbrev pub Asks : Given → List Text → List Record → Type 0
-Asks given words rs = AsksFor (StandsFor given.site) (IsOfFamily given.site given.file) words rs
+Asks given words rs =
+    AsksFor (StandsFor given.site) (IsOfFamily given.site given.file) (IsOfFolder given.scripts_folder) words rs
 
 abbrev pub AreAskedFor : Given → List (Option (Bor Text)) → List Record → Type 0
 AreAskedFor given words rs = (texts : List Text) × AreKnown words texts × Asks given texts rs

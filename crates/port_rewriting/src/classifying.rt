@@ -1,9 +1,9 @@
 //! The classes of commands: what is written for each, by its words and what is known of the site.
 ghost use Rattle.std.specs.Prelude.{◌≡◌, IfOk, IfSome, IsTrue, ◌∷◌, codes, map};
 ghost use Rattle.port_rewriting.specs.Asking.{AreAdded, AreNeeded, AreSomeNeeded, AreUsed, EachStands};
-ghost use Rattle.port_rewriting.specs.Asking.{IsAbsolute, IsFolder, IsOneNeeded};
+ghost use Rattle.port_rewriting.specs.Asking.{IsAbsolute, IsOneNeeded};
 ghost use Rattle.port_rewriting.specs.AskingViews.{AreAskedFor, Asks, AsksNothing, IsAskedBy};
-ghost use Rattle.port_rewriting.specs.AskingViews.{IsOfFamily, MayAsk, StandsFor};
+ghost use Rattle.port_rewriting.specs.AskingViews.{IsOfFamily, IsOfFolder, MayAsk, StandsFor};
 ghost use Rattle.port_rewriting.specs.RecordViews.{lists_view, records_view, shown, texts_in};
 
 use crate::acceptance::{filled, is_name_read, is_read};
@@ -242,7 +242,7 @@ impl<'f> Reader<'f> {
 
     /// What is written for an alias with these words, where a folder for its script is given; the script is kept.
     fn alias(&mut self, words: &[&str]) -> Result<Option<Rewrite>, AllocError>
-        ensures { MayAsk result IsFolder }
+        ensures { MayAsk result (IsOfFolder self.old.given.scripts_folder) }
     {
         let (Some(folder), [name, text]) = (self.given.scripts_folder, words) else {
             return Ok(None);

@@ -86,9 +86,7 @@ pub(crate) fn guard_of<'t>(
 ) -> Result<Option<Vec<&'t str>>, AllocError> {
     match words {
         [condition, body] => guard_of_bodies(alloc, condition, body, None),
-        [condition, body, "else", other] => {
-            guard_of_bodies(alloc, condition, body, Some(*other))
-        }
+        [condition, body, "else", last] => guard_of_bodies(alloc, condition, body, Some(*last)),
         _ => Ok(None),
     }
 }

@@ -244,11 +244,12 @@ impl Site {
         if is_specification(word) || self.is_unsure(word) {
             return Ok(Meaning::Unknown);
         }
-        if self.is_same(word) && (self.has(word) || !is_implicit(word)) {
+        let is_same = self.is_same(word);
+        if is_same && (self.has(word) || !is_implicit(word)) {
             return Ok(Meaning::Same);
         }
         let meant = self.meant(alloc, word)?;
-        if meant.iter().all(|module| is_plain(module.as_str())) && !meant.is_empty() {
+        if !is_same && !meant.is_empty() && meant.iter().all(|own| is_plain(own.as_str())) {
             Ok(Meaning::Modules(meant))
         } else {
             Ok(Meaning::Unknown)

@@ -1,6 +1,6 @@
 use Rattle.std.proofs.Common.{map, codes, inl, inr}
-use Rattle.port_rewriting.specs.Asking.{AreNeeded, AreSomeNeeded, IsFolder, IsOneNeeded, depends_on, prereq_all, prereq_any, family, set_alias, guard}
-use Rattle.port_rewriting.specs.AskingViews.{Asks, IsOfFamily, StandsFor}
+use Rattle.port_rewriting.specs.Asking.{AreNeeded, AreSomeNeeded, IsOneNeeded, depends_on, prereq_all, prereq_any, family, set_alias, guard}
+use Rattle.port_rewriting.specs.AskingViews.{Asks, IsOfFamily, IsOfFolder, StandsFor}
 use Rattle.port_rewriting.specs.RecordViews.{shown}
 use Rattle.port_rewriting.proofs.Asking.{asked, begins, behind}
 use Rattle.port_rewriting.proofs.reader.Reader.form.Goals as goal
@@ -30,7 +30,7 @@ returns-in-family c =
 
 pub returns-in-text-3 : goal.returns-in-text-3
 returns-in-text-3 c =
-    asked IsFolder (Asks c.args.self.now.given (map shown c.args.words.now)) c.alias.result
+    asked (IsOfFolder c.args.self.now.given.scripts_folder) (Asks c.args.self.now.given (map shown c.args.words.now)) c.alias.result
     (λ rs h. begins (λ ws. Asks c.args.self.now.given ws rs) c.args.words.now (codes "set-alias") c.in-len1-up.len_at_least c.in-text-3.is (set_alias h))
     c.alias.ensures
 
