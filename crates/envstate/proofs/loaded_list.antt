@@ -8,3 +8,4 @@ pub mod LoadedEdits
 pub mod LoadedExamples
 pub mod LoadedNeeded
 pub mod LoadedOrder
+pub mod ShortenedLemmas

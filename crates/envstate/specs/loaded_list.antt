@@ -4,3 +4,4 @@ pub mod Loaded
 pub mod LoadedEntries
 pub mod LoadedLaws
 pub mod NeededChanges
+pub mod Shortened

@@ -1,6 +1,7 @@
 -- A text of elements that grows by one after another.
 use Rattle.std.proofs.Common.{◌≡◌, ◌<◌, List, [], ◌∷◌, ◌++◌, refl, sym, ap, ◌∙◌, append-nil, append_assoc, length}
-use Rattle.std.proofs.Common.{arith, true, Option, Some}
+use Rattle.std.proofs.Common.{arith, true, Option, Some, None}
+use Rattle.std.proofs.lemmas.List.{append_cancel_right, length-append}
 use Rattle.std.proofs.lemmas.List.Concat.{flat_map-append}
 use Rattle.envvars.specs.Texts.{Text}
 use Rattle.envvars.specs.Fields.{colon, ampersand, are_distinct, joined, text_of_elements, without_repeats}
@@ -9,7 +10,7 @@ use Rattle.envstate.specs.loaded_list.LoadedTexts.{element_of}
 use Rattle.envstate.specs.loaded_list.ElementTexts.{before_element, with_elements}
 
 -- the text of the elements with one more at the end
-one_more_element : (xs : List Text) (x : Text) → Some (before_element (text_of_elements xs) ++ x) ≡ text_of_elements (xs ++ x ∷ [])
+pub one_more_element : (xs : List Text) (x : Text) → Some (before_element (text_of_elements xs) ++ x) ≡ text_of_elements (xs ++ x ∷ [])
 one_more_element [] x = refl
 one_more_element (y ∷ ys) x =
     let f : Text → Text = λ (z : Text). colon ∷ z in
@@ -46,3 +47,15 @@ pub few_distinct : (xs : List Text) → length xs < 2 → are_distinct xs ≡ tr
 few_distinct [] h = refl
 few_distinct (x ∷ []) h = refl
 few_distinct (x ∷ y ∷ xs) h = absurd (omega arith)
+
+-- what ends with a colon is a text of elements before one more
+ended : (o : Option Text) (rest : Text) → rest ++ colon ∷ [] ≡ before_element o → Some rest ≡ o
+ended None rest h = absurd (omega (arith, ap length h, length-append rest (colon ∷ [])))
+ended (Some t) rest h = ap Some (append_cancel_right rest t (colon ∷ []) h)
+
+-- the text of the elements without the last, cut off a text that ends so
+pub element_cut : (xs : List Text) (x t rest : Text) → Some t ≡ text_of_elements (xs ++ x ∷ []) → t ≡ (rest ++ colon ∷ []) ++ x → Some rest ≡ text_of_elements xs
+element_cut xs x t rest h k =
+    let whole : Some t ≡ Some (before_element (text_of_elements xs) ++ x) = h ∙ sym (one_more_element xs x) in
+    let same : t ≡ before_element (text_of_elements xs) ++ x = cc in
+    ended (text_of_elements xs) rest (append_cancel_right (rest ++ colon ∷ []) (before_element (text_of_elements xs)) x (sym k ∙ same))

@@ -71,7 +71,7 @@ found_is name xs r h = lent r ∙ ap (option_map entry_view) h ∙ found xs
     found (x ∷ xs) = at (bytes_eq name (string_bytes x.name)) x _ _ (found xs)
 
 -- the elements of one more entry
-conflicts-append : (xs ys : List Entry) → conflict_elements (xs ++ ys) ≡ conflict_elements xs ++ conflict_elements ys
+pub conflicts-append : (xs ys : List Entry) → conflict_elements (xs ++ ys) ≡ conflict_elements xs ++ conflict_elements ys
 conflicts-append [] ys = refl
 conflicts-append (x ∷ xs) ys = at (has_names x.conflicts) (conflicts-append xs ys)
   where
@@ -81,7 +81,7 @@ conflicts-append (x ∷ xs) ys = at (has_names x.conflicts) (conflicts-append xs
     at true e = ap (λ (l : List Text). element_of x.name x.conflicts ∷ l) e
     at false e = e
 
-prereqs-append : (xs ys : List Entry) → prereq_elements (xs ++ ys) ≡ prereq_elements xs ++ prereq_elements ys
+pub prereqs-append : (xs ys : List Entry) → prereq_elements (xs ++ ys) ≡ prereq_elements xs ++ prereq_elements ys
 prereqs-append [] ys = refl
 prereqs-append (x ∷ xs) ys = at (has_groups x.prereqs) (prereqs-append xs ys)
   where
@@ -92,7 +92,7 @@ prereqs-append (x ∷ xs) ys = at (has_groups x.prereqs) (prereqs-append xs ys)
     at true e = ap (λ (l : List Text). element_of x.name (map group_text x.prereqs) ∷ l) e
     at false e = e
 
-map-push : (xs : List Loaded) (x : Loaded) → map entry_view (xs ++ x ∷ []) ≡ map entry_view xs ++ entry_view x ∷ []
+pub map-push : (xs : List Loaded) (x : Loaded) → map entry_view (xs ++ x ∷ []) ≡ map entry_view xs ++ entry_view x ∷ []
 map-push [] x = refl
 map-push (y ∷ ys) x = ap (λ (l : List Entry). entry_view y ∷ l) (map-push ys x)
 
@@ -203,11 +203,11 @@ texts-push : (ns : List (String Global)) (n : String Global) → map string_byte
 texts-push [] n = refl
 texts-push (m ∷ ms) n = ap (λ (l : List Text). string_bytes m ∷ l) (texts-push ms n)
 
-names-push : (xs : List Loaded) (x : Loaded) → names_of (map entry_view (xs ++ x ∷ [])) ≡ names_of (map entry_view xs) ++ string_bytes x.name ∷ []
+pub names-push : (xs : List Loaded) (x : Loaded) → names_of (map entry_view (xs ++ x ∷ [])) ≡ names_of (map entry_view xs) ++ string_bytes x.name ∷ []
 names-push [] x = refl
 names-push (y ∷ ys) x = ap (λ (l : List Text). string_bytes y.name ∷ l) (names-push ys x)
 
-paths-push : (xs : List Loaded) (x : Loaded) → map (λ x. x.path) (map entry_view (xs ++ x ∷ [])) ≡ map (λ x. x.path) (map entry_view xs) ++ string_bytes x.path ∷ []
+pub paths-push : (xs : List Loaded) (x : Loaded) → map (λ x. x.path) (map entry_view (xs ++ x ∷ [])) ≡ map (λ x. x.path) (map entry_view xs) ++ string_bytes x.path ∷ []
 paths-push [] x = refl
 paths-push (y ∷ ys) x = ap (λ (l : List Text). string_bytes y.path ∷ l) (paths-push ys x)
 

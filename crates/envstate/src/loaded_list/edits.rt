@@ -72,7 +72,7 @@ pub fn drop_from_list<V: Vars>(
         return Ok(());
     }
     let old = mem::replace(list, LoadedList::new(alloc));
-    *list = old.without(name).written(alloc)?;
+    *list = old.without(alloc, name)?.written(alloc)?;
     write(alloc, env, list)
 }
 

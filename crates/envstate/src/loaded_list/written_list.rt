@@ -1,18 +1,20 @@
 //! The list of loaded modules as a value, with the texts that it is written as: what is added is appended to them.
-ghost use Rattle.std.specs.Prelude.{◌≡◌, ◌++◌, [], ◌∷◌, map, string_bytes, IfOk, true};
+ghost use Rattle.std.specs.Prelude.{◌≡◌, ◌++◌, [], ◌∷◌, map, string_bytes, IfOk, IfSome, IsTrue, true};
 ghost use Rattle.std.specs.Option.{option_map};
 ghost use Rattle.envvars.specs.Changes.{new_values_in};
+ghost use Rattle.envvars.specs.Fields.{colon};
 ghost use Rattle.envvars.specs.Texts.{texts_in};
 ghost use Rattle.envstate.specs.loaded_list.Loaded.{names_of, names_text, files_text, conflicts_text, prereqs_text};
 ghost use Rattle.envstate.specs.loaded_list.Loaded.{without_entry};
 ghost use Rattle.envstate.specs.loaded_list.LoadedEntries.{entry_view};
 ghost use Rattle.envstate.specs.loaded_list.NeededChanges.{needed_changes};
+ghost use Rattle.envstate.specs.loaded_list.Shortened.{IsShortened};
 
 use crate::loaded_list::entry::Loaded;
 use crate::loaded_list::list::{CONFLICTS, FILES, NAMES, PREREQS};
 use crate::loaded_list::writing::{
-    conflicts_text, files_text, names_of, names_text, prereqs_text, push_needed, with_conflicts,
-    with_element, with_prereqs,
+    conflicts_text, files_text, is_loaded, names_of, names_text, prereqs_text, push_needed,
+    with_conflicts, with_element, with_prereqs,
 };
 use envvars::fields::{copy, owned};
 use envvars::{Change, Vars, push_change};
@@ -45,6 +47,20 @@ fn same_value(alloc: Global, value: &Option<String>) -> Result<Option<String>, A
     ensures { IfOk result (λ t. option_map string_bytes t ≡ option_map string_bytes value.now) }
 {
     copy(alloc, value.as_deref())
+}
+
+/// What stands before the last element of a text, and before the colon there; none where the text doesn't end so.
+fn before_last<'a>(text: &'a str, element: &str) -> Option<&'a str>
+    ensures { IfSome result (λ rest. text.entry.now ≡ (rest.now ++ colon ∷ []) ++ element.now) }
+{
+    text.strip_suffix(element)?.strip_suffix(':')
+}
+
+/// Whether a module has no conflicts, and needs no others.
+fn asks_nothing(entry: &Loaded) -> bool
+    ensures { IsTrue result → (entry.now.conflicts.items ≡ []) × (entry.now.prereqs.items ≡ []) }
+{
+    entry.conflicts.is_empty() && entry.prereqs.is_empty()
 }
 
 impl LoadedList {
@@ -161,8 +177,39 @@ impl LoadedList {
         }
     }
 
-    /// The list without a module.
-    pub(crate) fn without(self, name: &str) -> LoadedList
+    /// What is left of the names and of the paths, where the last module alone has this name, and asks nothing of others;
+    /// none elsewhere.
+    fn shortened(&self, name: &str) -> Option<(&str, &str)>
+        requires { self.now.is_written ≡ true }
+        ensures { IfSome result (λ left. IsShortened self.entry.now.entries.items name.now left.0.now left.1.now) }
+    {
+        let [others @ .., last] = self.entries.as_slice() else {
+            return None;
+        };
+        if last.name.as_str() != name || !asks_nothing(last) || is_loaded(others, name) {
+            return None;
+        }
+        let names = before_last(self.names_value.as_deref()?, name)?;
+        let files = before_last(self.files_value.as_deref()?, last.path.as_str())?;
+        Some((names, files))
+    }
+
+    /// The list without its last module, which alone has this name, with what is left of the names and of the paths.
+    fn without_last(self, name: &str, names: String, files: String) -> LoadedList
+        requires written { self.is_written ≡ true }
+        requires shortened { IsShortened self.entries.items name.now (string_bytes names) (string_bytes files) }
+        ensures { map entry_view result.entries.items ≡ without_entry name.now (map entry_view self.entries.items) }
+    {
+        let mut list = self;
+        let _ = list.entries.pop();
+        let _ = list.names.pop();
+        list.names_value = Some(names);
+        list.files_value = Some(files);
+        list
+    }
+
+    /// The list without the modules of a name, to be written anew.
+    fn without_any(self, name: &str) -> LoadedList
         ensures { map entry_view result.entries.items ≡ without_entry name.now (map entry_view self.entries.items) }
     {
         let LoadedList {
@@ -185,6 +232,22 @@ impl LoadedList {
             conflicts_value: None,
             prereqs_value: None,
         }
+    }
+
+    /// The list without a module.
+    pub(crate) fn without(self, alloc: Global, name: &str) -> Result<LoadedList, AllocError>
+        ensures { IfOk result (λ list. map entry_view list.entries.items
+            ≡ without_entry name.now (map entry_view self.entries.items)) }
+    {
+        if !self.is_written {
+            return Ok(self.without_any(name));
+        }
+        let Some((names, files)) = self.shortened(name) else {
+            return Ok(self.without_any(name));
+        };
+        let names = String::from_str(alloc, names)?;
+        let files = String::from_str(alloc, files)?;
+        Ok(self.without_last(name, names, files))
     }
 
     /// The list with the values of the four variables.

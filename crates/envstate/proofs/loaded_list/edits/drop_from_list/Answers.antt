@@ -20,7 +20,7 @@ pub returns-clause-edits : goal.returns-clause-edits
 returns-clause-edits g c =
     let e = g.V.Vars.vars c.args.env.now in
     let xs = map entry_view c.args.list.now.entries.items in
-    let left = ap (λ v. map entry_view v.items) c.in_ok-list.ensures.0 ∙ c.without.ensures
+    let left = ap (λ v. map entry_view v.items) c.in_ok-list.ensures.0 ∙ c.in_ok-without.ensures
     ∙ ap (λ l. without_entry c.args.name.now (map entry_view l.entries.items)) c.replace-old.ensures.value in
     written_edits c.write.result e (g.V.Vars.vars c.write.new.env) _ _
     (dropped_is e c.args.name.now xs c.is_loaded.result
@@ -30,5 +30,5 @@ returns-clause-edits g c =
 
 pub returns-clause-list : goal.returns-clause-list
 returns-clause-list g c =
-    on_any c.write.result (ap (λ v. map entry_view v.items) c.in_ok-list.ensures.0 ∙ c.without.ensures
+    on_any c.write.result (ap (λ v. map entry_view v.items) c.in_ok-list.ensures.0 ∙ c.in_ok-without.ensures
     ∙ ap (λ l. without_entry c.args.name.now (map entry_view l.entries.items)) c.replace-old.ensures.value)

@@ -4,7 +4,7 @@ use Rattle.std.proofs.lemmas.Fn.{filter_same}
 use Rattle.envstate.specs.loaded_list.Loaded.{names_of}
 use Rattle.envstate.specs.loaded_list.LoadedEntries.{entry_view}
 use Rattle.envstate.proofs.loaded_list.LoadedWriting.{named_without, without_is}
-use Rattle.envstate.proofs.loaded_list.written_list.LoadedList.without.Goals as goal
+use Rattle.envstate.proofs.loaded_list.written_list.LoadedList.without_any.Goals as goal
 
 pub invariant_of-result-clause-named : goal.invariant_of-result-clause-named
 invariant_of-result-clause-named c =
