@@ -1,5 +1,5 @@
 -- Which records a command of Environment Modules 5.2 asks for, by its words (modulefile(5), and module(1) for `module`). What a
--- name stands for is a list of modules, of which any one will do.
+-- name stands for is a list of modules, of which any one will do. Commands with other options aren't rewritten.
 use Rattle.std.specs.Prelude.{◌≡◌, List, [], ◌∷◌, All, codes}
 use Rattle.tcltext.specs.chars.Runs.{Text}
 use Rattle.modulename.specs.ModuleName.{slash}
@@ -35,7 +35,7 @@ IsAbsolute path = (rest : Text) × (path ≡ slash ∷ rest)
 abbrev pub AreAdded : PathEdit → List Text → List Record → Type 0
 AreAdded edit directories rs = All IsAbsolute directories × (rs ≡ added edit (codes "MODULEPATH") directories)
 
--- the words of `module use`: maybe an option, and directories
+-- the words of `module use`: maybe an option, which the program takes in these spellings, and directories
 pub data AreUsed : List Text → List Record → Type 0 where
   first : {words : List Text} {rs : List Record} → AreAdded Front words rs → AreUsed words rs
   p : {words : List Text} {rs : List Record} → AreAdded Front words rs → AreUsed (codes "-p" ∷ words) rs

@@ -10,7 +10,7 @@ ghost use Rattle.port_rewriting.specs.FamilyViews.{is_in_family};
 ghost use Rattle.port_rewriting.specs.RecordViews.{texts_in};
 
 use crate::symbols::VersionSymbol;
-use modulename::means;
+use modulename::{is_module_name, means};
 use port_constants::is_bare;
 use std::alloc::{AllocError, Global};
 use tcltext::chars::is_name;
@@ -342,6 +342,7 @@ pub(crate) fn meaning_in(
     ensures { IfOk result (MeansIn site.entry word.now) }
 {
     match site {
+        _ if !is_module_name(word) => Ok(Meaning::Unknown),
         Some(site) => site.meaning(alloc, word),
         None if is_specification(word) || is_implicit(word) => Ok(Meaning::Unknown),
         None => Ok(Meaning::Same),
