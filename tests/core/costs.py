@@ -132,6 +132,22 @@ def test_names_of_one_load(program, folder, note):
     true(many <= ABOVE_FEW * few, f"{many / few:.3f} times the instructions")
 
 
+def test_keyword_reads_modules_alone(product, program, folder, note):
+    """Beside a module, the files of a folder that can be no module cost a call or two: that they are listed."""
+    if not is_static(program) or hindrance(COUNTERS[goals.system_calls]):
+        pytest.skip("the counts are those of a static link, by strace")
+    folder.module("m/1.0", "module-whatis {a tool}\n")
+    env = {"MODULEPATH": os.fsdecode(folder.modules), "PATH": "/usr/bin:/bin"}
+    command = [f"{product}/libexec/module", "sh::", "keyword", "tool"]
+    with tempfile.TemporaryDirectory(prefix="modulecmd-costs-") as room:
+        before = goals.system_calls(room, command, env)
+        for number in range(50):
+            folder.module(f".git/objects/{number}", "module-whatis {a tool}\n")
+        after = goals.system_calls(room, command, env)
+    note(f"{before} calls, {after} with 50 files below .git")
+    true(after <= before + 2, f"{after - before} calls more")
+
+
 def test_lines_in_tcsh(product, program, folder, note):
     if not is_static(program) or not shutil.which("tcsh") or hindrance(COUNTERS[goals.system_calls]):
         pytest.skip("the counts are those of a static link in tcsh, by strace")
