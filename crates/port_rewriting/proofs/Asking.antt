@@ -1,5 +1,5 @@
 -- What words ask for.
-use Rattle.std.proofs.Common.{◌≡◌, ◌||◌, false, ◌<◌, ◌≤◌, ◌+◌, ◌-◌, ℕ, List, [], ◌∷◌, ◌++◌, get_or, length, map, take, drop, refl, sym, ap, subst, ◌∙◌, arith, Ok, Err, IfOk, IfSome, string_bytes}
+use Rattle.std.proofs.Common.{inl, inr, ◌≡◌, ◌||◌, false, ◌<◌, ◌≤◌, ◌+◌, ◌-◌, ℕ, List, [], ◌∷◌, ◌++◌, get_or, length, map, take, drop, refl, sym, ap, subst, ◌∙◌, arith, Ok, Err, IfOk, IfSome, string_bytes}
 use Rattle.std.proofs.lemmas.List.{map-append, take_all, take_more}
 use Rattle.std.proofs.lemmas.List.Elements.{All-push}
 use Rattle.std.specs.Prelude.{Option, Some, None, Result, String, Vec, All}
@@ -109,7 +109,8 @@ begins P (w ∷ words) t h e p =
 -- rewritings
 
 by : (P Q : List Record → Type 0) → ((rs : List Record) → P rs → Q rs) → (r : Rewrite) → IsAskedBy P r → IsAskedBy Q r
-by P Q f (rewrites.Commands text searches case) h = λ ne. let x = h ne in (x.0, f x.0 x.1, x.2)
+by P Q f (rewrites.Commands text searches case) (inl d) = inl d
+by P Q f (rewrites.Commands text searches case) (inr x) = inr (x.0, f x.0 x.1, x.2)
 by P Q f rewrites.Keep h = h
 by P Q f (rewrites.Words texts) h = h
 by P Q f (rewrites.WithoutOption case) h = h
@@ -122,7 +123,7 @@ asked P Q (Ok None) f h = h
 asked P Q (Err e) f h = h
 
 pub unasked : (P : List Record → Type 0) (r : Rewrite) → AsksNothing r → IsAskedBy P r
-unasked P (rewrites.Commands text searches case) e = λ ne. absurd (ne e)
+unasked P (rewrites.Commands text searches case) e = inl e
 unasked P rewrites.Keep h = h
 unasked P (rewrites.Words texts) h = h
 unasked P (rewrites.WithoutOption case) h = h

@@ -1,5 +1,5 @@
 -- What words, sites and rewritings of the code ask for and mean, as the definitions have it.
-use Rattle.std.specs.Prelude.{◌≡◌, ◌≢◌, List, [], ◌∷◌, Bool, true, ◌||◌, Option, Some, None, map, string_bytes, String}
+use Rattle.std.specs.Prelude.{◌≡◌, ◌⊎◌, ℕ, List, [], ◌∷◌, Bool, true, ◌||◌, Option, Some, None, map, string_bytes, String}
 use Rattle.std.specs.Prelude.{IfOk, IfSome, Result, codes}
 use Rattle.std.specs.Borrow.{Bor}
 use Rattle.std.specs.List.{list_any}
@@ -20,6 +20,7 @@ use Rattle.port_rewriting.specs.RecordViews.{shown, texts_in}
 use Rattle.port_rewriting.specs.declared.names.Meaning.{Meaning}
 use Rattle.port_rewriting.specs.declared.names.Meaning.TheVariants as meanings
 use Rattle.port_rewriting.specs.declared.names.Site.{Site}
+use Rattle.port_rewriting.specs.declared.rewrite.Case.{Case}
 use Rattle.port_rewriting.specs.declared.rewrite.Case.TheVariants as cases
 use Rattle.port_rewriting.specs.declared.rewrite.Rewrite.{Rewrite}
 use Rattle.port_rewriting.specs.declared.rewrite.Rewrite.TheVariants as rewrites
@@ -83,15 +84,19 @@ Asks given words rs =
 abbrev pub AreAskedFor : Given → List (Option (Bor Text)) → List Record → Type 0
 AreAskedFor given words rs = (texts : List Text) × AreKnown words texts × Asks given texts rs
 
+-- the command is dropped: nothing is written for it, and that is said
+abbrev pub IsDropped : List ℕ → Option Case → Type 0
+IsDropped text case = (text ≡ []) × (case ≡ Some cases.Dropped)
+
 -- a rewriting has no other commands, or drops the command
 abbrev pub AsksNothing : Rewrite → Type 0
-AsksNothing (rewrites.Commands text searches case) = case ≡ Some cases.Dropped
+AsksNothing (rewrites.Commands text searches case) = IsDropped (string_bytes text) case
 AsksNothing rewrite = Unit {0}
 
 -- the commands of a rewriting leave records that are asked for so, unless it drops the command
 abbrev pub IsAskedBy : (List Record → Type 0) → Rewrite → Type 0
 IsAskedBy Asked (rewrites.Commands text searches case) =
-    case ≢ Some cases.Dropped → (rs : List Record) × Asked rs × Leaves (string_bytes text) rs
+    IsDropped (string_bytes text) case ⊎ ((rs : List Record) × Asked rs × Leaves (string_bytes text) rs)
 IsAskedBy Asked rewrite = Unit {0}
 
 -- what may be found has commands that leave records which are asked for so
