@@ -477,11 +477,11 @@ def test_one_version(folder):
     at = old.decode()
     said = (
         "lib/mpi/4:2: translated: module load gcc", "lib/mpi/4: added: conflict lib/mpi", "mpi/4: added: conflict mpi",
-        "gcc/12: added: conflict gcc", "gcc/14: added: conflict gcc",
+        "gcc/12: added: conflict gcc", "gcc/14: added: conflict gcc", "gcc/14:2: left out: g cc",
     )  # fmt: skip
     done = folder.run("--one-version", old, new)
     same(sorted(done.stdout.decode().splitlines()), sorted(f"{at}/{it}" for it in said), "what is said")
-    same((done.stderr, done.returncode), (b"", 0), "standard error and status")
+    same((done.stderr, done.returncode), (b"", 1), "standard error and status")
     written = {
         "gcc/12": "# of GNU\n\nconflict gcc\nprereq zlib\n",
         "gcc/13": "setenv G 1\nconflict icc gcc\n",
@@ -494,8 +494,8 @@ def test_one_version(folder):
         "tool": "setenv T 1\n",
     }
     same(contents(new), {name: (COOKIE + it).encode() for name, it in written.items()}, "what is written")
-    again = folder.run("--one-version", "--check", "--json", new)
-    same((again.stdout, again.returncode), (b"", 0), "what is written has nothing more to add")
+    again = folder.run("--one-version", "--check", new)
+    same((again.stdout, again.returncode), (new + b"/gcc/14:3: left out: g cc\n", 1), "what is written has nothing more to add")
 
 
 def files_of(row):
