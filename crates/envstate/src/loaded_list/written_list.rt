@@ -64,13 +64,14 @@ fn asks_nothing(entry: &Loaded) -> bool
 }
 
 impl LoadedList {
-    /// No module.
-    pub fn new(alloc: Global) -> LoadedList
-        ensures { result.entries.items ≡ [] }
+    /// The list of modules with these names, which wasn't written.
+    fn unwritten(entries: Vec<Loaded>, names: Vec<String>) -> LoadedList
+        requires { texts_in names ≡ names_of (map entry_view entries.items) }
+        ensures { result.entries ≡ entries }
     {
         LoadedList {
-            entries: Vec::new(alloc),
-            names: Vec::new(alloc),
+            entries,
+            names,
             is_written: false,
             names_value: None,
             files_value: None,
@@ -79,20 +80,19 @@ impl LoadedList {
         }
     }
 
+    /// No module.
+    pub fn new(alloc: Global) -> LoadedList
+        ensures { result.entries.items ≡ [] }
+    {
+        LoadedList::unwritten(Vec::new(alloc), Vec::new(alloc))
+    }
+
     /// The modules of these entries.
     pub fn of(alloc: Global, entries: Vec<Loaded>) -> Result<LoadedList, AllocError>
         ensures { IfOk result (λ list. list.entries ≡ entries) }
     {
         let names = owned(alloc, names_of(alloc, entries.as_slice())?.as_slice())?;
-        Ok(LoadedList {
-            entries,
-            names,
-            is_written: false,
-            names_value: None,
-            files_value: None,
-            conflicts_value: None,
-            prereqs_value: None,
-        })
+        Ok(LoadedList::unwritten(entries, names))
     }
 
     /// The modules' entries, in load order.
@@ -116,23 +116,11 @@ impl LoadedList {
         let LoadedList {
             mut entries,
             mut names,
-            is_written: _,
-            names_value: _,
-            files_value: _,
-            conflicts_value: _,
-            prereqs_value: _,
+            ..
         } = self;
         names.push(String::from_str(alloc, entry.name.as_str())?)?;
         entries.push(entry)?;
-        Ok(LoadedList {
-            entries,
-            names,
-            is_written: false,
-            names_value: None,
-            files_value: None,
-            conflicts_value: None,
-            prereqs_value: None,
-        })
+        Ok(LoadedList::unwritten(entries, names))
     }
 
     /// A list that was written, with one more module at its end, which is appended to the values.
@@ -215,23 +203,11 @@ impl LoadedList {
         let LoadedList {
             mut entries,
             mut names,
-            is_written: _,
-            names_value: _,
-            files_value: _,
-            conflicts_value: _,
-            prereqs_value: _,
+            ..
         } = self;
         entries.retain(|entry| entry.name.as_str() != name);
         names.retain(|other| other.as_str() != name);
-        LoadedList {
-            entries,
-            names,
-            is_written: false,
-            names_value: None,
-            files_value: None,
-            conflicts_value: None,
-            prereqs_value: None,
-        }
+        LoadedList::unwritten(entries, names)
     }
 
     /// The list without a module.

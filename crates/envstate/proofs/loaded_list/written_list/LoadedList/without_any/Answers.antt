@@ -6,8 +6,8 @@ use Rattle.envstate.specs.loaded_list.LoadedEntries.{entry_view}
 use Rattle.envstate.proofs.loaded_list.LoadedWriting.{named_without, without_is}
 use Rattle.envstate.proofs.loaded_list.written_list.LoadedList.without_any.Goals as goal
 
-pub invariant_of-result-clause-named : goal.invariant_of-result-clause-named
-invariant_of-result-clause-named c =
+pub unwritten-requires : goal.unwritten-requires
+unwritten-requires c =
     let list = c.args.self in
     let stay = filter_same _ (λ entry. not (bytes_eq (string_bytes entry.name) c.args.name.now)) _ (λ x b g k. search rules) _ _ c.retain.ensures.filtered in
     let names = filter_same _ (λ other. not (bytes_eq (string_bytes other) c.args.name.now)) _ (λ x b g k. search rules) _ _ c.retain-2.ensures.filtered in
@@ -16,5 +16,6 @@ invariant_of-result-clause-named c =
 
 pub returns : goal.returns
 returns c =
-    ap (map entry_view) (filter_same _ (λ entry. not (bytes_eq (string_bytes entry.name) c.args.name.now)) _ (λ x b g k. search rules)
+    ap (λ v. map entry_view v.items) c.unwritten.ensures
+    ∙ ap (map entry_view) (filter_same _ (λ entry. not (bytes_eq (string_bytes entry.name) c.args.name.now)) _ (λ x b g k. search rules)
     _ _ c.retain.ensures.filtered) ∙ without_is c.args.self.entries.items c.args.name.now
