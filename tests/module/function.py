@@ -848,6 +848,19 @@ def test_memory_of_listings(program, folder, modules, tmp_path):
         refuses_each(shim, shown, (1, f"ERROR: {wording(31)}\n", "").__eq__, words)
 
 
+def test_a_restore_loads_each_name_in_turn(program, folder, tmp_path):
+    """Also one that stands there twice: behind a module that adds a directory it means another module."""
+    door = f"prepend-path MODULEPATH {os.fsdecode(folder.path)}/n\n"
+    for name, text in (("foo/1", ""), ("door/1", door), ("../n/foo/2", "")):
+        folder.module(name, text)
+    file = tmp_path / ".config" / "modulecmd" / "c"
+    file.parent.mkdir(parents=True)
+    file.write_text("module load foo door foo\n")
+    done = run(program, ["sh", "restore", "c"], {"HOME": str(tmp_path), "MODULEPATH": os.fsdecode(folder.modules)})
+    same((done.returncode, done.stderr), (0, ""), "the status, and what is said")
+    same(evaluated(done.stdout.encode(), {})[b"LOADEDMODULES"], b"foo/1:door/1:foo/2", "what is loaded")
+
+
 def test_the_working_directory(program, place):
     """It has the shell's name where that is one, and else the system's; where it is gone, relative words are refused."""
     link = os.path.join(place, "link")
