@@ -56,7 +56,6 @@ CRATE = re.compile(r"tcl(?!sh$)[a-z]+|env(?!iron)[a-z]+|cases_\w+|audit_\w+")
 REFUSAL = re.compile(r"^\| `\w+`[^|]*\| ([0-9, ]+) \| ([^|]*) \|", re.MULTILINE)
 SUBJECT = re.compile(r"\b[NX]\b")
 TABLES = {
-    "crates/message/src/refusals.rt": re.compile(r'RefusalKind::\w+ => \((\d+), "(.*)", "(.*)"\),'),
     "crates/message/specs/Refusals.antt": re.compile(
         r'^row_of kinds\.\w+ = row (\d+) (?:\[\]|\(codes "(.*?)"\)) (?:\[\]|\(codes "(.*)"\))$', re.MULTILINE),
 }
@@ -369,8 +368,8 @@ def check_citations():
 
 
 def check_refusals():
-    """The table of refusals in REFUSALS.md has the numbers and texts of that of the program, and the definitions too. A
-    row whose text isn't a code span begins a message that the page tells by its words."""
+    """The table of refusals in REFUSALS.md has the numbers and texts of the definition; the program's are proved to be
+    those. A row whose text isn't a code span begins a message that the page tells by its words."""
     page = {}
     for numbers, text in REFUSAL.findall(content("docs", "REFUSALS.md")):
         for number in numbers.split(", "):

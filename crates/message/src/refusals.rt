@@ -100,14 +100,6 @@ pub enum RefusalKind {
     WriteFailed,
 }
 
-/// A row of the table: a number, and the text before and after what the refusal names.
-#[derive(Clone, Copy)]
-struct Row {
-    number: u16,
-    before: &'static str,
-    after: &'static str,
-}
-
 /// The number of a refusal, and its text.
 #[derive(Clone, Copy, Debug, PartialEq, Eq)]
 pub struct NumberedMessage<'a> {
@@ -118,85 +110,147 @@ pub struct NumberedMessage<'a> {
 }
 
 impl RefusalKind {
-    /// The row of the table.
-    fn row(self) -> Row
-        ensures number { result.number ≡ (row_of self).number }
-        ensures before { result.before.now ≡ (row_of self).before }
-        ensures after { result.after.now ≡ (row_of self).after }
-    {
-        let (number, before, after) = match self {
-            RefusalKind::MemoryForText => (1, "Out of memory", ""),
-            RefusalKind::OpenBrace => (2, "Missing close-brace at byte ", ""),
-            RefusalKind::OpenQuote => (3, "Missing close-quote at byte ", ""),
-            RefusalKind::OpenBracket => (4, "Missing close-bracket at byte ", ""),
-            RefusalKind::JoinedToClose => (5, "Extra characters after a close at byte ", ""),
-            RefusalKind::TextTooDeep => (6, "Text is nested too deeply", ""),
-            RefusalKind::BadCharacter => (7, "Bad character at byte ", ""),
-            RefusalKind::BadExpression => (8, "Bad expression at byte ", ""),
-            RefusalKind::TooLong => (9, "Text is too long", ""),
-            RefusalKind::MemoryForEvaluation => (11, "Out of memory", ""),
-            RefusalKind::BadText => (12, "", ""),
-            RefusalKind::TclError => (13, "", ""),
-            RefusalKind::TooManyCommands => (14, "Too many commands", ""),
-            RefusalKind::EvaluationTooDeep => (15, "Too many nested evaluations", ""),
-            RefusalKind::ValueTooLong => (16, "A value is too long", ""),
-            RefusalKind::NumberTooLarge => (17, "A number is too large", ""),
-            RefusalKind::FractionOperand => (18, "A number with a fraction is not computed", ""),
-            RefusalKind::LeftOut => (19, "'", "' is left out"),
-            RefusalKind::Stopped => (20, "Stopped by the modulefile", ""),
-            RefusalKind::Host => (21, "Refused by ", ""),
-            RefusalKind::MemoryForRequest => (31, "Out of memory", ""),
-            RefusalKind::BadVariable => (32, "Bad variable name '", "'"),
-            RefusalKind::Protected => (33, "Variable '", "' is kept by the tool"),
-            RefusalKind::CounterFull => (34, "Counter of '", "' is full"),
-            RefusalKind::Inconsistent => (35, "Loaded modules are inconsistent", ""),
-            RefusalKind::BadStack => (36, "Bad stack of '", "'"),
-            RefusalKind::BadValue => (37, "Bad value of '", "'"),
-            RefusalKind::MemoryForSearch => (41, "Out of memory", ""),
-            RefusalKind::NotFound => (42, "Unable to locate a modulefile for '", "'"),
-            RefusalKind::Device => (43, "Reading failed", ""),
-            RefusalKind::BadName => (44, "Bad module name '", "'"),
-            RefusalKind::BadDefaultFile => (45, "Bad default file '", "'"),
-            RefusalKind::NotUtf8 => (46, "Not UTF-8: '", "'"),
-            RefusalKind::ConflictWith => (51, "Conflict with '", "'"),
-            RefusalKind::PrereqMissing => (52, "Missing one of '", "'"),
-            RefusalKind::StillNeededBy => (53, "Still needed by '", "'"),
-            RefusalKind::FileGone => (54, "No file at '", "'"),
-            RefusalKind::NotAModulefile => (55, "Not a modulefile: '", "'"),
-            RefusalKind::BadArguments => (56, "Bad arguments", ""),
-            RefusalKind::UnknownSubcommand => (57, "Unknown subcommand '", "'"),
-            RefusalKind::MemoryForPrinting => (61, "Out of memory", ""),
-            RefusalKind::NotSayable => (62, "Value of '", "' can't be said in this shell"),
-            RefusalKind::UnknownShell => (63, "Unknown shell '", "'"),
-            RefusalKind::WriteFailed => (64, "Writing failed", ""),
-        };
-        Row {
-            number,
-            before,
-            after,
-        }
-    }
-
     /// The number of the refusal.
     pub fn number(self) -> u16
         ensures { result ≡ number_of self }
     {
-        self.row().number
+        match self {
+            RefusalKind::MemoryForText => 1,
+            RefusalKind::OpenBrace => 2,
+            RefusalKind::OpenQuote => 3,
+            RefusalKind::OpenBracket => 4,
+            RefusalKind::JoinedToClose => 5,
+            RefusalKind::TextTooDeep => 6,
+            RefusalKind::BadCharacter => 7,
+            RefusalKind::BadExpression => 8,
+            RefusalKind::TooLong => 9,
+            RefusalKind::MemoryForEvaluation => 11,
+            RefusalKind::BadText => 12,
+            RefusalKind::TclError => 13,
+            RefusalKind::TooManyCommands => 14,
+            RefusalKind::EvaluationTooDeep => 15,
+            RefusalKind::ValueTooLong => 16,
+            RefusalKind::NumberTooLarge => 17,
+            RefusalKind::FractionOperand => 18,
+            RefusalKind::LeftOut => 19,
+            RefusalKind::Stopped => 20,
+            RefusalKind::Host => 21,
+            RefusalKind::MemoryForRequest => 31,
+            RefusalKind::BadVariable => 32,
+            RefusalKind::Protected => 33,
+            RefusalKind::CounterFull => 34,
+            RefusalKind::Inconsistent => 35,
+            RefusalKind::BadStack => 36,
+            RefusalKind::BadValue => 37,
+            RefusalKind::MemoryForSearch => 41,
+            RefusalKind::NotFound => 42,
+            RefusalKind::Device => 43,
+            RefusalKind::BadName => 44,
+            RefusalKind::BadDefaultFile => 45,
+            RefusalKind::NotUtf8 => 46,
+            RefusalKind::ConflictWith => 51,
+            RefusalKind::PrereqMissing => 52,
+            RefusalKind::StillNeededBy => 53,
+            RefusalKind::FileGone => 54,
+            RefusalKind::NotAModulefile => 55,
+            RefusalKind::BadArguments => 56,
+            RefusalKind::UnknownSubcommand => 57,
+            RefusalKind::MemoryForPrinting => 61,
+            RefusalKind::NotSayable => 62,
+            RefusalKind::UnknownShell => 63,
+            RefusalKind::WriteFailed => 64,
+        }
+    }
+
+    /// The text before what the refusal names.
+    fn before(self) -> &'static str
+        ensures { result.now ≡ (row_of self).before }
+    {
+        match self {
+            RefusalKind::MemoryForText
+            | RefusalKind::MemoryForEvaluation
+            | RefusalKind::MemoryForRequest
+            | RefusalKind::MemoryForSearch
+            | RefusalKind::MemoryForPrinting => "Out of memory",
+            RefusalKind::OpenBrace => "Missing close-brace at byte ",
+            RefusalKind::OpenQuote => "Missing close-quote at byte ",
+            RefusalKind::OpenBracket => "Missing close-bracket at byte ",
+            RefusalKind::JoinedToClose => "Extra characters after a close at byte ",
+            RefusalKind::TextTooDeep => "Text is nested too deeply",
+            RefusalKind::BadCharacter => "Bad character at byte ",
+            RefusalKind::BadExpression => "Bad expression at byte ",
+            RefusalKind::TooLong => "Text is too long",
+            RefusalKind::BadText | RefusalKind::TclError => "",
+            RefusalKind::TooManyCommands => "Too many commands",
+            RefusalKind::EvaluationTooDeep => "Too many nested evaluations",
+            RefusalKind::ValueTooLong => "A value is too long",
+            RefusalKind::NumberTooLarge => "A number is too large",
+            RefusalKind::FractionOperand => "A number with a fraction is not computed",
+            RefusalKind::LeftOut => "'",
+            RefusalKind::Stopped => "Stopped by the modulefile",
+            RefusalKind::Host => "Refused by ",
+            RefusalKind::BadVariable => "Bad variable name '",
+            RefusalKind::Protected => "Variable '",
+            RefusalKind::CounterFull => "Counter of '",
+            RefusalKind::Inconsistent => "Loaded modules are inconsistent",
+            RefusalKind::BadStack => "Bad stack of '",
+            RefusalKind::BadValue => "Bad value of '",
+            RefusalKind::NotFound => "Unable to locate a modulefile for '",
+            RefusalKind::Device => "Reading failed",
+            RefusalKind::BadName => "Bad module name '",
+            RefusalKind::BadDefaultFile => "Bad default file '",
+            RefusalKind::NotUtf8 => "Not UTF-8: '",
+            RefusalKind::ConflictWith => "Conflict with '",
+            RefusalKind::PrereqMissing => "Missing one of '",
+            RefusalKind::StillNeededBy => "Still needed by '",
+            RefusalKind::FileGone => "No file at '",
+            RefusalKind::NotAModulefile => "Not a modulefile: '",
+            RefusalKind::BadArguments => "Bad arguments",
+            RefusalKind::UnknownSubcommand => "Unknown subcommand '",
+            RefusalKind::NotSayable => "Value of '",
+            RefusalKind::UnknownShell => "Unknown shell '",
+            RefusalKind::WriteFailed => "Writing failed",
+        }
+    }
+
+    /// The text behind what the refusal names.
+    fn after(self) -> &'static str
+        ensures { result.now ≡ (row_of self).after }
+    {
+        match self {
+            RefusalKind::LeftOut => "' is left out",
+            RefusalKind::BadVariable
+            | RefusalKind::BadStack
+            | RefusalKind::BadValue
+            | RefusalKind::NotFound
+            | RefusalKind::BadName
+            | RefusalKind::BadDefaultFile
+            | RefusalKind::NotUtf8
+            | RefusalKind::ConflictWith
+            | RefusalKind::PrereqMissing
+            | RefusalKind::StillNeededBy
+            | RefusalKind::FileGone
+            | RefusalKind::NotAModulefile
+            | RefusalKind::UnknownSubcommand
+            | RefusalKind::UnknownShell => "'",
+            RefusalKind::Protected => "' is kept by the tool",
+            RefusalKind::CounterFull => "' is full",
+            RefusalKind::NotSayable => "' can't be said in this shell",
+            _ => "",
+        }
     }
 
     /// The refusal, about this subject.
     fn about<'a>(self, subject: Subject<'a>) -> NumberedMessage<'a>
         ensures { numbered_text result ≡ table.about self (subject_text subject.entry) }
     {
-        let row = self.row();
-        let message = Message {
-            before: row.before,
-            subject,
-            after: row.after,
-        };
         NumberedMessage {
-            number: row.number,
-            message,
+            number: self.number(),
+            message: Message {
+                before: self.before(),
+                subject,
+                after: self.after(),
+            },
         }
     }
 
