@@ -280,10 +280,10 @@ fn read_word<'a, S: Source<P>, P: Drop>(
     }
 }
 
-/// The content of a word in braces, in quotes or in neither, and the rest.
+/// The content of a word in braces, in quotes or in neither, and the rest. A run of literal text has no parts.
 #[inline(always)]
 #[cycle(read)]
-#[tactic(auto, unfolding(crate::specs::script::Reading::unexpanded_word_at))]
+#[tactic(auto, unfolding(crate::specs::script::Reading::unexpanded_word_at, crate::specs::script::Reading::quoted_word_at, crate::specs::script::Reading::quotes_at))]
 fn read_unexpanded_word<'a, S: Source<P>, P: Drop>(
     alloc: Global,
     source: &S,
@@ -298,25 +298,10 @@ fn read_unexpanded_word<'a, S: Source<P>, P: Drop>(
     if let Some(following) = after_mark(text, b'{') {
         return read_braced(source, following, nesting);
     }
-    match after_mark(text, b'"') {
-        Some(following) => read_quoted(alloc, source, following, depth, nesting),
-        None => read_bare(alloc, source, text, depth, nesting),
+    if let Some(following) = after_mark(text, b'"') {
+        let (parts, after) = read_quotes(alloc, source, following, depth)?;
+        return Ok((WordContent::Parts(parts), require_word_end(after, nesting)?));
     }
-}
-
-/// The content of a word without quotes and braces, and the rest. One that is a run of literal text has no parts.
-#[cycle(read)]
-fn read_bare<'a, S: Source<P>, P: Drop>(
-    alloc: Global,
-    source: &S,
-    text: &'a str,
-    depth: usize,
-    nesting: Nesting,
-) -> Result<(WordContent<P>, &'a str), ReadError>
-    requires { IsSuffixOf (S.text source.now) text.now }
-    ensures { Gives stopped_by (λ x. (content_view (S.shown source.now) x.0, x.1.now)) result
-        (parts_with (bare (is_nested nesting)) (inner_at depth) text.now) }
-{
     if let Some((run, rest)) = literal_word(text, nesting) {
         return Ok((WordContent::Bare(source.cut(text, run)), rest));
     }
@@ -343,25 +328,6 @@ pub fn read_quotes<'a, S: Source<P>, P: Drop>(
     let (parts, close) = read_parts(alloc, source, text, depth, Context::InQuotes)?;
     let rest = after_closing(close, b'"', Fault::OpenQuote(remaining_with_mark(text)))?;
     Ok((parts, rest))
-}
-
-/// The content of a word in quotes, and the rest; `text` follows the opening quote.
-#[cycle(read)]
-#[tactic(auto, unfolding(crate::specs::script::Reading::quoted_word_at, crate::specs::script::Reading::quotes_at))]
-fn read_quoted<'a, S: Source<P>, P: Drop>(
-    alloc: Global,
-    source: &S,
-    text: &'a str,
-    depth: usize,
-    nesting: Nesting,
-) -> Result<(WordContent<P>, &'a str), ReadError>
-    requires { IsSuffixOf (S.text source.now) text.now }
-    ensures { Gives stopped_by (λ x. (content_view (S.shown source.now) x.0, x.1.now)) result
-        (quoted_word_at (is_nested nesting) (inner_at depth) text.now) }
-{
-    let (parts, after) = read_quotes(alloc, source, text, depth)?;
-    let rest = require_word_end(after, nesting)?;
-    Ok((WordContent::Parts(parts), rest))
 }
 
 /// The parts up to where they end in that context, and the rest.

@@ -261,8 +261,8 @@ read_unexpanded_word-read_braced-requires g t c =
     let r : IsSuffixOf (g.S.Source.text c.args.source.now) c.args.text.now = search rules in
     end_through (g.S.Source.text c.args.source.now) c.args.text.now c.in-Some.following.now r (end_mark c.args.text.now 123 c.in-Some.following.now c.in-Some.ensures)
 
-pub read_unexpanded_word-read_quoted-requires : goal.read_unexpanded_word-read_quoted-requires
-read_unexpanded_word-read_quoted-requires g t c =
+pub read_unexpanded_word-read_quotes-requires : goal.read_unexpanded_word-read_quotes-requires
+read_unexpanded_word-read_quotes-requires g t c =
     let r : IsSuffixOf (g.S.Source.text c.args.source.now) c.args.text.now = search rules in
     let e : IsSuffixOf (g.S.Source.text c.args.source.now) c.in-Some-after_mark.following.now =
     end_through (g.S.Source.text c.args.source.now) c.args.text.now c.in-Some-after_mark.following.now r (end_mark c.args.text.now 34 c.in-Some-after_mark.following.now c.in-Some-after_mark.ensures)

@@ -25,12 +25,6 @@ decreases-read_parts g l = 11 * l.depth + 3
 abbrev pub decreases-read_quotes : goal.decreases-read_quotes
 decreases-read_quotes g l = 11 * l.depth + 4
 
-abbrev pub decreases-read_quoted : goal.decreases-read_quoted
-decreases-read_quoted g l = 11 * l.depth + 5
-
-abbrev pub decreases-read_bare : goal.decreases-read_bare
-decreases-read_bare g l = 11 * l.depth + 6
-
 abbrev pub decreases-read_unexpanded_word : goal.decreases-read_unexpanded_word
 decreases-read_unexpanded_word g l = 11 * l.depth + 7
 
