@@ -106,7 +106,7 @@ class Work:
     def memory(self):
         """Bytes that a proof from nothing may take, by its own lines and those of the crates that it loads."""
         loaded = sum(it.lines[0] for it in self.all_below)
-        return 1_200_000_000 + 1_000_000 * self.lines[0] + 200_000 * self.lines[1] + 80_000 * loaded
+        return 1_200_000_000 + 1_000_000 * self.lines[0] + 50_000 * self.lines[1] + 40_000 * loaded
 
     def source_sum(self):
         """What the crate's own files hold."""
@@ -253,13 +253,13 @@ class Schedule:
             need = work.memory()
             if idle <= 0 or (self.running and need > room):
                 continue
-            more = int((room / need - 1) / 0.6) if room > need else 0
             share = idle // (len(ready) - place)
             share = max(share, (idle + 1) // 2) if place == 0 else share
-            jobs = max(1, min(MOST_JOBS, share, 1 + more))
+            # (Copies share what was loaded before them and give back what they took: together they need less than one
+            # process that keeps everything.)
+            jobs = max(1, min(MOST_JOBS, share))
             self.left.remove(work)
-            memory = need * (1 + 0.6 * (jobs - 1))
-            self.running[pool.submit(work.do, jobs)] = (work, jobs, memory)
+            self.running[pool.submit(work.do, jobs)] = (work, jobs, need)
 
     def end_one(self):
         for future in wait(self.running, return_when=FIRST_COMPLETED).done:
