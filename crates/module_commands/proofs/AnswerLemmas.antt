@@ -11,11 +11,11 @@ use Rattle.module_words.specs.function.Faults.{FunctionReason, reason_of}
 use Rattle.module_commands.specs.Answers.{Answered, IsRefused, WritesAsked, WritesCommand, WritesExchange, answer_view, refused, refused_words}
 use Rattle.module_commands.specs.Explanations.{AreRefusedWords, Explains, ExplainsMove, Told, explained_view, told_behind}
 use Rattle.module_commands.specs.declared.answering.Answer.{Answer}
-use Rattle.module_commands.specs.declared.asking.Asking.{Asking}
+use Rattle.module_subcommands.specs.declared.asking.Asking.{Asking}
 use Rattle.module_commands.specs.declared.explaining.Explained.{Explained}
-use Rattle.module_commands.specs.declared.refusal.Refusal.{Refusal}
-use Rattle.module_commands.specs.declared.refusal.Refusal.TheVariants as refusals
-use Rattle.module_commands.proofs.NarrowLemmas.{refused_narrowed}
+use Rattle.module_subcommands.specs.declared.refusal.Refusal.{Refusal}
+use Rattle.module_subcommands.specs.declared.refusal.Refusal.TheVariants as refusals
+use Rattle.module_commands.proofs.RefusalLemmas.{refused_narrowed}
 
 pub move_explained : (before now : Files → Listings → Type 0) → Narrows before now → (asking : Asking) (e : Environment) (command : Command) (words : List Text) (r : Result Explained AllocError)
     → AreRefusedWords before asking e command words → IfOk r (λ x. Explains now asking e words (explained_view x)) → IfOk r (λ x. ExplainsMove now asking e command (explained_view x))

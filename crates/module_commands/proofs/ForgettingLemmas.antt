@@ -6,8 +6,8 @@ use Rattle.filetree.specs.Agreement.{Files, Listings}
 use Rattle.module_restore.specs.forgetting.Answers.{IsWayOut}
 use Rattle.module_restore.specs.forgetting.Said.{way_out_line}
 use Rattle.module_commands.specs.Forgettings.{IsWayOutOf}
-use Rattle.module_commands.specs.Replies.{own_line}
-use Rattle.module_commands.specs.declared.asking.Asking.{Asking}
+use Rattle.module_subcommands.specs.Replies.{own_line}
+use Rattle.module_subcommands.specs.declared.asking.Asking.{Asking}
 
 pub named : (agrees : Files → Listings → Type 0) (asking : Asking) (by_gone : Bool) (names : List Text) (lines : Text) → by_gone ≡ true → IsWayOut agrees asking.shell asking.env names
     → lines ≡ own_line asking.site.streams.error (way_out_line names) → IsWayOutOf agrees asking by_gone lines

@@ -10,16 +10,16 @@ use Rattle.module_words.specs.function.Asked.{Asked, Command, asked_for, both, o
 use Rattle.module_words.specs.function.Faults.{FunctionReason, reason_of}
 use Rattle.module_words.specs.protocol.Askers.{refusal_status}
 use Rattle.module_commands.specs.Commands.{AnswersCommand}
-use Rattle.module_commands.specs.Exchanges.{Exchanges}
+use Rattle.module_subcommands.specs.Exchanges.{Exchanges}
 use Rattle.module_commands.specs.Explanations.{Told, told_behind}
-use Rattle.module_commands.specs.Refusals.{error_line}
-use Rattle.module_commands.specs.Replies.{hints_of, own_line, status_of, writings_of}
-use Rattle.module_commands.specs.Writings.{Written, writing_view}
+use Rattle.module_subcommands.specs.Refusals.{error_line}
+use Rattle.module_subcommands.specs.Replies.{hints_of, own_line, status_of, writings_of}
+use Rattle.module_subcommands.specs.Writings.{Written, writing_view}
 use Rattle.module_commands.specs.declared.answering.Answer.{Answer}
-use Rattle.module_commands.specs.declared.asking.Asking.{Asking}
-use Rattle.module_commands.specs.declared.refusal.Refusal.{Refusal}
-use Rattle.module_commands.specs.declared.refusal.Refusal.TheVariants as refusals
-use Rattle.module_commands.specs.declared.reply.Reply.{Reply}
+use Rattle.module_subcommands.specs.declared.asking.Asking.{Asking}
+use Rattle.module_subcommands.specs.declared.refusal.Refusal.{Refusal}
+use Rattle.module_subcommands.specs.declared.refusal.Refusal.TheVariants as refusals
+use Rattle.module_subcommands.specs.declared.reply.Reply.{Reply}
 
 -- what is written, whether it matters that it is, the lines behind that, a path that a user is told of, and the status
 pub record Answered : Type 0 where

@@ -8,16 +8,16 @@ use Rattle.module_words.specs.declared.protocol.place.Place.TheVariants as place
 use Rattle.module_words.specs.declared.subcommands.table.Subcommand.TheVariants as subcommands
 use Rattle.module_words.specs.declared.subcommands.table.Subcommand.{Subcommand}
 use Rattle.module_words.specs.function.Asked.{Command}
-use Rattle.module_commands.specs.Collections.{ListsSaved, Reloads, RemovesSaved, RestoresSaved, SavesModules, ShowsSaved}
-use Rattle.module_commands.specs.Descriptions.{DescribesAll, DescribesSought, HelpsOn, ReportsModules, SaysUsage, SaysVersion}
-use Rattle.module_commands.specs.Edits.{Edits, TestsLoaded}
+use Rattle.module_subcommands.specs.Collections.{ListsSaved, Reloads, RemovesSaved, RestoresSaved, SavesModules, ShowsSaved}
+use Rattle.module_subcommands.specs.Descriptions.{DescribesAll, DescribesSought, HelpsOn, ReportsModules, SaysUsage, SaysVersion}
+use Rattle.module_subcommands.specs.Edits.{Edits, TestsLoaded}
 use Rattle.module_commands.specs.Forgettings.{ForgetsModules}
-use Rattle.module_commands.specs.Listings.{ReportsDirectories, ReportsLoaded, ReportsWhatIsThere, TestsAvailable}
-use Rattle.module_commands.specs.Moves.{MovesModules}
-use Rattle.module_commands.specs.Reports.{IsPaged, destination_of}
-use Rattle.module_commands.specs.declared.asking.Asking.{Asking}
-use Rattle.module_commands.specs.declared.reply.Reply.{Reply}
-use Rattle.module_commands.specs.declared.reporting.Destination.{Destination}
+use Rattle.module_subcommands.specs.Listings.{ReportsDirectories, ReportsLoaded, ReportsWhatIsThere, TestsAvailable}
+use Rattle.module_subcommands.specs.Moves.{MovesModules}
+use Rattle.module_subcommands.specs.Reports.{IsPaged, destination_of}
+use Rattle.module_subcommands.specs.declared.asking.Asking.{Asking}
+use Rattle.module_subcommands.specs.declared.reply.Reply.{Reply}
+use Rattle.module_subcommands.specs.declared.reporting.Destination.{Destination}
 
 -- The program can't bring a report there.
 abbrev pub is_elsewhere : Place → Bool

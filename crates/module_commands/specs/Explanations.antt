@@ -27,14 +27,14 @@ use Rattle.module_reports.specs.declared.listings.fault.ListingFault.TheVariants
 use Rattle.modules.specs.Answers.{cause_of}
 use Rattle.modules.specs.declared.refusal.Refusal as requests
 use Rattle.requests.specs.Requests.{list}
-use Rattle.module_commands.specs.Limits.{context, standard}
-use Rattle.module_commands.specs.Moves.{is_load}
-use Rattle.module_commands.specs.declared.asking.Asking.{Asking}
+use Rattle.module_subcommands.specs.Limits.{context, standard}
+use Rattle.module_subcommands.specs.Moves.{is_load}
+use Rattle.module_subcommands.specs.declared.asking.Asking.{Asking}
 use Rattle.module_commands.specs.declared.explaining.Cause.{Cause}
 use Rattle.module_commands.specs.declared.explaining.Cause.TheVariants.{NoPermission, Readable, Unknown}
 use Rattle.module_commands.specs.declared.explaining.Explained.{Explained}
-use Rattle.module_commands.specs.declared.refusal.Refusal.{Refusal}
-use Rattle.module_commands.specs.declared.refusal.Refusal.TheVariants as refusals
+use Rattle.module_subcommands.specs.declared.refusal.Refusal.{Refusal}
+use Rattle.module_subcommands.specs.declared.refusal.Refusal.TheVariants as refusals
 
 -- lines, and a path that can't be read, of which a user is to be told why
 pub record Told : Type 0 where

@@ -14,15 +14,15 @@ use Rattle.module_restore.specs.declared.fault.KeepFault.TheVariants as keeps
 use Rattle.module_words.specs.function.Asked.{Command}
 use Rattle.module_words.specs.function.Faults.{reason_of}
 use Rattle.module_words.specs.function.Forgotten.{Named, forgotten_names}
-use Rattle.module_commands.specs.Afters.{after_one}
+use Rattle.module_subcommands.specs.Afters.{after_one}
 use Rattle.module_commands.specs.Explanations.{Told}
-use Rattle.module_commands.specs.Moves.{Answered, changed_view}
-use Rattle.module_commands.specs.Replies.{own_line}
-use Rattle.module_commands.specs.declared.asking.Asking.{Asking}
-use Rattle.module_commands.specs.declared.refusal.Refusal.{Refusal}
-use Rattle.module_commands.specs.declared.refusal.Refusal.TheVariants as refusals
-use Rattle.module_commands.specs.declared.reply.Reply.{Reply}
-use Rattle.module_commands.specs.declared.reply.Reply.TheVariants as replies
+use Rattle.module_subcommands.specs.Moves.{Answered, changed_view}
+use Rattle.module_subcommands.specs.Replies.{own_line}
+use Rattle.module_subcommands.specs.declared.asking.Asking.{Asking}
+use Rattle.module_subcommands.specs.declared.refusal.Refusal.{Refusal}
+use Rattle.module_subcommands.specs.declared.refusal.Refusal.TheVariants as refusals
+use Rattle.module_subcommands.specs.declared.reply.Reply.{Reply}
+use Rattle.module_subcommands.specs.declared.reply.Reply.TheVariants as replies
 
 -- what is answered: the modules are named
 abbrev pub forgotten_answer : Asking → Command → Forgotten → Answered

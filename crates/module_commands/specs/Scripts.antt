@@ -15,7 +15,7 @@ use Rattle.module_words.specs.subcommands.Meanings.{meaning}
 use Rattle.module_words.specs.subcommands.Subcommands.{name_of}
 use Rattle.module_commands.specs.Answers.{Answered}
 use Rattle.module_commands.specs.Explanations.{Told}
-use Rattle.module_commands.specs.Replies.{output_writing}
+use Rattle.module_subcommands.specs.Replies.{output_writing}
 
 -- The first word is one of a script's own, if a script asks.
 abbrev pub word_of_script : Asker → List Text → Option ScriptWord

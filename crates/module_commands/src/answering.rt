@@ -5,21 +5,19 @@ ghost use Rattle.module_commands.specs.Answers as spec;
 ghost use Rattle.module_commands.specs.Scripts as scripts;
 ghost use Rattle.module_commands.specs.Explanations.{explained_view};
 
-use crate::asking::Asking;
 use crate::command::answer_of;
-use crate::exchanging::exchange_modules;
 use crate::explaining::{
     Explained, advised, explained_cause, explained_exchange, explained_move, explained_usage,
 };
 use crate::forgetting::with_way_out;
-use crate::refusal::{Refusal, error_line};
-use crate::reply::{Reply, hints_of, own_line, status_of, writings_of};
 use crate::scripts::answer_script;
-use crate::writing::Writing;
 use filetree::Tree;
 use filetree::hiding::HidingTree;
 use module_collections::files::Storage;
 use module_reports::listings::ListingFault;
+use module_subcommands::exchanging::exchange_modules;
+use module_subcommands::reply::{Reply, hints_of, own_line, status_of, writings_of};
+use module_subcommands::{Asking, Refusal, Writing, error_line};
 use module_words::function::{Asked, AskedCommand, FunctionFault, OutputFault, asked_for};
 use module_words::protocol::{Asker, ScriptWord, refusal_status, script_word};
 use module_words::subcommands::{USAGE, VERSION};

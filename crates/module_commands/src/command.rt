@@ -3,23 +3,24 @@ ghost use Rattle.std.specs.Prelude.{IfOk};
 ghost use Rattle.module_words.specs.function.Asked.{command_view};
 ghost use Rattle.module_commands.specs.Commands as spec;
 
-use crate::asking::Asking;
-use crate::collections::{
-    list_saved, reload_modules, remove_saved, restore_saved, save_modules, show_saved,
-};
-use crate::describing::{
-    describe_all, describe_sought, help_on, report_modules, say_usage, say_version,
-};
-use crate::editing::{edit, is_loaded};
 use crate::forgetting::forget_modules;
-use crate::listing::{is_one_available, report_available, report_directories, report_loaded};
-use crate::moving::move_modules;
-use crate::refusal::Refusal;
-use crate::reply::Reply;
-use crate::reporting::{Destination, destination_of};
 use filetree::Tree;
 use filetree::hiding::HidingTree;
 use module_collections::files::Storage;
+use module_subcommands::collections::{
+    list_saved, reload_modules, remove_saved, restore_saved, save_modules, show_saved,
+};
+use module_subcommands::describing::{
+    describe_all, describe_sought, help_on, report_modules, say_usage, say_version,
+};
+use module_subcommands::editing::{edit, is_loaded};
+use module_subcommands::listing::{
+    is_one_available, report_available, report_directories, report_loaded,
+};
+use module_subcommands::moving::move_modules;
+use module_subcommands::reply::Reply;
+use module_subcommands::reporting::{Destination, destination_of};
+use module_subcommands::{Asking, Refusal};
 use module_words::function::AskedCommand;
 use module_words::protocol::Place;
 use module_words::subcommands::{Subcommand, USAGE, VERSION};

@@ -7,10 +7,6 @@ ghost use Rattle.filetree.specs.Agreement.{ReadsOn};
 ghost use Rattle.module_words.specs.function.Asked.{command_view};
 ghost use Rattle.module_commands.specs.Explanations as spec;
 
-use crate::asking::Asking;
-use crate::exchanging::{env_behind, whole_unload};
-use crate::refusal::Refusal;
-use crate::requesting::request_words;
 use envvars::{Env, Vars};
 use filetree::Tree;
 use module_auto::{refused_load, refused_unload};
@@ -19,6 +15,9 @@ use module_explain::{
     user_lines,
 };
 use module_reports::listings::ListingFault;
+use module_subcommands::exchanging::{env_behind, whole_unload};
+use module_subcommands::requesting::request_words;
+use module_subcommands::{Asking, Refusal};
 use module_words::function::{AskedCommand, FunctionFault, OutputFault, advice_on, moved_names};
 use module_words::subcommands::{Subcommand, option_elsewhere};
 use modules::{Refusal as RequestRefusal, STANDARD_LIMITS, request};

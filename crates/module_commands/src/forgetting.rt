@@ -6,19 +6,18 @@ ghost use Rattle.module_commands.specs.Explanations.{explained_view};
 ghost use Rattle.module_commands.specs.Forgettings as spec;
 ghost use Rattle.module_commands.specs.Forgettings.{ForgetsModules, IsWayOutOf, RefusesForget, is_by_gone};
 
-use crate::after::after_one;
-use crate::asking::Asking;
-use crate::changing::Accepted;
 use crate::explaining::{Explained, is_unwanted};
-use crate::moving::changed;
-use crate::refusal::Refusal;
-use crate::reply::{Reply, own_line};
 use filetree::Tree;
 use module_auto::RequestFault;
 use module_restore::KeepFault;
 use module_restore::forgetting::{
     ForgetFault, Forgotten, forget, forgotten_line, way_out, way_out_line,
 };
+use module_subcommands::after::after_one;
+use module_subcommands::changing::Accepted;
+use module_subcommands::moving::changed;
+use module_subcommands::reply::{Reply, own_line};
+use module_subcommands::{Asking, Refusal};
 use module_words::function::{AskedCommand, forgotten_names};
 use modules::Refusal as RequestRefusal;
 use std::alloc::{AllocError, Global};

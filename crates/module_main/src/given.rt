@@ -2,7 +2,7 @@
 
 use crate::streams::say_refusal;
 use envvars::Env;
-use module_commands::{Asking, Refusal, site_of};
+use module_subcommands::{Asking, Refusal, site_of};
 use module_words::protocol::{Asker, Streams, read_asker, refusal_status};
 use process::{InputFault, arguments, environment_block};
 use shelltext::Shell;

@@ -1,8 +1,7 @@
 //! What is written: an answer to the streams that it names, and lines to standard error.
 
-use module_commands::{
-    Answer, Cause, Condition, Refusal, Stream, Writing, cause_line, refusal_line,
-};
+use module_commands::{Answer, Cause, cause_line, refusal_line};
+use module_subcommands::{Condition, Refusal, Stream, Writing};
 use std::fs::{self, File};
 use std::io::{ErrorKind, IsTerminal, Result as IoResult, Write};
 use std::os::unix::fs::PermissionsExt;

@@ -1,5 +1,0 @@
-use Rattle.std.proofs.Common.{length}
-use Rattle.module_commands.proofs.describing.+help_each.Given as goal
-
-abbrev pub decreases-help_each : goal.decreases-help_each
-decreases-help_each g l = length l.names.now
