@@ -4,6 +4,7 @@ ghost use Rattle.std.specs.Prelude.{string_bytes};
 ghost use Rattle.std.specs.Fmt.{signed_decimal};
 ghost use Rattle.tcltext.specs.chars.Numerals.{numeral};
 ghost use Rattle.tcltext.specs.declared.chars.number.Numeral.TheVariants.{Whole};
+ghost use Rattle.tclrules.specs.Promise as promise;
 ghost use Rattle.tclrules.specs.Rules.{increased};
 ghost use Rattle.indexmap.specs.IndexMap.{index_of_by, index_map_len};
 ghost use Rattle.tcltext.specs.chars.Runs.{Text};
@@ -167,4 +168,15 @@ pub(crate) fn remove(table: &mut Table, name: &str)
     ensures { texts_of table.new.entries ≡ without (texts_of table.old.entries) name.now }
 {
     let _ = table.shift_remove(name);
+}
+
+/// The variables with their texts, in the order of their making.
+pub(crate) fn into_texts(alloc: Global, table: Table) -> Result<Vec<(String, String)>, AllocError>
+    ensures { IfOk result (λ texts. promise.texts_of texts.items ≡ texts_of table.entries) }
+{
+    let mut texts = Vec::new(alloc);
+    for (name, content) in table {
+        texts.push((name, content.into_text()))?;
+    }
+    Ok(texts)
 }

@@ -15,7 +15,7 @@ use crate::variables::content::Content;
 use crate::variables::local::Local;
 use crate::variables::location::{Scalar, Scope};
 use crate::variables::table::{
-    Table, content_in, holds_list, increase, put, remove, take, text_in,
+    Table, content_in, holds_list, increase, into_texts, put, remove, take, text_in,
 };
 use indexmap::IndexMap;
 use std::alloc::{AllocError, Global};
@@ -272,10 +272,6 @@ impl Variables {
         ensures { IfOk result (λ v. promise.texts_of v.items ≡ self.globals) }
     {
         let Variables { globals, .. } = self;
-        let mut texts = Vec::new(alloc);
-        for (name, content) in globals {
-            texts.push((name, content.into_text()))?;
-        }
-        Ok(texts)
+        into_texts(alloc, globals)
     }
 }
