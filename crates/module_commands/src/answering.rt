@@ -3,7 +3,7 @@ ghost use Rattle.std.specs.Prelude.{◌≡◌, None, map, string_bytes, IfOk};
 ghost use Rattle.module_words.specs.function.Asked.{command_view};
 ghost use Rattle.module_commands.specs.Answers as spec;
 ghost use Rattle.module_commands.specs.Scripts as scripts;
-ghost use Rattle.module_commands.specs.Explanations.{explained_view};
+ghost use Rattle.module_commands.specs.Explanations.{explained_view, told_behind};
 
 use crate::command::answer_of;
 use crate::explaining::{
@@ -86,6 +86,19 @@ pub(crate) fn refused(
     })
 }
 
+/// The answer to a refused command, whose reason is followed by advice on its words.
+fn refused_with_advice(
+    alloc: Global,
+    asking: &Asking,
+    refusal: &Refusal<'_>,
+) -> Result<Answer, AllocError>
+    ensures { IfOk result (λ a. spec.answer_view a ≡ spec.refused asking.now refusal.now
+        (told_behind asking.now refusal.now)) }
+{
+    let more = advised(alloc, asking, refusal)?;
+    refused(alloc, asking, refusal, more)
+}
+
 /// The answer to words that mean nothing: why, and then what to type here.
 fn refused_words(
     alloc: Global,
@@ -95,8 +108,9 @@ fn refused_words(
     ensures { IfOk result (λ a. spec.answer_view a ≡ spec.refused_words asking.now fault.entry) }
 {
     let refusal = Refusal::Function(fault);
-    let more = advised(alloc, asking, &refusal)?;
-    refused(alloc, asking, &refusal, more)
+    let answer = refused_with_advice(alloc, asking, &refusal);
+    drop(refusal);
+    answer
 }
 
 /// What explains a refusal, where that could be found.
@@ -111,14 +125,14 @@ fn if_found(alloc: Global, found: Result<Explained, AllocError>) -> Explained {
 fn refused_with_way_out<T: Tree>(
     alloc: Global,
     asking: &Asking,
-    refusal: Refusal<'_>,
+    refusal: &Refusal<'_>,
     explained: Explained,
     tree: &mut T,
 ) -> Result<Answer, AllocError>
     ensures { IfOk result (λ a. spec.IsRefused asking.now (spec.answer_view a)) }
 {
-    let more = with_way_out(alloc, asking, &refusal, explained, tree)?;
-    refused(alloc, asking, &refusal, more)
+    let more = with_way_out(alloc, asking, refusal, explained, tree)?;
+    refused(alloc, asking, refusal, more)
 }
 
 /// Whether the words of a command don't fit the subcommand.
@@ -211,7 +225,9 @@ fn answer_command<T: Tree + Drop, S: Storage>(
         Ok(reply) => accepted(alloc, asking, reply),
         Err(refusal) => {
             let more = explained_refusal(alloc, asking, command, &refusal, tree, spare);
-            refused_with_way_out(alloc, asking, refusal, more, tree)
+            let answer = refused_with_way_out(alloc, asking, &refusal, more, tree);
+            drop(refusal);
+            answer
         }
     }
 }
@@ -232,7 +248,9 @@ fn answer_exchange<T: Tree + Drop>(
         Ok(reply) => accepted(alloc, asking, reply),
         Err(refusal) => {
             let more = explained_refusals(alloc, asking, unloads, loads, &refusal, tree, spare);
-            refused_with_way_out(alloc, asking, refusal, more, tree)
+            let answer = refused_with_way_out(alloc, asking, &refusal, more, tree);
+            drop(refusal);
+            answer
         }
     }
 }

@@ -336,7 +336,10 @@ pub(crate) fn explained_move<T: Tree + Drop>(
 {
     match refused_words(alloc, asking, env, command, tree) {
         Ok(words) => explain_words(alloc, asking, env, words.as_slice(), tree, spare),
-        Err(_) => Ok(Explained::nothing(alloc)),
+        Err(refusal) => {
+            drop(refusal);
+            Ok(Explained::nothing(alloc))
+        }
     }
 }
 
@@ -364,6 +367,9 @@ pub(crate) fn explained_exchange<T: Tree + Drop>(
 ) -> Result<Explained, AllocError> {
     match behind_unload(alloc, asking, unloads, tree) {
         Ok(env) => explained_move(alloc, asking, &env, loads, tree, spare),
-        Err(_) => explained_move(alloc, asking, &asking.env, unloads, tree, spare),
+        Err(refusal) => {
+            drop(refusal);
+            explained_move(alloc, asking, &asking.env, unloads, tree, spare)
+        }
     }
 }

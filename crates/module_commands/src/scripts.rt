@@ -115,7 +115,11 @@ fn output_or_refused(
 ) -> Result<Answer, AllocError> {
     match bytes {
         Ok(bytes) => output(alloc, bytes, is_quiet),
-        Err(refusal) => refused(alloc, asking, &refusal, Explained::nothing(alloc)),
+        Err(refusal) => {
+            let answer = refused(alloc, asking, &refusal, Explained::nothing(alloc));
+            drop(refusal);
+            answer
+        }
     }
 }
 

@@ -5,4 +5,4 @@ use Rattle.module_commands.proofs.answering.answer_command.Goals as goal
 
 pub returns-in-Err : goal.returns-in-Err
 returns-in-Err g c =
-    command_refused _ _ _ _ _ _ _ USAGE.now VERSION.now c.args.asking.now (command_view c.args.command.now) c.refused_with_way_out.result c.refused_with_way_out.ensures
+    command_refused _ _ _ _ _ _ _ USAGE.now VERSION.now c.args.asking.now (command_view c.args.command.now) c.refused_with_way_out-answer.result c.refused_with_way_out-answer.ensures

@@ -4,4 +4,4 @@ use Rattle.module_commands.proofs.answering.answer_exchange.Goals as goal
 
 pub returns-in-Err : goal.returns-in-Err
 returns-in-Err g c =
-    exchange_refused _ c.args.asking.now (command_view c.args.unloads.now) (command_view c.args.loads.now) c.refused_with_way_out.result c.refused_with_way_out.ensures
+    exchange_refused _ c.args.asking.now (command_view c.args.unloads.now) (command_view c.args.loads.now) c.refused_with_way_out-answer.result c.refused_with_way_out-answer.ensures
