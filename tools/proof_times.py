@@ -21,13 +21,13 @@ import time
 from build import rtlib, works_for
 
 # The module of a function stands below its path: the model of its steps, its proof and others.
-PARTS = "Code|Given|Goals|Invariants|Answers|Kinds|Layout|Lts|Met|Named|Proof|Reads|Statement|Symbol|TheLink|Tie"
-FUNCTION = re.compile(rf"Rattle-\w+-(?:proofs|specs)\.(?:contracts\.)?(.*?)\.(?:{PARTS}|Key)\b.*")
+PARTS = "Answers|Code|Given|Goals|Invariants|Key|Kinds|Layout|Lts|Met|Named|Proof|Reads|Statement|Symbol|TheLink|Tie"
+FUNCTION = re.compile(rf"Rattle-\w+-(?:proofs|specs)\.(?:contracts\.)?(.*?)\.(?:{PARTS})\b.*")
 DEFINITIONS = re.compile(r"Rattle-\w+-specs\.(?!contracts\.)")
 
 
 def prove(work, kept):
-    """Proves the crate over an empty folder, and gives when that began, or the prover's last lines where it failed."""
+    """Proves the crate over an empty folder, and gives when that began. Where it fails, its last lines are the end."""
     words = work.crate.words(["--jobs", "1"])
     began = time.time()
     done = subprocess.run(
