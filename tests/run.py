@@ -158,7 +158,8 @@ def gate():
         if os.path.exists(left_by_the_gate(name)):
             os.remove(left_by_the_gate(name))
     os.environ.setdefault("RT_JOBS", str(crates_at_a_time()))
-    counts = counted(["rt", "ci"])
+    # (with it the prover's allocator keeps what is freed: proofs take a twentieth less)
+    counts = counted(["env", "MIMALLOC_PURGE_DELAY=-1", "rt", "ci"])
     os.makedirs(BUILT, exist_ok=True)
     for name in PROGRAMS:
         if os.path.exists(left_by_the_gate(name)):
