@@ -54,8 +54,13 @@ SHOWN_LINES = 30
 
 
 def processors():
+    """How many processors may be used. More processes than that are begun, so they are kept to these."""
+    allowed = sorted(os.sched_getaffinity(0))
     jobs = os.environ.get("JOBS", "")
-    return int(jobs) if jobs.isdigit() and int(jobs) > 0 else len(os.sched_getaffinity(0))
+    if jobs.isdigit() and int(jobs) > 0:
+        allowed = allowed[: int(jobs)]
+        os.sched_setaffinity(0, allowed)
+    return len(allowed)
 
 
 def free_memory():
@@ -102,9 +107,9 @@ class Work:
         return os.path.join(self.room, name)
 
     def cost(self):
-        """Processor seconds: those of the last time, or about as many as its lines take."""
+        """Processor seconds: those of the last time, or about as many as its lines of code take."""
         known = rtlib.text_of(self.file("seconds"))
-        return float(known) if known else 10 + 0.15 * self.lines[0] + 0.03 * self.lines[1]
+        return float(known) if known else 10 + 0.12 * self.lines[0]
 
     def memory(self):
         """Bytes that a proof from nothing may take, by its own lines and those of the crates that it loads."""
@@ -249,18 +254,20 @@ class Schedule:
 
     def begin(self, pool):
         """Begins what can begin, the longest chain of crates first: its crate decides when all is done. So it gets copies
-        for all processors whatever else runs, and the others, on as many processors as are left beside one, give way."""
+        for all processors, and the next one begins too, whatever else runs. The others, on as many processors as are left
+        beside one, give way to it."""
         ready = [it for it in self.left if all(dep in self.done for dep in it.below)]
         for place, work in enumerate(ready):
             running = self.running.values()
-            leads = all(work.behind > other.behind for other, _, _ in running)
+            ahead = sum(other.behind >= work.behind for other, _, _ in running)
             idle = self.lanes - 1 - sum(jobs for _, jobs, _ in running)
             room = self.memory - sum(memory for _, _, memory in running)
             need = work.memory()
-            if not (leads or idle > 0) or (self.running and need > room):
+            if running and (self.lanes == 1 or (ahead > 1 and idle <= 0) or need > room):
                 continue
             # (Copies share what was loaded before them and give back what they took: together they need less than one
             # process that keeps everything.)
+            leads = ahead == 0
             jobs = min(MOST_JOBS, self.lanes if leads else max(1, idle // (len(ready) - place)))
             self.left.remove(work)
             self.running[pool.submit(work.do, jobs, leads)] = (work, 0 if leads else jobs, need)
@@ -278,7 +285,7 @@ class Schedule:
 
     def run(self):
         """Gives whether all went well. After a failure nothing more is begun."""
-        with ThreadPoolExecutor(self.lanes) as pool:
+        with ThreadPoolExecutor(self.lanes + 2) as pool:
             while self.running or (self.left and not self.failed):
                 if not self.failed:
                     self.begin(pool)
