@@ -24,21 +24,24 @@ abbrev pub is_elsewhere : Place → Bool
 is_elsewhere places.Elsewhere = true
 is_elsewhere place = false
 
+-- What `whatis`, `use` and `help` answer, by their words: without any, each says another thing.
+abbrev pub AnswersWhatis : (Files → Listings → Type 0) → (Files → Listings → Type 0) → (Text → Bool) → ℕ → Asking → Place
+    → List Text → Command → Reply → Type 0
+AnswersWhatis agrees readable has_failed now asking place [] command reply =
+    DescribesAll readable has_failed now asking place None reply
+AnswersWhatis agrees readable has_failed now asking place (word ∷ words) command reply =
+    ReportsModules agrees asking place command reply
+
+abbrev pub AnswersUse : Asking → Place → List Text → Command → Reply → Type 0
+AnswersUse asking place [] command reply = ReportsDirectories asking place reply
+AnswersUse asking place (word ∷ words) command reply = Edits asking command reply
+
+abbrev pub AnswersHelp : (Files → Listings → Type 0) → Text → Asking → Place → List Text → Reply → Type 0
+AnswersHelp agrees usage asking place [] reply = SaysUsage usage asking place reply
+AnswersHelp agrees usage asking place (word ∷ words) reply = HelpsOn agrees asking place (word ∷ words) reply
+
 module _ (agrees readable : Files → Listings → Type 0) (has_failed : Text → Bool) (before now : ℕ)
     (files_before files_now : Entries → Type 0) (usage version : Text) (asking : Asking) where
-  -- What `whatis`, `use` and `help` answer, by their words: without any, each says another thing.
-  abbrev pub AnswersWhatis : List Text → Destination → Command → Reply → Type 0
-  AnswersWhatis [] to command reply = DescribesAll readable has_failed now asking to.place None reply
-  AnswersWhatis (word ∷ words) to command reply = ReportsModules agrees asking to.place command reply
-
-  abbrev pub AnswersUse : List Text → Destination → Command → Reply → Type 0
-  AnswersUse [] to command reply = ReportsDirectories asking to.place reply
-  AnswersUse (word ∷ words) to command reply = Edits asking command reply
-
-  abbrev pub AnswersHelp : List Text → Destination → Reply → Type 0
-  AnswersHelp [] to reply = SaysUsage usage asking to.place reply
-  AnswersHelp (word ∷ words) to reply = HelpsOn agrees asking to.place (word ∷ words) reply
-
   -- What a command of a subcommand answers whose report goes there.
   abbrev pub AnswersOf : Subcommand → Destination → Command → Reply → Type 0
   AnswersOf subcommands.Load to command reply = MovesModules agrees asking command reply
@@ -51,19 +54,20 @@ module _ (agrees readable : Files → Listings → Type 0) (has_failed : Text �
   AnswersOf subcommands.Avail to command reply =
       ReportsWhatIsThere readable has_failed before now asking to.kind to.place command.1 reply
   AnswersOf subcommands.Show to command reply = ReportsModules agrees asking to.place command reply
-  AnswersOf subcommands.Whatis to command reply = AnswersWhatis command.1 to command reply
+  AnswersOf subcommands.Whatis to command reply =
+      AnswersWhatis agrees readable has_failed now asking to.place command.1 command reply
   AnswersOf subcommands.Keyword to command reply =
       DescribesSought readable has_failed now asking to.place command.1 reply
   AnswersOf subcommands.IsLoaded to command reply = TestsLoaded asking command.1 reply
   AnswersOf subcommands.IsAvail to command reply = TestsAvailable readable has_failed before now asking command.1 reply
-  AnswersOf subcommands.Use to command reply = AnswersUse command.1 to command reply
+  AnswersOf subcommands.Use to command reply = AnswersUse asking to.place command.1 command reply
   AnswersOf subcommands.Unuse to command reply = Edits asking command reply
   AnswersOf subcommands.Save to command reply = SavesModules agrees files_before files_now asking command.1 reply
   AnswersOf subcommands.Restore to command reply = RestoresSaved agrees files_now asking command reply
   AnswersOf subcommands.SaveList to command reply = ListsSaved files_now asking to.place command.1 reply
   AnswersOf subcommands.SaveShow to command reply = ShowsSaved files_now asking to.place command.1 reply
   AnswersOf subcommands.SaveRemove to command reply = RemovesSaved files_before files_now asking command.1 reply
-  AnswersOf subcommands.Help to command reply = AnswersHelp command.1 to reply
+  AnswersOf subcommands.Help to command reply = AnswersHelp agrees usage asking to.place command.1 reply
   AnswersOf subcommands.Version to command reply = SaysVersion version to.place reply
 
   -- What a command answers whose report goes there.

@@ -1,13 +1,15 @@
 -- All names of an unload or a load.
-use Rattle.std.proofs.Common.{◌≡◌, ◌<◌, true, false, List, [], ◌∷◌, length, refl, arith}
+use Rattle.std.proofs.Common.{◌≡◌, ◌<◌, ◌++◌, true, false, List, [], ◌∷◌, Result, Ok, Err, IfOk, length, refl, string_bytes, arith}
 use Rattle.message.specs.Messages.{Text}
 use Rattle.envvars.specs.Environment.{Environment}
+use Rattle.envvars.specs.Texts.{texts_in}
 use Rattle.filetree.specs.Agreement.{Files, Listings, InEachPair}
 use Rattle.shelltext.specs.declared.shell.Shell.{Shell}
 use Rattle.module_words.specs.function.Moved.{Moved}
 use Rattle.module_subcommands.specs.Automated.{LoadStep, LoadsAutomatically, UnloadStep, UnloadsAutomatically}
-use Rattle.module_subcommands.specs.Changes.{IsRefusedChange}
-use Rattle.module_subcommands.specs.Exchanges.{IsBehind, IsWholeLoad, IsWholeLoadBehind, IsWholeUnload, LoadNamesStep, UnloadNamesStep, whole_of}
+use Rattle.module_subcommands.specs.Changes.{IsAccepted, IsRefusedChange}
+use Rattle.module_subcommands.specs.Exchanges.{ExchangesNames, IsBehind, IsWholeLoad, IsWholeLoadBehind, IsWholeUnload, LoadNamesStep, UnloadNamesStep, WholeStep, whole_of}
+use Rattle.module_subcommands.specs.declared.changing.Accepted.{Accepted}
 use Rattle.module_subcommands.specs.declared.changing.Automated.{Automated}
 use Rattle.module_subcommands.specs.declared.exchanging.Whole.{Whole}
 use Rattle.module_subcommands.specs.declared.refusal.Refusal.{Refusal}
@@ -38,3 +40,18 @@ pub load_behind : (agrees : Files → Listings → Type 0) (shell : Shell) (e : 
     → InEachPair agrees (λ files listings. IsBehind shell e unloads files listings behind) → IsWholeLoad agrees shell behind moved w → IsWholeLoadBehind agrees shell e unloads moved w
 load_behind agrees shell e unloads (true, names) w behind is there h = (behind, there, h)
 load_behind agrees shell e unloads (false, names) w behind is there h = absurd (cc)
+
+-- an exchange of all names that two commands come to
+pub exchanges_names : (agrees : Files → Listings → Type 0) (shell : Shell) (e : Environment) (first second : Moved) (unloaded loaded : Whole) (r : Result Accepted Refusal)
+    → IsWholeUnload agrees shell e first unloaded → IsWholeLoadBehind agrees shell e (texts_in unloaded.names) second loaded
+    → IfOk r (IsAccepted agrees shell e (WholeStep shell e (texts_in unloaded.names) (texts_in loaded.names))) → IfOk r (λ a. string_bytes a.said ≡ string_bytes unloaded.said ++ string_bytes loaded.said)
+    → IfOk r (ExchangesNames agrees shell e first second)
+exchanges_names agrees shell e first second unloaded loaded (Ok a) unloads loads accepts said = record {
+  unloaded = unloaded;
+  loaded = loaded;
+  unloads_all = unloads;
+  loads_all = loads;
+  accepts = accepts;
+  said = said;
+}
+exchanges_names agrees shell e first second unloaded loaded (Err refusal) unloads loads accepts said = tt

@@ -103,21 +103,25 @@ IsReply asking unloads loads a hints (replies.Changed c) =
     changed_view c ≡ answer_with a (after_both asking (new_values_in a.changes) unloads loads) hints
 IsReply asking unloads loads a hints other = ⊥
 
--- An exchange: the names of both commands, all names that these come to, and what is made of all at once.
+-- An exchange of names: all names that these come to, and what is made of all at once.
+pub record ExchangesNames (agrees : Files → Listings → Type 0) (shell : Shell) (e : Environment) (first second : Moved)
+    (accepted : Accepted) : Type 0 where
+  pub unloaded : Whole
+  pub loaded : Whole
+  pub unloads_all : IsWholeUnload agrees shell e first unloaded
+  pub loads_all : IsWholeLoadBehind agrees shell e (texts_in unloaded.names) second loaded
+  pub accepts : IsAccepted agrees shell e (WholeStep shell e (texts_in unloaded.names) (texts_in loaded.names)) accepted
+  pub said : string_bytes accepted.said ≡ string_bytes unloaded.said ++ string_bytes loaded.said
+
+-- An exchange: the names of both commands, what is made of them, and what is said behind it.
 pub record Exchanges (agrees : Files → Listings → Type 0) (asking : Asking) (unloads loads : Command) (reply : Reply)
     : Type 0 where
   pub first : Moved
   pub second : Moved
   pub named : moved_names Unload (lookup asking.env) unloads.1 ≡ Ok first
   pub named_too : moved_names Load (lookup asking.env) loads.1 ≡ Ok second
-  pub unloaded : Whole
-  pub loaded : Whole
-  pub unloads_all : IsWholeUnload agrees asking.shell asking.env first unloaded
-  pub loads_all : IsWholeLoadBehind agrees asking.shell asking.env (texts_in unloaded.names) second loaded
   pub accepted : Accepted
-  pub accepts : IsAccepted agrees asking.shell asking.env
-      (WholeStep asking.shell asking.env (texts_in unloaded.names) (texts_in loaded.names)) accepted
-  pub said : string_bytes accepted.said ≡ string_bytes unloaded.said ++ string_bytes loaded.said
+  pub exchanged : ExchangesNames agrees asking.shell asking.env first second accepted
   pub hints : Text
   pub hinted : AreHints asking.shell asking.env first.1 hints
   pub replied : IsReply asking unloads loads accepted hints reply

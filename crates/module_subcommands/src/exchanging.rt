@@ -179,6 +179,24 @@ fn exchanged<T: Tree>(
     })
 }
 
+/// Unloads all names that the first come to, and loads all that the second come to.
+fn exchanged_names<T: Tree>(
+    alloc: Global,
+    asking: &Asking,
+    first: MovedNames<'_>,
+    second: MovedNames<'_>,
+    tree: &mut T,
+) -> Result<Accepted, Refusal<'static>>
+    ensures reads { ReadsOn T.agrees T.failures tree.old tree.new }
+    ensures exchanged { IfOk result (spec.ExchangesNames (T.agrees tree.new) asking.now.shell asking.now.env
+        (moved_view first.entry) (moved_view second.entry)) }
+{
+    let unloaded = whole_unload(alloc, asking, first, tree)?;
+    let names = unloaded.names.as_slice();
+    let loaded = whole_load_behind(alloc, asking, names, second, tree)?;
+    exchanged(alloc, asking, unloaded, loaded, tree)
+}
+
 /// What is said of names, by the status of whether one of them is loaded.
 fn hints_by(alloc: Global, env: &Env, status: u8, names: &[String]) -> Result<String, AllocError>
     ensures { IfOk result (λ lines. string_bytes lines
@@ -217,13 +235,9 @@ pub fn exchange_modules<'a, T: Tree>(
         (command_view unloads.entry.now) (command_view loads.entry.now)) }
 {
     let env = &asking.env;
-    let (unloaded_words, loaded_words) = (unloads.words.as_slice(), loads.words.as_slice());
-    let first = moved_names(Subcommand::Unload, env, unloaded_words)?;
-    let second = moved_names(Subcommand::Load, env, loaded_words)?;
-    let unloaded = whole_unload(alloc, asking, first, tree)?;
-    let names = unloaded.names.as_slice();
-    let loaded = whole_load_behind(alloc, asking, names, second, tree)?;
-    let accepted = exchanged(alloc, asking, unloaded, loaded, tree)?;
+    let first = moved_names(Subcommand::Unload, env, unloads.words.as_slice())?;
+    let second = moved_names(Subcommand::Load, env, loads.words.as_slice())?;
+    let accepted = exchanged_names(alloc, asking, first, second, tree)?;
     let hints = hints_behind(alloc, asking, first.names)?;
     let changes = accepted.changes.as_slice();
     let after = after_both(alloc, asking, changes, unloads, loads)?;
